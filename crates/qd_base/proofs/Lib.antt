@@ -1,0 +1,5 @@
+pub mod Lists
+pub mod Order
+pub mod Keys
+pub mod Tables
+pub mod Lawful

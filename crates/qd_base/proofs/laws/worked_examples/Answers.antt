@@ -1,0 +1,5 @@
+use Rattle.std.proofs.Common.{refl}
+use Rattle.qd_base.proofs.laws.worked_examples.Goals as goal
+
+pub returns : goal.returns
+returns c = record { law = record { late = refl; equal_times = refl; keys = refl; any_case = refl; added = refl } }

@@ -1,0 +1,9 @@
+pub mod Names
+pub mod Rows
+pub mod Schemas
+pub mod Database
+pub mod Replay
+pub mod Lawful
+pub mod Laws
+pub mod Examples
+pub mod Script

@@ -1,0 +1,37 @@
+//! Plain data of the database, and what it means: tables, rows, transactions and their replay.
+//!
+//! The definitions stand in `specs/`: `Rows` (a row's time and keys, `put`), `Names`, `Schemas`,
+//! `Database` (tables and `step`), `Replay` (`after`, `first`), `Lawful`, `Laws` and `Script` (what a front reads).
+#![tactic(auto)]
+
+mod cell;
+mod front;
+mod laws;
+mod limits;
+mod names;
+mod op;
+mod part;
+mod request;
+mod schema;
+mod schemas;
+mod seq;
+#[cfg(test)]
+mod tests;
+mod txt;
+
+pub use cell::{Cell, Row, RowList};
+pub use front::Front;
+pub use laws::{
+    cells_are_compared, equal_times_keep_order, keys_are_unique, last_of_equal_keys_stays,
+    lawful_rows, lawful_schemas, prefix_stands_alone, replay_of_more, rows_stay_in_order,
+    schemas_follow, worked_examples,
+};
+pub use limits::{Limits, MAX_QUERY_BYTES, MAX_TIME, MAX_WRITE_BYTES};
+pub use names::{column_name_ok, same_name, table_name_ok};
+pub use op::{Entry, Op, OpList};
+pub use part::{Part, PartList, RefList, WalRef};
+pub use request::{Reply, Request, Step, Table};
+pub use schema::{Col, ColList, ColType, KeyList, PartUnit, Schema};
+pub use schemas::Schemas;
+pub use seq::{Duplicate, Memory, Seq};
+pub use txt::Txt;

@@ -1,0 +1,132 @@
+//! The schemas of all tables.
+ghost use Rattle.std.specs.Prelude.{◌≡◌, ◌<◌, ◌==◌, [], length, Some, IsSome, IsSomeAnd, IsNone, IsTrue, ◌↔◌, OnOk, OnErr, IfOk, slice_get};
+
+use crate::names::same_name;
+use crate::op::Op;
+use crate::schema::{Col, Schema};
+use crate::seq::{Duplicate, Memory};
+use std::alloc::Global;
+use std::marker::Model;
+
+/// The schemas of all tables, in order of creation. Contracts see that list.
+#[derive(Debug, Drop)]
+pub struct Schemas {
+    list: Vec<Schema>,
+}
+
+impl Model for Schemas {
+    ghost use Rattle.std.specs.Prelude.{List};
+    ghost use Rattle.qd_base.specs.declared.schema.Schema.{Schema};
+
+    ghost Value = { List Schema };
+
+    ghost view = { λ s. s.list.items };
+}
+
+impl Schemas {
+    ghost use Rattle.qd_base.specs.Schemas.{table_at, column_at, schema_of, schemas_step, at_name, with_column, Fits};
+
+    /// Makes the empty list.
+    pub fn new(alloc: Global) -> Schemas
+        ensures empty { result ≡ [] }
+    {
+        Schemas {
+            list: Vec::new(alloc),
+        }
+    }
+
+    /// Gives the number of tables.
+    pub fn len(&self) -> usize
+        ensures count { result ≡ length self.now }
+    {
+        self.list.len()
+    }
+
+    /// Says whether there is no table.
+    pub fn is_empty(&self) -> bool
+        ensures empty { result ≡ (length self.now == 0) }
+    {
+        self.list.is_empty()
+    }
+
+    /// Lends the schema of the table at position `i`, in order of creation.
+    pub fn get(&self, i: usize) -> &Schema
+        requires { i < length self.now }
+        ensures item { slice_get self.now i ≡ Some result.now }
+    {
+        &self.list[i]
+    }
+
+    /// Gives the position of the table of a name, where there is one. ASCII case is ignored. It costs time linear in
+    /// the number of tables.
+    pub fn find(&self, name: &[u8]) -> Option<usize>
+        ensures position { result ≡ table_at self.now name.now }
+    {
+        self.list
+            .iter()
+            .position(|schema| same_name(schema.name.bytes(), name))
+    }
+
+    /// Says whether an operation fits: whether it makes a table of a new name, adds a column of a new name to a table
+    /// that is there, or inserts into a table that is there. It costs time linear in the number of tables, and of the
+    /// table's columns.
+    pub fn fits(&self, op: &Op) -> bool
+        ensures fits { IsTrue result ↔ Fits self.now op.now }
+    {
+        match op {
+            Op::Create { schema } => self.find(schema.name.bytes()).is_none(),
+            Op::AddColumn { table, col } => self.lacks_column(table.bytes(), col.name.bytes()),
+            Op::Insert { table, .. } => self.find(table.bytes()).is_some(),
+        }
+    }
+
+    /// Whether the table is there, and has no column of this name.
+    fn lacks_column(&self, table: &[u8], column: &[u8]) -> bool
+        ensures lacks { IsTrue result ↔ IsSomeAnd (schema_of self.now table.now)
+            (λ s. IsNone (column_at s.cols column.now)) }
+    {
+        match self.find(table) {
+            Some(i) => self.list[i].find_column(column).is_none(),
+            None => false,
+        }
+    }
+
+    /// Changes the schemas as the operation says; an insertion changes none. Where no memory is found, nothing is
+    /// changed. It costs time linear in the number of tables and in the size of what is added.
+    pub fn apply(&mut self, op: &Op) -> Result<(), Memory>
+        requires { Fits self.old op.now }
+        ensures ok { OnOk result (self.new ≡ schemas_step self.old op.now) }
+        ensures err { OnErr result (self.new ≡ self.old) }
+    {
+        match op {
+            Op::Create { schema } => {
+                self.list.push(schema.copy()?)?;
+                Ok(())
+            }
+            Op::AddColumn { table, col } => self.add_column(table.bytes(), col),
+            Op::Insert { .. } => Ok(()),
+        }
+    }
+
+    fn add_column(&mut self, table: &[u8], col: &Col) -> Result<(), Memory>
+        requires { IsSome (table_at self.old table.now) }
+        ensures ok { OnOk result (self.new ≡ at_name (λ s. s.name) (with_column col.now) table.now self.old) }
+        ensures err { OnErr result (self.new ≡ self.old) }
+    {
+        let col = col.copy()?;
+        match self.find(table) {
+            Some(i) => self.list[i].cols.push(col),
+            None => Ok(()),
+        }
+    }
+}
+
+impl Duplicate for Schemas {
+    fn copy(&self) -> Result<Schemas, Memory> {
+        let mut list = Vec::with_capacity(*self.list.allocator(), self.list.len())?;
+        for schema in &self.list {
+            list.push(schema.copy()?)?;
+        }
+        Ok(Schemas { list })
+    }
+}

@@ -1,0 +1,208 @@
+//! Tests of what no clause says: that calls succeed where memory is found, and that names are judged as they are
+//! meant to be.
+use crate::cell::{Cell, Row, RowList};
+use crate::names::{column_name_ok, same_name, table_name_ok};
+use crate::op::{Entry, Op, OpList};
+use crate::part::{Part, PartList, RefList, WalRef};
+use crate::request::Table;
+use crate::schema::{Col, ColList, ColType, KeyList, PartUnit, Schema};
+use crate::schemas::Schemas;
+use crate::seq::{Duplicate, Memory, Seq};
+use crate::txt::Txt;
+use std::alloc::Global;
+use std::process::Abort;
+use std::test::Fail;
+
+#[test]
+fn names_are_judged(rt: HostRuntime) {
+    let long = [b'a'; 128];
+    let cases: [(&[u8], bool, bool); 17] = [
+        (b"a", true, true),
+        (b"Stra\xc3\x9fe 1", true, true),
+        (&long[..127], true, true),
+        (&long, false, false),
+        (b"", false, false),
+        (b"a-b", true, false),
+        (b"a.b", true, false),
+        (b".a", false, false),
+        (b"a.", false, false),
+        (b"a..b", false, false),
+        (b".", false, false),
+        (b"a\tb", false, false),
+        (b"a\x7f", false, false),
+        (b"\xff", false, false),
+        (b"\xc3", false, false),
+        (b"a?b", false, false),
+        (b"a~", false, false),
+    ];
+    for (name, table, column) in cases {
+        assert_eq!(rt; table_name_ok(name), table);
+        assert_eq!(rt; column_name_ok(name), column);
+    }
+    assert!(rt; same_name(b"Trades", b"tRADES"));
+    assert!(rt; !same_name(b"trades", b"trade"));
+    assert!(rt; !same_name(b"\xc3\xa4", b"\xc3\x84"));
+}
+
+#[test]
+fn lists_hold_what_they_are_given(rt: HostRuntime) -> Result<(), Fail> {
+    let alloc = rt.alloc();
+    let text = Txt::from_bytes(alloc, b"time")?;
+    assert_eq!(rt; text.bytes(), b"time".as_slice());
+    assert_eq!(rt; text.copy()?.bytes(), b"time".as_slice());
+    let mut keys: KeyList = Seq::new(alloc);
+    keys.push(7)?;
+    keys.push(9)?;
+    keys.insert(1, 8)?;
+    keys.insert(0, 6)?;
+    assert_eq!(rt; keys.as_slice(), [6, 7, 8, 9].as_slice());
+    assert_eq!(rt; keys.copy()?.as_slice(), [6, 7, 8, 9].as_slice());
+    Ok(())
+}
+
+fn col(alloc: Global, name: &[u8], kind: ColType) -> Result<Col, Memory> {
+    Ok(Col {
+        name: Txt::from_bytes(alloc, name)?,
+        kind,
+    })
+}
+
+fn cols(alloc: Global) -> Result<ColList, Memory> {
+    let mut cols = ColList::new(alloc);
+    cols.push(col(alloc, b"ts", ColType::Time)?)?;
+    cols.push(col(alloc, b"v", ColType::Long)?)?;
+    Ok(cols)
+}
+
+fn readings(alloc: Global, name: &[u8]) -> Result<Op, Memory> {
+    let mut keys = KeyList::new(alloc);
+    keys.push(0)?;
+    let schema = Schema {
+        name: Txt::from_bytes(alloc, name)?,
+        cols: cols(alloc)?,
+        time_col: 0,
+        unit: PartUnit::Day,
+        keys,
+    };
+    Ok(Op::Create { schema })
+}
+
+fn row(alloc: Global) -> Result<Row, Memory> {
+    let mut row = Row::new(alloc);
+    row.push(Cell::Time(5))?;
+    row.push(Cell::Long(-1))?;
+    row.push(Cell::Bool(true))?;
+    row.push(Cell::Text(Txt::from_bytes(alloc, b"x")?))?;
+    row.push(Cell::Null)?;
+    Ok(row)
+}
+
+fn rows(alloc: Global) -> Result<RowList, Memory> {
+    let mut rows = RowList::new(alloc);
+    rows.push(row(alloc)?)?;
+    rows.push(Row::new(alloc))?;
+    Ok(rows)
+}
+
+fn add_note(alloc: Global, table: &[u8]) -> Result<Op, Memory> {
+    Ok(Op::AddColumn {
+        table: Txt::from_bytes(alloc, table)?,
+        col: col(alloc, b"note", ColType::Varchar)?,
+    })
+}
+
+fn insert(alloc: Global, table: &[u8]) -> Result<Op, Memory> {
+    Ok(Op::Insert {
+        table: Txt::from_bytes(alloc, table)?,
+        rows: rows(alloc)?,
+    })
+}
+
+fn entry(alloc: Global) -> Result<Entry, Memory> {
+    let mut ops = OpList::new(alloc);
+    ops.push(readings(alloc, b"a")?)?;
+    ops.push(add_note(alloc, b"a")?)?;
+    ops.push(insert(alloc, b"a")?)?;
+    Ok(Entry { ops })
+}
+
+fn shown(alloc: Global, entry: &Entry) -> Result<String, Memory> {
+    format!(in alloc; "{entry:?}")
+}
+
+#[test]
+fn transactions_are_copied(rt: HostRuntime) -> Result<(), Fail> {
+    let entry = entry(rt.alloc())?;
+    let copy = entry.copy()?;
+    let text = shown(rt.alloc(), &entry)?;
+    let same = shown(rt.alloc(), &copy)?;
+    assert_eq!(rt; text.as_str(), same.as_str());
+    Ok(())
+}
+
+#[test]
+fn results_are_copied(rt: HostRuntime) -> Result<(), Fail> {
+    let table = Table {
+        cols: cols(rt.alloc())?,
+        rows: rows(rt.alloc())?,
+    };
+    let copy = table.copy()?;
+    assert_eq!(rt; copy.cols.len(), 2);
+    assert_eq!(rt; copy.rows.len(), 2);
+    assert_eq!(rt; copy.rows.get(0).len(), 5);
+    Ok(())
+}
+
+#[test]
+fn places_are_copied(rt: HostRuntime) -> Result<(), Fail> {
+    let place = WalRef {
+        wal: 1,
+        segment: 2,
+        start: 3,
+        len: 4,
+    };
+    let mut places = RefList::new(rt.alloc());
+    places.push(place)?;
+    assert_eq!(rt; places.copy()?.as_slice(), [place].as_slice());
+    Ok(())
+}
+
+#[test]
+fn parts_are_copied(rt: HostRuntime) -> Result<(), Fail> {
+    let part = Part {
+        block: 1,
+        rows: 2,
+        cols: 3,
+        lo: 4,
+        hi: 5,
+    };
+    let mut parts = PartList::new(rt.alloc());
+    parts.push(part)?;
+    assert_eq!(rt; parts.copy()?.as_slice(), [part].as_slice());
+    Ok(())
+}
+
+/// Applies an operation that has to fit before, and doesn't afterwards, but for an insertion.
+fn change(rt: &impl Abort, schemas: &mut Schemas, op: Op) -> Result<(), Memory> {
+    assert!(rt; schemas.fits(&op));
+    schemas.apply(&op)?;
+    assert_eq!(rt; schemas.fits(&op), matches!(op, Op::Insert { .. }));
+    Ok(())
+}
+
+#[test]
+fn schemas_change(rt: HostRuntime) -> Result<(), Fail> {
+    let alloc = rt.alloc();
+    let mut schemas = Schemas::new(alloc);
+    change(&rt, &mut schemas, readings(alloc, b"trades")?)?;
+    change(&rt, &mut schemas, readings(alloc, b"prices")?)?;
+    change(&rt, &mut schemas, add_note(alloc, b"TRADES")?)?;
+    change(&rt, &mut schemas, insert(alloc, b"Prices")?)?;
+    let copy = schemas.copy()?;
+    assert_eq!(rt; copy.len(), 2);
+    assert_eq!(rt; copy.find(b"Prices"), Some(1));
+    assert_eq!(rt; copy.find(b"none"), None);
+    assert_eq!(rt; copy.get(0).find_column(b"NOTE"), Some(2));
+    assert_eq!(rt; copy.get(1).find_column(b"note"), None);
+    Ok(())
+}

@@ -1,0 +1,43 @@
+-- What a read and a write do to the two ends of a stream of bytes, and when a count of failures has risen.
+--
+-- The rules are those of POSIX read() and write() (The Open Group Base Specifications, System Interfaces): a
+-- read gives at most as many bytes as its buffer has room for, and 0 only at the end of the input; a write
+-- takes a prefix of the bytes that it is given, and says how many.
+use Rattle.std.specs.Prelude.{◌≡◌, ℕ, ◌<◌, ◌≤◌, ◌⊎◌, List, [], ◌++◌, length, take, drop}
+use Rattle.std.specs.Prelude.{Option, None, Some, Result, Ok, Err}
+
+-- the greatest number that a count of failures can show; there it stands still
+abbrev pub last_count : ℕ
+last_count = 18446744073709551615
+
+-- the count is greater now than it was before, or it stands at its greatest number
+abbrev pub Rose : ℕ → ℕ → Type 0
+Rose before now = (before < now) ⊎ (last_count ≤ now)
+
+-- a read of n of the bytes
+pub record TakesFront (bytes : List ℕ) (now : Option (List ℕ)) (buffer : List ℕ) (n : ℕ) : Type 0 where
+  pub within : n ≤ length bytes
+  -- they stand at the front of the buffer
+  pub given : take n buffer ≡ take n bytes
+  -- and are gone from the input
+  pub rest : now ≡ Some (drop n bytes)
+  -- there are none only at the end of the input, or where the buffer has no room
+  pub at_end : n ≡ 0 → 0 < length buffer → bytes ≡ []
+
+-- a read of an input that tells its bytes: it takes some from the front, or none where it fails
+abbrev pub Reads : {E : Type 0} → Option (List ℕ) → Option (List ℕ) → List ℕ → Result ℕ E → Type 0
+Reads None now buffer result = Unit {0}
+Reads (Some bytes) now buffer (Ok n) = TakesFront bytes now buffer n
+Reads (Some bytes) now buffer (Err fault) = now ≡ Some bytes
+
+-- a write to a told output: the first n of the bytes stand behind what was there; a write that fails adds none
+abbrev pub Writes : {E : Type 0} → Option (List ℕ) → Option (List ℕ) → List ℕ → Result ℕ E → Type 0
+Writes None now bytes result = Unit {0}
+Writes (Some before) now bytes (Ok n) = now ≡ Some (before ++ take n bytes)
+Writes (Some before) now bytes (Err fault) = now ≡ Some before
+
+-- all of the bytes are written to a told output; after a fault a prefix of them is
+abbrev pub WritesAll : {T E : Type 0} → Option (List ℕ) → Option (List ℕ) → List ℕ → Result T E → Type 0
+WritesAll None now bytes result = Unit {0}
+WritesAll (Some before) now bytes (Ok done) = now ≡ Some (before ++ bytes)
+WritesAll (Some before) now bytes (Err fault) = (n : ℕ) × (n ≤ length bytes) × (now ≡ Some (before ++ take n bytes))

@@ -1,0 +1,7 @@
+// Ends over memory, which tell all that they hold and fail where they are told to.
+mod plan;
+mod sink;
+mod source;
+
+pub use sink::MemSink;
+pub use source::MemSource;

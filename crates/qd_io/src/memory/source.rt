@@ -1,0 +1,96 @@
+// A source over memory.
+ghost use Rattle.std.specs.Prelude.{◌≡◌, ◌≤◌, length, IfOk, IsErrOf};
+ghost use Rattle.qd_io.specs.Ends.{Reads, Rose};
+ghost use Rattle.qd_io.specs.Memory.{MemReads};
+
+use super::plan::Schedule;
+use crate::Memory;
+use crate::fault::IoFault;
+use crate::traits::{Ends, Source};
+use std::alloc::Global;
+use std::marker::Model;
+
+/// A source over bytes in memory, for tests: it gives them a piece at a time, tells what it has left, and
+/// fails at the reads that it was made to fail at.
+#[derive(Drop)]
+pub struct MemSource {
+    bytes: Vec<u8>,
+    at: usize,
+    schedule: Schedule,
+}
+
+impl Model for MemSource {
+    ghost use Rattle.std.specs.Prelude.{◌≤◌, drop, vec_len};
+    ghost use Rattle.qd_io.specs.Memory.{Unread};
+
+    ghost Value = { Unread };
+
+    ghost view = { λ s. record { left = drop s.at s.bytes.items; plan = s.schedule } };
+
+    ghost invariant = { λ s. (s.at ≤ vec_len s.bytes) × (1 ≤ s.schedule.piece) };
+}
+
+impl MemSource {
+    /// A source that gives `bytes`, at most `piece` of them a read, and answers [`IoFault::Failed`] at the
+    /// reads whose numbers, counted from 0, are in `fails`.
+    ///
+    /// It copies both slices, and answers [`Memory`] where there is no room for them.
+    pub fn new(
+        alloc: Global,
+        bytes: &[u8],
+        piece: usize,
+        fails: &[u64],
+    ) -> Result<MemSource, Memory>
+        requires { 1 ≤ piece }
+        ensures left { IfOk result (λ source. source.left ≡ bytes.now) }
+        ensures plan { IfOk result (λ source. source.plan ≡ record { piece = piece; calls = 0; fails = fails.now; failed = 0 }) }
+    {
+        let bytes = Vec::from_slice(alloc, bytes)?;
+        let schedule = Schedule::new(alloc, piece, fails)?;
+        Ok(MemSource {
+            bytes,
+            at: 0,
+            schedule,
+        })
+    }
+}
+
+impl Ends for MemSource {
+    ghost use Rattle.std.specs.Prelude.{Some, None, []};
+
+    ghost input = { λ source. Some source.left };
+
+    ghost output = { λ _. None };
+
+    ghost reads_failed = { λ source. source.plan.failed };
+
+    ghost writes_failed = { λ _. 0 };
+
+    ghost input_lent = { λ _. [] };
+
+    ghost output_lent = { λ _. [] };
+}
+
+impl Source for MemSource {
+    /// Gives as many of the bytes left as a piece has and `buf` has room for, or fails where this read's
+    /// number is among those that do. The number and the count of failures stand still at the greatest
+    /// `u64`. It takes time in the bytes given and in the number of failing reads.
+    fn read(&mut self, buf: &mut [u8]) -> Result<usize, IoFault>
+        ensures exact { MemReads self.old self.new buf.old buf.new result }
+        ensures within { IfOk result (λ n. n ≤ length buf.old) }
+        ensures told { Reads (Some self.old.left) (Some self.new.left) buf.new result }
+        ensures failed { IsErrOf result IoFault.Failed → Rose self.old.plan.failed self.new.plan.failed }
+        ensures never_falls { self.old.plan.failed ≤ self.new.plan.failed }
+    {
+        if self.schedule.fails_now() {
+            self.schedule.fail();
+            return Err(IoFault::Failed);
+        }
+        let left = self.bytes.len() - self.at;
+        let n = self.schedule.piece().min(buf.len()).min(left);
+        buf[..n].copy_from_slice(&self.bytes[self.at..self.at + n]);
+        self.at += n;
+        self.schedule.pass();
+        Ok(n)
+    }
+}

@@ -1,0 +1,12 @@
+pub mod BucketFacts
+pub mod CivilFacts
+pub mod DateFacts
+pub mod DateOrder
+pub mod DigitFacts
+pub mod IntervalFacts
+pub mod MonthFacts
+pub mod ParseFacts
+pub mod ReadingFacts
+pub mod StartFacts
+pub mod SuffixFacts
+pub mod UnitFacts

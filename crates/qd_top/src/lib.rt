@@ -1,0 +1,11 @@
+//! The top call of the program: it reads the words, serves the input, and gives the status.
+//!
+//! `specs/Run` says what each status means.
+#![tactic(auto)]
+
+mod program;
+mod status;
+#[cfg(test)]
+mod tests;
+
+pub use program::top;

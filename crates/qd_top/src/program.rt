@@ -77,11 +77,11 @@ fn run<S: Source, K: Sink>(alloc: Global, input: &mut S, output: &mut K) -> Stat
 ///
 /// | Status | Comes |
 /// |---|---|
-/// | 0 | the input was read to its end, or to `X` |
-/// | 1 | exactly for words other than `run`; no input is read |
-/// | 2 | exactly where bytes are no frame, or the input ends inside one |
+/// | 0 | only for `run`, where the input was read to its end or to `X` |
+/// | 1 | for all other words, and only for them; no input is read |
+/// | 2 | only where bytes are no frame, or the input ends inside one; status 0 never comes there |
 /// | 3, 4 | only where a read, a write failed |
-/// | 7 | where no memory was found outside a request |
+/// | 7 | where no memory was found outside a request; it may come before any other |
 pub fn top<R, S: Source, K: Sink, H: Host>(
     _rt: &R,
     alloc: Global,

@@ -1,7 +1,9 @@
 //! Tests of the frame grammar: worked inputs and what they spell.
 ghost use Rattle.std.specs.Prelude.{◌≡◌, ◌+◌, ◌^◌, ◌<◌, ◌≤◌, length, OnOk};
 
-use super::*;
+use crate::FrameFront;
+use qd_base::{Front, Memory, Reply, Step, Txt};
+use std::alloc::Global;
 use qd_base::Request;
 use std::test::Fail;
 

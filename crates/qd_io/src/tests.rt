@@ -10,12 +10,12 @@ use std::test::Fail;
 
 /// Reads once and answers with `reply`, through any object that is both ends.
 fn answer<W: Source + Sink>(wire: &mut W, reply: &[u8]) -> Result<(), IoFault>
-    ensures wrote { WritesAll (W.Source.output wire.old) (W.Source.output wire.new) reply.now result }
-    ensures took { IfSome (W.Source.input wire.old) (λ bytes. (n : ℕ) × (n ≤ length bytes) × (W.Source.input wire.new ≡ Some (drop n bytes))) }
-    ensures reads_counted { W.Source.reads_failed wire.old ≤ W.Source.reads_failed wire.new }
-    ensures writes_counted { W.Source.writes_failed wire.old ≤ W.Source.writes_failed wire.new }
-    ensures input_lent_stays { W.Source.input_lent wire.new ≡ W.Source.input_lent wire.old }
-    ensures output_lent_stays { W.Source.output_lent wire.new ≡ W.Source.output_lent wire.old }
+    ensures wrote { WritesAll ((W.Source.stream wire.old).output) ((W.Source.stream wire.new).output) reply.now result }
+    ensures took { IfSome ((W.Source.stream wire.old).input) (λ bytes. (n : ℕ) × (n ≤ length bytes) × ((W.Source.stream wire.new).input ≡ Some (drop n bytes))) }
+    ensures reads_counted { (W.Source.stream wire.old).reads_failed ≤ (W.Source.stream wire.new).reads_failed }
+    ensures writes_counted { (W.Source.stream wire.old).writes_failed ≤ (W.Source.stream wire.new).writes_failed }
+    ensures input_lent_stays { (W.Source.stream wire.new).input_lent ≡ (W.Source.stream wire.old).input_lent }
+    ensures output_lent_stays { (W.Source.stream wire.new).output_lent ≡ (W.Source.stream wire.old).output_lent }
 {
     let mut piece = [0; 4];
     let _n = wire.read(&mut piece)?;
@@ -29,10 +29,10 @@ fn answer_lent<S: Source, K: Sink>(
     sink: &mut K,
     reply: &[u8],
 ) -> Result<(), IoFault>
-    ensures wrote { WritesAll (K.output sink.old) (K.output sink.new) reply.now result }
-    ensures took { IfSome (S.input source.old) (λ bytes. (n : ℕ) × (n ≤ length bytes) × (S.input source.new ≡ Some (drop n bytes))) }
-    ensures reads_counted { S.reads_failed source.old ≤ S.reads_failed source.new }
-    ensures writes_counted { K.writes_failed sink.old ≤ K.writes_failed sink.new }
+    ensures wrote { WritesAll ((K.stream sink.old).output) ((K.stream sink.new).output) reply.now result }
+    ensures took { IfSome ((S.stream source.old).input) (λ bytes. (n : ℕ) × (n ≤ length bytes) × ((S.stream source.new).input ≡ Some (drop n bytes))) }
+    ensures reads_counted { (S.stream source.old).reads_failed ≤ (S.stream source.new).reads_failed }
+    ensures writes_counted { (K.stream sink.old).writes_failed ≤ (K.stream sink.new).writes_failed }
 {
     answer(&mut Both::new(source, sink), reply)
 }
@@ -144,6 +144,36 @@ fn ends_over_std(rt: HostRuntime) -> Result<(), Fail> {
     assert_eq!(rt; write_all(&mut sink, b"abc"), Ok(()));
     drop(sink);
     assert_eq!(rt; bytes.as_slice(), b"abc".as_slice());
+    Ok(())
+}
+
+/// A device of std that is full: it takes nothing, ever.
+#[derive(Drop)]
+struct Full;
+
+impl Write for Full {
+    fn write(&mut self, _buf: &[u8]) -> io::Result<usize> {
+        Ok(0)
+    }
+
+    fn flush(&mut self) -> io::Result<()> {
+        Ok(())
+    }
+}
+
+#[test]
+fn a_device_that_takes_nothing_fails(rt: HostRuntime) -> Result<(), Fail> {
+    let mut sink = StdSink::new(Full);
+    assert_eq!(rt; sink.write(b""), Ok(0));
+    assert_eq!(rt; sink.write(b"ab"), Err(IoFault::Failed));
+    assert_eq!(rt; write_all(&mut sink, b"ab"), Err(IoFault::Failed));
+    let large = vec![in rt.alloc(); b'x'; 65_536]?;
+    assert_eq!(rt; write_all(&mut sink, &large), Err(IoFault::Failed));
+    let mut taken = Vec::new(rt.alloc());
+    let mut sink = StdSink::new(&mut taken);
+    assert_eq!(rt; write_all(&mut sink, &large), Ok(()));
+    drop(sink);
+    assert_eq!(rt; taken.len(), 65_536);
     Ok(())
 }
 

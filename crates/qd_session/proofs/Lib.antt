@@ -9,5 +9,6 @@ pub mod ProgressLemmas
 pub mod RuleLemmas
 pub mod RunLemmas
 pub mod SortLemmas
+pub mod TrialLemmas
 pub mod TurnLemmas
 pub mod WireLemmas

@@ -8,3 +8,4 @@ pub mod Looks
 pub mod Session
 pub mod Sorting
 pub mod Turns
+pub mod Trials

@@ -7,6 +7,8 @@ mod backend;
 mod ended;
 mod list;
 mod session;
+#[cfg(test)]
+mod tests;
 
 pub use backend::Backend;
 pub use ended::Ended;

@@ -47,11 +47,7 @@ impl MemSource {
     {
         let bytes = Vec::from_slice(alloc, bytes)?;
         let plan = FailurePlan::new(alloc, piece, fails)?;
-        Ok(MemSource {
-            bytes,
-            at: 0,
-            plan,
-        })
+        Ok(MemSource { bytes, at: 0, plan })
     }
 }
 

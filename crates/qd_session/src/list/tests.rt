@@ -72,6 +72,20 @@ fn late_batches_come_into_order(rt: HostRuntime) -> Result<(), Fail> {
         (4, 30_000_000),
     ];
     assert!(rt; shows(&reply, 3, &expected));
+    let fourth = written(&mut back, alloc, b"t v=0i 5000000000\nt v=9i 30000000000\n")?;
+    let applied = back.apply(alloc)?;
+    let reply = asked(&mut back, alloc, b't')?;
+    assert_eq!(rt; number(&fourth), Some(4));
+    assert_eq!(rt; number(&applied), Some(4));
+    let expected = [
+        (0, 5_000_000),
+        (1, 10_000_000),
+        (2, 20_000_000),
+        (3, 30_000_000),
+        (4, 30_000_000),
+        (9, 30_000_000),
+    ];
+    assert!(rt; shows(&reply, 4, &expected));
     Ok(())
 }
 

@@ -5,7 +5,7 @@ use Rattle.qd_time.specs.Calendar.{Civil, second_micros, minute_micros, hour_mic
 use Rattle.std.specs.Prelude.{Result, Ok, Err}
 use Rattle.qd_time.specs.Fields.{civil_fields, TimestampOf}
 use Rattle.qd_time.specs.Units.{end_of}
-use Rattle.qd_time.specs.declared.TheConstants.{MAX_TIME}
+use Rattle.qd_base.specs.declared.limits.TheConstants.{MAX_TIME}
 use Rattle.qd_time.specs.declared.fault.TimeFault.{TimeFault}
 use Rattle.qd_time.specs.declared.fault.TimeFault.TheVariants.{Form, Range}
 use Rattle.qd_time.specs.declared.reading.Reading.{Reading}

@@ -1,10 +1,11 @@
 -- Which text spells which moment: the forms of ISO 8601's extended format, from a year to a
 -- microsecond, as QuestDB's documentation on timestamps and intervals has them.
-use Rattle.std.specs.Prelude.{◌≡◌, ⊤, ℕ, ◌+◌, ◌-◌, ◌*◌, ◌<◌, ◌≤◌, ◌⊎◌, min, List, [], ◌∷◌, ◌++◌, length, fold}
+use Rattle.std.specs.Prelude.{◌≡◌, ⊤, ℕ, ◌+◌, ◌-◌, ◌*◌, ◌<◌, ◌≤◌, ◌⊎◌, min, List, [], ◌∷◌, ◌++◌}
+use Rattle.std.specs.Str.Parse.{IsNumeral, digits_value}
 use Rattle.qd_time.specs.Calendar.{Civil, civil_of, month_days, second_micros, minute_micros, hour_micros, day_micros}
 use Rattle.qd_time.specs.Printed.{text_to}
 use Rattle.qd_time.specs.Units.{start_of, end_of}
-use Rattle.qd_time.specs.declared.TheConstants.{MAX_TIME}
+use Rattle.qd_base.specs.declared.limits.TheConstants.{MAX_TIME}
 use Rattle.qd_time.specs.declared.units.Unit.{Unit}
 use Rattle.qd_time.specs.declared.units.Unit.TheVariants.{Micro, Milli, Second, Minute, Hour, Day, Month, Year}
 
@@ -92,25 +93,17 @@ abbrev pub suffix_text : Suffix → List ℕ
 suffix_text none = []
 suffix_text (later number span) = 59 ∷ number ++ (letter span ∷ [])
 
-abbrev pub AreDigits : List ℕ → Type 0
-AreDigits [] = ⊤
-AreDigits (b ∷ bs) = (48 ≤ b) × (b ≤ 57) × AreDigits bs
-
 abbrev pub IsSuffix : Suffix → Type 0
 IsSuffix none = ⊤
-IsSuffix (later number span) = (1 ≤ length number) × AreDigits number
-
--- the value of decimal digits
-abbrev pub number_of : List ℕ → ℕ
-number_of number = fold (λ n b. 10 * n + (b - 48)) 0 number
+IsSuffix (later number span) = IsNumeral 10 number
 
 abbrev pub suffix_count : Suffix → ℕ
 suffix_count none = 0
-suffix_count (later number span) = number_of number
+suffix_count (later number span) = digits_value 10 number
 
 abbrev pub suffix_micros : Suffix → ℕ
 suffix_micros none = 0
-suffix_micros (later number span) = number_of number * span_micros span
+suffix_micros (later number span) = digits_value 10 number * span_micros span
 
 -- the text spells the interval from the first to the last microsecond of the unit that it names,
 -- moved later by its suffix, to the last timestamp at most

@@ -4,12 +4,12 @@ ghost use Rattle.qd_time.specs.Printed.{time_text};
 ghost use Rattle.qd_time.specs.Reading.{Answers, AnswersInterval, interval_of, year_at};
 ghost use Rattle.qd_time.specs.Spelled.{SpellsTime, SpellsEarly, IsNoTime, SpellsInterval, SpellsOutside, IsNoInterval};
 
-use crate::MAX_TIME;
 use crate::calendar::DAY;
 use crate::fault::TimeFault;
 use crate::reading::{Reading, read_year};
 use crate::suffix::{MAX_COUNT, read_suffix};
 use crate::units::Unit;
+use qd_base::MAX_TIME;
 
 /// The first moment that the text names, in microseconds since 1970-01-01T00:00:00Z.
 ///

@@ -2,8 +2,8 @@
 ghost use Rattle.std.specs.Prelude.{◌≡◌, ◌+◌, ◌%◌, ◌≤◌, ◌<◌, ◌^◌};
 ghost use Rattle.qd_time.specs.Printed.{digits, time_text};
 
-use crate::MAX_TIME;
 use crate::calendar::{DAY, HOUR, MINUTE, SECOND, date_of_day};
+use qd_base::MAX_TIME;
 
 /// The moment as text, as `2024-01-01T00:00:00.000000Z`: the extended format of ISO 8601 with six
 /// digits of a second, in UTC.

@@ -1,7 +1,7 @@
 use Rattle.std.proofs.Common.{arith, ap, sym, ◌∙◌, ◌≡◌}
 use Rattle.qd_time.specs.Buckets.{day_of_month}
 use Rattle.qd_time.specs.Calendar.{day_number}
-use Rattle.qd_time.proofs.MonthFacts.{day_of_month-end}
+use Rattle.qd_time.proofs.MonthLemmas.{day_of_month-end}
 use Rattle.qd_time.proofs.buckets.first_of.Goals as goal
 
 pub returns-then-month-gt96359-clause-value : goal.returns-then-month-gt96359-clause-value

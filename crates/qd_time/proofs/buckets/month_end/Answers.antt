@@ -1,7 +1,7 @@
 use Rattle.std.proofs.Common.{arith}
 use Rattle.std.proofs.lemmas.Int.{to_z-of_z}
 use Rattle.qd_time.specs.Buckets.{month_after}
-use Rattle.qd_time.proofs.BucketFacts.{clip-far}
+use Rattle.qd_time.proofs.BucketLemmas.{clip-far}
 use Rattle.qd_time.proofs.buckets.month_end.Goals as goal
 
 pub returns-then-month-gt96360 : goal.returns-then-month-gt96360

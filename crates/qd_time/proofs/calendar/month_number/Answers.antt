@@ -1,7 +1,7 @@
 use Rattle.std.proofs.Common.{arith, sym}
 use Rattle.std.proofs.lemmas.Int.{ints}
-use Rattle.qd_time.proofs.DateFacts.{date_of_day-is}
-use Rattle.qd_time.proofs.MonthFacts.{month_number-end}
+use Rattle.qd_time.proofs.DateLemmas.{date_of_day-is}
+use Rattle.qd_time.proofs.MonthLemmas.{month_number-end}
 use Rattle.qd_time.proofs.calendar.month_number.Goals as goal
 
 pub returns-then-day-gt2932896-clause-value : goal.returns-then-day-gt2932896-clause-value

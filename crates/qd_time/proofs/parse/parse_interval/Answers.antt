@@ -1,4 +1,4 @@
-use Rattle.qd_time.proofs.IntervalFacts.{answer_ok, ok_answer, answer_range, range_answer, answer_form, form_answer}
+use Rattle.qd_time.proofs.IntervalLemmas.{answer_ok, ok_answer, answer_range, range_answer, answer_form, form_answer}
 use Rattle.qd_time.proofs.parse.parse_interval.Goals as goal
 
 pub returns-clause-ok : goal.returns-clause-ok

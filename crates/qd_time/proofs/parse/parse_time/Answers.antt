@@ -1,6 +1,6 @@
 use Rattle.std.proofs.Common.{subst, sym}
 use Rattle.qd_time.specs.Spelled.{SpellsTime}
-use Rattle.qd_time.proofs.ParseFacts.{answer_ok, ok_answer, answer_range, range_answer, answer_form, form_answer, printed_spells}
+use Rattle.qd_time.proofs.ParseLemmas.{answer_ok, ok_answer, answer_range, range_answer, answer_form, form_answer, printed_spells}
 use Rattle.qd_time.proofs.parse.parse_time.Goals as goal
 
 pub returns-clause-ok : goal.returns-clause-ok

@@ -2,8 +2,8 @@ use Rattle.std.proofs.Common.{rules, ◌≡◌, ◌∙◌, ap, arith}
 use Rattle.qd_time.specs.Calendar.{CalendarDate, Civil, IsCalendarDate, date_of_day}
 use Rattle.qd_time.specs.Fields.{civil_fields}
 use Rattle.qd_time.specs.Spelled.{IsCivil}
-use Rattle.qd_time.proofs.CivilFacts.{civil_of-moment}
-use Rattle.qd_time.proofs.DateOrder.{date_of_day-day_number}
+use Rattle.qd_time.proofs.CivilLemmas.{civil_of-moment}
+use Rattle.qd_time.proofs.DateOrderLemmas.{date_of_day-day_number}
 use Rattle.qd_time.proofs.fields.Fields.timestamp.Goals as goal
 
 pub day_number-requires : goal.day_number-requires

@@ -1,25 +1,25 @@
 -- The bucket's start is the last start that isn't after a timestamp, and the next one the first that
 -- is after it.
 use Rattle.std.proofs.Common.{ℕ, ◌+◌, ◌-◌, ◌*◌, ◌/◌, ◌%◌, ◌<◌, ◌≤◌, ◌≡◌, ◌⊎◌, inl, inr, refl, sym, ap, ◌∙◌, arith, subst, mul-le-mul, ℤ, pos, negsuc, ◌+ℤ◌, ◌-ℤ◌, ◌*ℤ◌, ◌≤ℤ◌, ◌<ℤ◌}
-use Rattle.std.proofs.lemmas.Bool.{cases_lt, cases_order, lt-ltb}
+use Rattle.std.proofs.lemmas.Bool.{cases_lt, cases_order, lt-ltb, le-ltb}
 use Rattle.std.proofs.lemmas.Int.{by_lt_z}
 use Rattle.std.specs.Int.{int_div_euclid}
 use Rattle.jiff_core.proofs.SignedLemmas.{signed_arith}
-use Rattle.qd_time.specs.Buckets.{clip, offset_micros, month_number, day_of_month, month_midnight, moved, months_to, last_index, month_start, month_end, start_by, end_by, StartsBy, steps, step_of, IsStride, IsStep, IsReached}
+use Rattle.qd_time.specs.Buckets.{clip, offset_micros, month_number, day_of_month, month_midnight, moved, months_to, last_index, month_start, month_end, start_by, end_by, StartsBy, as_period, period_of, IsStride, IsPeriod, IsReached}
 use Rattle.qd_time.specs.Calendar.{CalendarDate, date_of_day, day_micros, day_number, midnight}
 use Rattle.qd_time.specs.Units.{start_of}
 use Rattle.qd_time.specs.declared.buckets.Align.{Align}
 use Rattle.qd_time.specs.declared.buckets.Align.TheVariants.{Calendar, First}
-use Rattle.qd_time.specs.declared.buckets.Step.{Step}
-use Rattle.qd_time.specs.declared.buckets.Step.TheVariants.{Micros, Months}
+use Rattle.qd_time.specs.declared.buckets.Period.{Period}
+use Rattle.qd_time.specs.declared.buckets.Period.TheVariants.{Micros, Months}
 use Rattle.qd_time.specs.declared.buckets.Stride.{Stride}
 use Rattle.qd_time.specs.declared.units.Unit.{Unit}
 use Rattle.qd_time.specs.declared.units.Unit.TheVariants.{Micro, Milli, Second, Minute, Hour, Day, Month, Year}
-use Rattle.qd_time.proofs.DateFacts.{nlt-ltb, date_of_day-is}
-use Rattle.qd_time.proofs.UnitFacts.{start_of-le, midnight_day}
-use Rattle.qd_time.proofs.DateOrder.{date_of_day-day_number}
-use Rattle.qd_time.proofs.MonthFacts.{month_number-year, month_number-day_of_month, day_of_month-is, day_of_month-first, lt-months_to, months_to-mono, months_to-moved, moved-zero}
-use Rattle.qd_time.proofs.BucketFacts.{near, step_reaches, last_index-here, last_index-before, moved-later}
+use Rattle.qd_time.proofs.DateLemmas.{date_of_day-is}
+use Rattle.qd_time.proofs.UnitLemmas.{in_unit, midnight_day}
+use Rattle.qd_time.proofs.DateOrderLemmas.{date_of_day-day_number}
+use Rattle.qd_time.proofs.MonthLemmas.{month_number-year, month_number-day_of_month, day_of_month-is, day_of_month-first, lt-months_to, months_to-mono, months_to-moved, moved-zero}
+use Rattle.qd_time.proofs.BucketLemmas.{near, stride_reaches, last_index-here, last_index-before, moved-later}
 use borrow.Author.Differences.{up, down}
 
 clip-mono : (a b : ℤ) → a ≤ℤ b → clip a ≤ clip b
@@ -53,61 +53,61 @@ product-next k n =
     let more : (up (k +ℤ pos 1) + down k) * n ≡ (down (k +ℤ pos 1) + (up k + 1)) * n = ap (λ m. m * n) parts in
     omega (arith, signed_arith, product-parts k n, product-parts (k +ℤ pos 1) n)
 
--- steps on the calendar
-module _ (ts : ℕ) (offset : ℤ) (step : ℕ) (low : 1 ≤ step) where
-  aligned-le : clip (offset +ℤ int_div_euclid (pos ts -ℤ offset) (pos step) *ℤ pos step) ≤ ts
-  aligned-le = clip-le _ ts (near ts offset step low).0
+-- periods on the calendar
+module _ (ts : ℕ) (offset : ℤ) (period : ℕ) (low : 1 ≤ period) where
+  aligned-le : clip (offset +ℤ int_div_euclid (pos ts -ℤ offset) (pos period) *ℤ pos period) ≤ ts
+  aligned-le = clip-le _ ts (near ts offset period low).0
 
-  aligned-lt : ts < clip (offset +ℤ int_div_euclid (pos ts -ℤ offset) (pos step) *ℤ pos step +ℤ pos step)
-  aligned-lt = lt-clip ts _ (near ts offset step low).1
+  aligned-lt : ts < clip (offset +ℤ int_div_euclid (pos ts -ℤ offset) (pos period) *ℤ pos period +ℤ pos period)
+  aligned-lt = lt-clip ts _ (near ts offset period low).1
 
-  aligned-greatest : (k : ℤ) → clip (offset +ℤ k *ℤ pos step) ≤ ts → clip (offset +ℤ k *ℤ pos step) ≤ clip (offset +ℤ int_div_euclid (pos ts -ℤ offset) (pos step) *ℤ pos step)
+  aligned-greatest : (k : ℤ) → clip (offset +ℤ k *ℤ pos period) ≤ ts → clip (offset +ℤ k *ℤ pos period) ≤ clip (offset +ℤ int_div_euclid (pos ts -ℤ offset) (pos period) *ℤ pos period)
   aligned-greatest k h =
-      let q = int_div_euclid (pos ts -ℤ offset) (pos step) in
-      let n = near ts offset step low in
+      let q = int_div_euclid (pos ts -ℤ offset) (pos period) in
+      let n = near ts offset period low in
       by_lt_z q k
-      (λ lt. let more = product-mono (q +ℤ pos 1) k step (omega (arith, signed_arith)) in
-      let next = subst (λ z. z ≤ℤ (k *ℤ pos step)) (product-next q step) more in
-      absurd (omega (arith, lt-clip ts (offset +ℤ k *ℤ pos step) (omega (arith, signed_arith)))))
-      (λ le. clip-mono (offset +ℤ k *ℤ pos step) (offset +ℤ q *ℤ pos step) (let less = product-mono k q step le in omega (arith, signed_arith)))
+      (λ lt. let more = product-mono (q +ℤ pos 1) k period (omega (arith, signed_arith)) in
+      let next = subst (λ z. z ≤ℤ (k *ℤ pos period)) (product-next q period) more in
+      absurd (omega (arith, lt-clip ts (offset +ℤ k *ℤ pos period) (omega (arith, signed_arith)))))
+      (λ le. clip-mono (offset +ℤ k *ℤ pos period) (offset +ℤ q *ℤ pos period) (let less = product-mono k q period le in omega (arith, signed_arith)))
 
-  aligned-least : (k : ℤ) → ts < clip (offset +ℤ k *ℤ pos step) → clip (offset +ℤ int_div_euclid (pos ts -ℤ offset) (pos step) *ℤ pos step +ℤ pos step) ≤ clip (offset +ℤ k *ℤ pos step)
+  aligned-least : (k : ℤ) → ts < clip (offset +ℤ k *ℤ pos period) → clip (offset +ℤ int_div_euclid (pos ts -ℤ offset) (pos period) *ℤ pos period +ℤ pos period) ≤ clip (offset +ℤ k *ℤ pos period)
   aligned-least k h =
-      let q = int_div_euclid (pos ts -ℤ offset) (pos step) in
-      let n = near ts offset step low in
-      let past = lt-of_clip ts (offset +ℤ k *ℤ pos step) h in
+      let q = int_div_euclid (pos ts -ℤ offset) (pos period) in
+      let n = near ts offset period low in
+      let past = lt-of_clip ts (offset +ℤ k *ℤ pos period) h in
       by_lt_z q k
-      (λ lt. let more = product-mono (q +ℤ pos 1) k step (omega (arith, signed_arith)) in
-      let next = subst (λ z. z ≤ℤ (k *ℤ pos step)) (product-next q step) more in
-      clip-mono (offset +ℤ q *ℤ pos step +ℤ pos step) (offset +ℤ k *ℤ pos step) (omega (arith, signed_arith)))
-      (λ le. let less = product-mono k q step le in absurd (omega (arith, signed_arith)))
+      (λ lt. let more = product-mono (q +ℤ pos 1) k period (omega (arith, signed_arith)) in
+      let next = subst (λ z. z ≤ℤ (k *ℤ pos period)) (product-next q period) more in
+      clip-mono (offset +ℤ q *ℤ pos period +ℤ pos period) (offset +ℤ k *ℤ pos period) (omega (arith, signed_arith)))
+      (λ le. let less = product-mono k q period le in absurd (omega (arith, signed_arith)))
 
-  aligned-next : clip (offset +ℤ int_div_euclid (pos ts -ℤ offset) (pos step) *ℤ pos step +ℤ pos step) ≡ clip (offset +ℤ (int_div_euclid (pos ts -ℤ offset) (pos step) +ℤ pos 1) *ℤ pos step)
+  aligned-next : clip (offset +ℤ int_div_euclid (pos ts -ℤ offset) (pos period) *ℤ pos period +ℤ pos period) ≡ clip (offset +ℤ (int_div_euclid (pos ts -ℤ offset) (pos period) +ℤ pos 1) *ℤ pos period)
   aligned-next =
-      let q = int_div_euclid (pos ts -ℤ offset) (pos step) in
-      let e = product-next q step in
-      let same : offset +ℤ q *ℤ pos step +ℤ pos step ≡ offset +ℤ (q +ℤ pos 1) *ℤ pos step = omega (arith, signed_arith) in
+      let q = int_div_euclid (pos ts -ℤ offset) (pos period) in
+      let e = product-next q period in
+      let same : offset +ℤ q *ℤ pos period +ℤ pos period ≡ offset +ℤ (q +ℤ pos 1) *ℤ pos period = omega (arith, signed_arith) in
       ap clip same
 
--- steps from a first observation
-module _ (ts t0 step : ℕ) (low : 1 ≤ step) (reached : t0 ≤ ts) where
-  counted-parts : (t0 + (ts - t0) / step * step ≤ ts) × (ts < t0 + ((ts - t0) / step + 1) * step)
+-- periods from a first observation
+module _ (ts t0 period : ℕ) (low : 1 ≤ period) (reached : t0 ≤ ts) where
+  counted-parts : (t0 + (ts - t0) / period * period ≤ ts) × (ts < t0 + ((ts - t0) / period + 1) * period)
   counted-parts = (omega arith, omega arith)
 
-  counted-greatest : (k : ℕ) → t0 + k * step ≤ ts → t0 + k * step ≤ t0 + (ts - t0) / step * step
+  counted-greatest : (k : ℕ) → t0 + k * period ≤ ts → t0 + k * period ≤ t0 + (ts - t0) / period * period
   counted-greatest k h =
-      let q = (ts - t0) / step in
+      let q = (ts - t0) / period in
       elim (cases_lt q k) [
-        | inl lt ↦ let more : (q + 1) * step ≤ k * step = mul-le-mul (omega arith) (omega arith) in absurd (omega (arith, counted-parts.1))
-        | inr le ↦ let less : k * step ≤ q * step = mul-le-mul le (omega arith) in omega arith
+        | inl lt ↦ let more : (q + 1) * period ≤ k * period = mul-le-mul (omega arith) (omega arith) in absurd (omega (arith, counted-parts.1))
+        | inr le ↦ let less : k * period ≤ q * period = mul-le-mul le (omega arith) in omega arith
       ]
 
-  counted-least : (k : ℕ) → ts < t0 + k * step → t0 + ((ts - t0) / step + 1) * step ≤ t0 + k * step
+  counted-least : (k : ℕ) → ts < t0 + k * period → t0 + ((ts - t0) / period + 1) * period ≤ t0 + k * period
   counted-least k h =
-      let q = (ts - t0) / step in
+      let q = (ts - t0) / period in
       elim (cases_lt q k) [
-        | inl lt ↦ let more : (q + 1) * step ≤ k * step = mul-le-mul (omega arith) (omega arith) in omega arith
-        | inr le ↦ let less : k * step ≤ q * step = mul-le-mul le (omega arith) in absurd (omega (arith, counted-parts.0))
+        | inl lt ↦ let more : (q + 1) * period ≤ k * period = mul-le-mul (omega arith) (omega arith) in omega arith
+        | inr le ↦ let less : k * period ≤ q * period = mul-le-mul le (omega arith) in absurd (omega (arith, counted-parts.0))
       ]
 
 -- a month's first moment and the months of timestamps
@@ -131,7 +131,7 @@ own_month a =
 month_midnight-le : (a m : ℕ) → m ≤ months_to a → month_midnight m ≤ a
 month_midnight-le a m h =
     elim (cases_order m (months_to a)) [
-      | inl same ↦ omega (arith, ap month_midnight same ∙ own_month a, start_of-le Month a)
+      | inl same ↦ omega (arith, ap month_midnight same ∙ own_month a, (in_unit Month a).0)
       | inr (inl lt) ↦ omega (arith, lt-months_to (month_midnight m) a (omega (arith, months_to-midnight m)))
       | inr (inr gt) ↦ absurd (omega arith)
     ]
@@ -213,7 +213,7 @@ moved-mono t0 j k h =
 last_moved : (ts t0 n : ℕ) → 1 ≤ n → t0 ≤ ts → let k = last_index (λ k. moved t0 (k * n)) ts (months_to ts) in (moved t0 (k * n) ≤ ts) × (ts < moved t0 ((k + 1) * n))
 last_moved ts t0 n low reached =
     let q = (months_to ts - months_to t0) / n in
-    let reaches = step_reaches (months_to t0) (months_to ts) n low (months_to-mono t0 ts reached) in
+    let reaches = stride_reaches (months_to t0) (months_to ts) n low (months_to-mono t0 ts reached) in
     let P : ℕ → Type 0 = λ k. (moved t0 (k * n) ≤ ts) × (ts < moved t0 ((k + 1) * n)) in
     elim (cases_lt ts (moved t0 (q * n))) [
       | inr here ↦ subst P (sym (last_index-here t0 n ts low reached here)) (here, moved-later t0 n ts q reaches.2 (q + 1) (omega arith))
@@ -245,46 +245,46 @@ back : (ts : ℕ) (offset : ℤ) → pos ts ≡ pos ts -ℤ offset +ℤ offset
 back ts offset = omega (arith, signed_arith)
 
 -- a bucket starts at a timestamp or before it
-pub start_by-le : (s : Step) (a : Align) (ts : ℕ) → IsStep s → IsReached a ts → start_by s a ts ≤ ts
-start_by-le (Micros step) (Calendar minutes) ts h r = aligned-le ts (offset_micros minutes) step h.0
-start_by-le (Micros step) (First t0) ts h r = (counted-parts ts t0 step h.0 r).0
+pub start_by-le : (s : Period) (a : Align) (ts : ℕ) → IsPeriod s → IsReached a ts → start_by s a ts ≤ ts
+start_by-le (Micros period) (Calendar minutes) ts h r = aligned-le ts (offset_micros minutes) period h.0
+start_by-le (Micros period) (First t0) ts h r = (counted-parts ts t0 period h.0 r).0
 start_by-le (Months n) (Calendar minutes) ts h r =
     let offset = offset_micros minutes in months-le ts n offset h.0 (pos ts -ℤ offset) (back ts offset)
 start_by-le (Months n) (First t0) ts h r = (last_moved ts t0 n h.0 r).0
 
 -- and the next one after it
-pub lt-end_by : (s : Step) (a : Align) (ts : ℕ) → IsStep s → ts < end_by s a ts
-lt-end_by (Micros step) (Calendar minutes) ts h = aligned-lt ts (offset_micros minutes) step h.0
-lt-end_by (Micros step) (First t0) ts h =
+pub lt-end_by : (s : Period) (a : Align) (ts : ℕ) → IsPeriod s → ts < end_by s a ts
+lt-end_by (Micros period) (Calendar minutes) ts h = aligned-lt ts (offset_micros minutes) period h.0
+lt-end_by (Micros period) (First t0) ts h =
     elim (cases_lt ts t0) [
       | inl lt ↦ rw (lt-ltb ts t0 lt) lt
-      | inr ge ↦ rw (nlt-ltb ts t0 ge) (counted-parts ts t0 step h.0 ge).1
+      | inr ge ↦ rw (le-ltb ts t0 ge) (counted-parts ts t0 period h.0 ge).1
     ]
 lt-end_by (Months n) (Calendar minutes) ts h =
     let offset = offset_micros minutes in months-lt ts n offset h.0 (pos ts -ℤ offset) (back ts offset)
 lt-end_by (Months n) (First t0) ts h =
     elim (cases_lt ts t0) [
       | inl lt ↦ rw (lt-ltb ts t0 lt) lt
-      | inr ge ↦ rw (nlt-ltb ts t0 ge) (last_moved ts t0 n h.0 ge).1
+      | inr ge ↦ rw (le-ltb ts t0 ge) (last_moved ts t0 n h.0 ge).1
     ]
 
 -- both are starts
-pub start_by-starts : (s : Step) (a : Align) (ts : ℕ) → IsStep s → StartsBy s a (start_by s a ts)
-start_by-starts (Micros step) (Calendar minutes) ts h =
-    (int_div_euclid (pos ts -ℤ offset_micros minutes) (pos step), refl)
-start_by-starts (Micros step) (First t0) ts h = ((ts - t0) / step, refl)
+pub start_by-starts : (s : Period) (a : Align) (ts : ℕ) → IsPeriod s → StartsBy s a (start_by s a ts)
+start_by-starts (Micros period) (Calendar minutes) ts h =
+    (int_div_euclid (pos ts -ℤ offset_micros minutes) (pos period), refl)
+start_by-starts (Micros period) (First t0) ts h = ((ts - t0) / period, refl)
 start_by-starts (Months n) (Calendar minutes) ts h =
     let offset = offset_micros minutes in months-starts ts n offset h.0 (pos ts -ℤ offset)
 start_by-starts (Months n) (First t0) ts h = (last_index (λ k. moved t0 (k * n)) ts (months_to ts), refl)
 
-pub end_by-starts : (s : Step) (a : Align) (ts : ℕ) → IsStep s → StartsBy s a (end_by s a ts)
-end_by-starts (Micros step) (Calendar minutes) ts h =
+pub end_by-starts : (s : Period) (a : Align) (ts : ℕ) → IsPeriod s → StartsBy s a (end_by s a ts)
+end_by-starts (Micros period) (Calendar minutes) ts h =
     let offset = offset_micros minutes in
-    (int_div_euclid (pos ts -ℤ offset) (pos step) +ℤ pos 1, aligned-next ts offset step h.0)
-end_by-starts (Micros step) (First t0) ts h =
+    (int_div_euclid (pos ts -ℤ offset) (pos period) +ℤ pos 1, aligned-next ts offset period h.0)
+end_by-starts (Micros period) (First t0) ts h =
     elim (cases_lt ts t0) [
       | inl lt ↦ rw (lt-ltb ts t0 lt) (0, omega arith)
-      | inr ge ↦ rw (nlt-ltb ts t0 ge) ((ts - t0) / step + 1, refl)
+      | inr ge ↦ rw (le-ltb ts t0 ge) ((ts - t0) / period + 1, refl)
     ]
 end_by-starts (Months n) (Calendar minutes) ts h =
     let offset = offset_micros minutes in inr (months-ends ts n offset h.0 (pos ts -ℤ offset))
@@ -292,15 +292,15 @@ end_by-starts (Months n) (First t0) ts h =
     let none : 0 * n ≡ 0 = omega arith in
     elim (cases_lt ts t0) [
       | inl lt ↦ rw (lt-ltb ts t0 lt) (0, sym (ap (moved t0) none ∙ moved-zero t0))
-      | inr ge ↦ rw (nlt-ltb ts t0 ge) (last_index (λ k. moved t0 (k * n)) ts (months_to ts) + 1, refl)
+      | inr ge ↦ rw (le-ltb ts t0 ge) (last_index (λ k. moved t0 (k * n)) ts (months_to ts) + 1, refl)
     ]
 
 -- no start lies between a bucket's start and the timestamp
-pub start_by-greatest : (s : Step) (a : Align) (ts x : ℕ) → IsStep s → IsReached a ts → StartsBy s a x → x ≤ ts → x ≤ start_by s a ts
-start_by-greatest (Micros step) (Calendar minutes) ts x h r (k, e) le =
-    rw e (aligned-greatest ts (offset_micros minutes) step h.0 k (rw e at le))
-start_by-greatest (Micros step) (First t0) ts x h r (k, e) le =
-    rw e (counted-greatest ts t0 step h.0 r k (rw e at le))
+pub start_by-greatest : (s : Period) (a : Align) (ts x : ℕ) → IsPeriod s → IsReached a ts → StartsBy s a x → x ≤ ts → x ≤ start_by s a ts
+start_by-greatest (Micros period) (Calendar minutes) ts x h r (k, e) le =
+    rw e (aligned-greatest ts (offset_micros minutes) period h.0 k (rw e at le))
+start_by-greatest (Micros period) (First t0) ts x h r (k, e) le =
+    rw e (counted-greatest ts t0 period h.0 r k (rw e at le))
 start_by-greatest (Months n) (Calendar minutes) ts x h r (inl zero_is) le = omega arith
 start_by-greatest (Months n) (Calendar minutes) ts x h r (inr (k, e)) le =
     let offset = offset_micros minutes in
@@ -309,13 +309,13 @@ start_by-greatest (Months n) (First t0) ts x h r (k, e) le =
     rw e (moved-greatest ts t0 n h.0 r k (rw e at le))
 
 -- and none between the timestamp and the next start
-pub end_by-least : (s : Step) (a : Align) (ts x : ℕ) → IsStep s → StartsBy s a x → ts < x → end_by s a ts ≤ x
-end_by-least (Micros step) (Calendar minutes) ts x h (k, e) lt =
-    rw e (aligned-least ts (offset_micros minutes) step h.0 k (rw e at lt))
-end_by-least (Micros step) (First t0) ts x h (k, e) lt =
+pub end_by-least : (s : Period) (a : Align) (ts x : ℕ) → IsPeriod s → StartsBy s a x → ts < x → end_by s a ts ≤ x
+end_by-least (Micros period) (Calendar minutes) ts x h (k, e) lt =
+    rw e (aligned-least ts (offset_micros minutes) period h.0 k (rw e at lt))
+end_by-least (Micros period) (First t0) ts x h (k, e) lt =
     elim (cases_lt ts t0) [
       | inl before ↦ rw (lt-ltb ts t0 before, e) (omega arith)
-      | inr ge ↦ rw (nlt-ltb ts t0 ge, e) (counted-least ts t0 step h.0 ge k (rw e at lt))
+      | inr ge ↦ rw (le-ltb ts t0 ge, e) (counted-least ts t0 period h.0 ge k (rw e at lt))
     ]
 end_by-least (Months n) (Calendar minutes) ts x h (inl zero_is) lt = absurd (omega arith)
 end_by-least (Months n) (Calendar minutes) ts x h (inr (k, e)) lt =
@@ -324,19 +324,19 @@ end_by-least (Months n) (Calendar minutes) ts x h (inr (k, e)) lt =
 end_by-least (Months n) (First t0) ts x h (k, e) lt =
     elim (cases_lt ts t0) [
       | inl before ↦ rw (lt-ltb ts t0 before, e) (omega (arith, moved-mono t0 0 (k * n) (omega arith), moved-zero t0))
-      | inr ge ↦ rw (nlt-ltb ts t0 ge, e) (moved-least ts t0 n h.0 ge k (rw e at lt))
+      | inr ge ↦ rw (le-ltb ts t0 ge, e) (moved-least ts t0 n h.0 ge k (rw e at lt))
     ]
 
-stride_step : (n : ℕ) (u : Unit) → 1 ≤ n → n ≤ 1_000_000 → IsStep (steps n u)
-stride_step n Micro low high = (omega arith, omega arith)
-stride_step n Milli low high = (omega arith, omega arith)
-stride_step n Second low high = (omega arith, omega arith)
-stride_step n Minute low high = (omega arith, omega arith)
-stride_step n Hour low high = (omega arith, omega arith)
-stride_step n Day low high = (omega arith, omega arith)
-stride_step n Month low high = (omega arith, omega arith)
-stride_step n Year low high = (omega arith, omega arith)
+stride_period : (n : ℕ) (u : Unit) → 1 ≤ n → n ≤ 1_000_000 → IsPeriod (as_period n u)
+stride_period n Micro low high = (omega arith, omega arith)
+stride_period n Milli low high = (omega arith, omega arith)
+stride_period n Second low high = (omega arith, omega arith)
+stride_period n Minute low high = (omega arith, omega arith)
+stride_period n Hour low high = (omega arith, omega arith)
+stride_period n Day low high = (omega arith, omega arith)
+stride_period n Month low high = (omega arith, omega arith)
+stride_period n Year low high = (omega arith, omega arith)
 
--- strides are steps
-pub step_is : (stride : Stride) → IsStride stride → IsStep (step_of stride)
-step_is stride h = stride_step stride.n stride.unit h.0 h.1
+-- strides are periods
+pub period_is : (stride : Stride) → IsStride stride → IsPeriod (period_of stride)
+period_is stride h = stride_period stride.n stride.unit h.0 h.1

@@ -7,7 +7,7 @@ use Rattle.jiff_core.specs.Date.{ordinal}
 use Rattle.jiff_core.proofs.SignedLemmas.{signed_arith}
 use Rattle.jiff_core.proofs.CalendarLemmas.{day_count-epoch, day_count-day, day_count-later_year, day_count-next_year, day_count-end, day_count-day_of_year, day_of_year_before, days_of_months_all}
 use Rattle.qd_time.specs.Calendar.{CalendarDate, IsCalendarDate, month_days, month_first, month_after, year_first, year_after, date_of_day, day_number, IsDateOfDay}
-use Rattle.qd_time.proofs.DateFacts.{count, date_of_day-is, month_after-is, first_is, date_of_day-year_high}
+use Rattle.qd_time.proofs.DateLemmas.{count, date_of_day-is, month_after-is, first_is, date_of_day-year_high}
 
 -- a date's place in its year is at most the year's days
 pub day_of_year_high : (d : CalendarDate) → IsCalendarDate d → day_of_year (pos d.year) d.month d.day ≤ days_in_year (pos d.year)

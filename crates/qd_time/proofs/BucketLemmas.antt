@@ -4,47 +4,48 @@ use Rattle.std.proofs.Common.{mul-le-mul}
 use Rattle.std.proofs.lemmas.Bool.{cases_order}
 use Rattle.std.specs.Int.{int_div_euclid}
 use Rattle.jiff_core.proofs.SignedLemmas.{signed_arith, int_div_euclid-parts}
+use Rattle.qd_base.specs.declared.limits.TheConstants.{MAX_TIME}
 use Rattle.qd_time.specs.Buckets.{clip, month_midnight, months_to, moved, last_index, IsNear, IsOffset}
 use Rattle.qd_time.specs.Calendar.{date_of_day, day_micros}
-use Rattle.qd_time.proofs.DateFacts.{date_of_day-is, date_of_day-year_high}
-use Rattle.qd_time.proofs.MonthFacts.{month_number-far, day_of_month-number_far, lt-months_to, months_to-mono, months_to-moved, moved-zero, last_index-is}
+use Rattle.qd_time.proofs.DateLemmas.{date_of_day-is, date_of_day-year_high}
+use Rattle.qd_time.proofs.MonthLemmas.{month_number-far, day_of_month-number_far, lt-months_to, months_to-mono, months_to-moved, moved-zero, last_index-is}
 
--- whole steps, rounded down, come within a step of the timestamp
-pub near : (ts : ℕ) (offset : ℤ) (step : ℕ) → 1 ≤ step → IsNear ts offset step (int_div_euclid (pos ts -ℤ offset) (pos step))
-near ts offset step h =
-    let parts = int_div_euclid-parts (pos ts -ℤ offset) step h in
+-- whole periods, rounded down, come within a period of the timestamp
+pub near : (ts : ℕ) (offset : ℤ) (period : ℕ) → 1 ≤ period → IsNear ts offset period (int_div_euclid (pos ts -ℤ offset) (pos period))
+near ts offset period h =
+    let parts = int_div_euclid-parts (pos ts -ℤ offset) period h in
     (omega (arith, signed_arith), omega (arith, signed_arith))
 
-clip-high : (z : ℤ) → pos 253_402_300_799_999_999 <ℤ z → 253_402_300_799_999_999 < clip z
+clip-high : (z : ℤ) → pos MAX_TIME <ℤ z → MAX_TIME < clip z
 clip-high (pos n) h = omega (arith, signed_arith)
 clip-high (negsuc n) h = absurd (omega (arith, signed_arith))
 
 -- a month past January 10000 begins past the last timestamp, at any offset
-pub clip-far : (m : ℕ) (offset : ℤ) → 96_360 < m → IsOffset offset → 253_402_300_799_999_999 < clip (pos (month_midnight m) +ℤ offset)
+pub clip-far : (m : ℕ) (offset : ℤ) → 96_360 < m → IsOffset offset → MAX_TIME < clip (pos (month_midnight m) +ℤ offset)
 clip-far m offset h in_day =
     clip-high (pos (month_midnight m) +ℤ offset) (omega (arith, signed_arith, month_number-far m h))
 
 -- a moment moved past the year 9999
-pub moved-far : (t0 months : ℕ) → 96_359 < months_to t0 + months → 253_402_300_799_999_999 < moved t0 months
+pub moved-far : (t0 months : ℕ) → 96_359 < months_to t0 + months → MAX_TIME < moved t0 months
 moved-far t0 months h =
     let n = t0 / day_micros in
     omega (arith, day_of_month-number_far (months_to t0 + months) (date_of_day n).day (date_of_day-is n).0.day_low h)
 
 -- months of timestamps
-pub months_to-high : (ts : ℕ) → ts ≤ 253_402_300_799_999_999 → months_to ts ≤ 96_359
+pub months_to-high : (ts : ℕ) → ts ≤ MAX_TIME → months_to ts ≤ 96_359
 months_to-high ts h =
     let n = ts / day_micros in
     omega (arith, date_of_day-year_high n (omega arith), (date_of_day-is n).0.month_high)
 
--- from the next step on all moved moments are later
+-- from the next stride on all moved moments are later
 pub moved-later : (t0 n ts k : ℕ) → months_to ts < months_to t0 + (k + 1) * n → (j : ℕ) → k < j → ts < moved t0 (j * n)
 moved-later t0 n ts k h j lt =
     let more : (k + 1) * n ≤ j * n = mul-le-mul (omega arith) (omega arith) in
     lt-months_to ts (moved t0 (j * n)) (omega (arith, months_to-moved t0 (j * n)))
 
--- which month a step reaches
-pub step_reaches : (from to n : ℕ) → 1 ≤ n → from ≤ to → let k = (to - from) / n in (k ≤ to) × (from + k * n ≤ to) × (to < from + (k + 1) * n)
-step_reaches from to n low le =
+-- which month a number of strides reaches
+pub stride_reaches : (from to n : ℕ) → 1 ≤ n → from ≤ to → let k = (to - from) / n in (k ≤ to) × (from + k * n ≤ to) × (to < from + (k + 1) * n)
+stride_reaches from to n low le =
     let k = (to - from) / n in
     let at_most : 1 * k ≤ n * k = mul-le-mul low (omega arith) in
     (omega arith, omega arith, omega arith)
@@ -53,7 +54,7 @@ step_reaches from to n low le =
 pub last_index-here : (t0 n ts : ℕ) → 1 ≤ n → t0 ≤ ts → let k = (months_to ts - months_to t0) / n in moved t0 (k * n) ≤ ts → last_index (λ k. moved t0 (k * n)) ts (months_to ts) ≡ k
 last_index-here t0 n ts low reached here =
     let k = (months_to ts - months_to t0) / n in
-    let reaches = step_reaches (months_to t0) (months_to ts) n low (months_to-mono t0 ts reached) in
+    let reaches = stride_reaches (months_to t0) (months_to ts) n low (months_to-mono t0 ts reached) in
     last_index-is (λ k. moved t0 (k * n)) ts k (months_to ts) reaches.0 here (moved-later t0 n ts k reaches.2)
 
 pub from_first : (t0 n ts k : ℕ) → t0 ≤ ts → ts < moved t0 (k * n) → 1 ≤ k
@@ -66,7 +67,7 @@ from_first t0 n ts (suc k) reached after = omega arith
 pub last_index-before : (t0 n ts : ℕ) → 1 ≤ n → t0 ≤ ts → let k = (months_to ts - months_to t0) / n in ts < moved t0 (k * n) → (1 ≤ k) × (last_index (λ k. moved t0 (k * n)) ts (months_to ts) ≡ k - 1)
 last_index-before t0 n ts low reached after =
     let k = (months_to ts - months_to t0) / n in
-    let reaches = step_reaches (months_to t0) (months_to ts) n low (months_to-mono t0 ts reached) in
+    let reaches = stride_reaches (months_to t0) (months_to ts) n low (months_to-mono t0 ts reached) in
     let some = from_first t0 n ts k reached after in
     let one_less : (k - 1 + 1) * n ≡ k * n = ap (λ m. m * n) (omega arith) in
     let before : moved t0 ((k - 1) * n) < ts = lt-months_to (moved t0 ((k - 1) * n)) ts (omega (arith, months_to-moved t0 ((k - 1) * n))) in

@@ -1,7 +1,8 @@
 -- An interval's answer is what the text spells.
 use Rattle.std.proofs.Common.{ℕ, ◌+◌, ◌-◌, ◌*◌, ◌<◌, ◌≤◌, ◌≡◌, inl, inr, min, nat_lt, cond, Option, Some, None, Result, Ok, Err, List, ◌++◌, refl, sym, ap, ◌∙◌, arith, subst, append_assoc}
-use Rattle.std.proofs.lemmas.Bool.{cases_Bool, lt-ltb, ltb-true}
+use Rattle.std.proofs.lemmas.Bool.{cases_Bool, lt-ltb, ltb-true, le-ltb}
 use Rattle.std.proofs.lemmas.Bool.Decides.{nat_tests}
+use Rattle.qd_base.specs.declared.limits.TheConstants.{MAX_TIME}
 use Rattle.qd_time.specs.Calendar.{Civil, civil_of}
 use Rattle.qd_time.specs.Fields.{TimestampOf}
 use Rattle.qd_time.specs.Printed.{text_to}
@@ -11,11 +12,10 @@ use Rattle.qd_time.specs.Units.{end_of}
 use Rattle.qd_time.specs.declared.fault.TimeFault.{TimeFault}
 use Rattle.qd_time.specs.declared.fault.TimeFault.TheVariants.{Form, Range}
 use Rattle.qd_time.specs.declared.units.Unit.{Unit}
-use Rattle.qd_time.proofs.DateFacts.{nlt-ltb}
-use Rattle.qd_time.proofs.ReadingFacts.{Found, found_year, reads, cut, IsShort, IsStop}
-use Rattle.qd_time.proofs.CivilFacts.{civil_of-short, civil_of-start_of}
-use Rattle.qd_time.proofs.ParseFacts.{early_short, cut_is, time_answer, early_answer, found_first}
-use Rattle.qd_time.proofs.SuffixFacts.{FoundSuffix, suffix_at-some, suffix_reads, span_of}
+use Rattle.qd_time.proofs.ReadingLemmas.{Found, found_year, reads, cut, IsShort, IsStop}
+use Rattle.qd_time.proofs.CivilLemmas.{civil_of-short, civil_of-start_of}
+use Rattle.qd_time.proofs.ParseLemmas.{early_short, cut_is, time_answer, early_answer, found_first}
+use Rattle.qd_time.proofs.SuffixLemmas.{FoundSuffix, suffix_at-some, suffix_reads, span_of}
 
 suffix_stops : (s : Suffix) → IsStop (suffix_text s)
 suffix_stops none = inl refl
@@ -55,9 +55,9 @@ answer_ok text result first last h s =
     let t_is = time_answer c first is.0 refl is.1 in
     let n = min (suffix_count s.suffix) 1_000_001 in
     let few : n ≤ 1_000_000 = omega (arith, s.count) in
-    let made = λ (micros : ℕ). min (end_of s.unit first - 1 + micros) 253_402_300_799_999_999 in
+    let made = λ (micros : ℕ). min (end_of s.unit first - 1 + micros) MAX_TIME in
     is.2 ∙ ap (interval_of s.unit (n, span_of s.suffix)) t_is
-    ∙ ap (λ b. cond b (Err Range) (Ok (first, made (n * span_of s.suffix)))) (nlt-ltb 1_000_000 n few)
+    ∙ ap (λ b. cond b (Err Range) (Ok (first, made (n * span_of s.suffix)))) (le-ltb 1_000_000 n few)
     ∙ ap (λ m. Ok (first, made m)) (micros_is s.suffix s.count)
     ∙ ap (λ l. Ok (first, l)) (sym s.last_is)
 
@@ -81,7 +81,7 @@ outside_far text base s result u ts h is_suffix e spells far =
     let found = answer_read text s u c result is_suffix read h in
     let n = min (suffix_count s) 1_000_001 in
     let many : 1_000_000 < n = omega arith in
-    let last = min (end_of u ts - 1 + n * span_of s) 253_402_300_799_999_999 in
+    let last = min (end_of u ts - 1 + n * span_of s) MAX_TIME in
     found.2 ∙ ap (interval_of u (n, span_of s)) (time_answer c ts found.0 refl found.1)
     ∙ ap (λ b. cond b (Err Range) (Ok (ts, last))) (lt-ltb 1_000_000 n many)
 
@@ -118,7 +118,7 @@ ok_pair a b c d x e h =
 -- what an answer says of its text
 found_ok : (text : List ℕ) (r : Read) (f : Found text r) (found : ℕ × ℕ) (s : FoundSuffix r.rest found) (ts first last : ℕ) → TimestampOf r.civil (Ok ts) → Ok (first, last) ≡ interval_of r.unit found (Ok ts) → SpellsInterval text first last
 found_ok text r f found s ts first last t e =
-    let made = min (end_of r.unit ts - 1 + found.0 * found.1) 253_402_300_799_999_999 in
+    let made = min (end_of r.unit ts - 1 + found.0 * found.1) MAX_TIME in
     elim (cases_Bool (nat_lt 1_000_000 found.0)) [
       | inl far ↦ absurd (let bad : Ok (first, last) ≡ Err Range = e ∙ ap (λ b. cond b (Err Range) (Ok (ts, made))) far in cc)
       | inr near ↦
@@ -144,7 +144,7 @@ found_ok text r f found s ts first last t e =
             is_suffix = s.is_suffix;
             spells = subst (SpellsAs (read_base text r f) r.unit) first_is spells;
             count = low;
-            last_is = last_is ∙ ap (λ m. min (end_of r.unit ts - 1 + m) 253_402_300_799_999_999) moved ∙ ap (λ t. min (end_of r.unit t - 1 + suffix_micros s.suffix) 253_402_300_799_999_999) first_is;
+            last_is = last_is ∙ ap (λ m. min (end_of r.unit ts - 1 + m) MAX_TIME) moved ∙ ap (λ t. min (end_of r.unit t - 1 + suffix_micros s.suffix) MAX_TIME) first_is;
           }
     ]
 
@@ -160,7 +160,7 @@ ok_spells text (Some r) first last e h = ok_with text r (suffix_at r.rest) first
 
 found_far : (text : List ℕ) (r : Read) (f : Found text r) (found : ℕ × ℕ) (s : FoundSuffix r.rest found) (ts : ℕ) → TimestampOf r.civil (Ok ts) → Err Range ≡ interval_of r.unit found (Ok ts) → SpellsOutside text
 found_far text r f found s ts t e =
-    let made = min (end_of r.unit ts - 1 + found.0 * found.1) 253_402_300_799_999_999 in
+    let made = min (end_of r.unit ts - 1 + found.0 * found.1) MAX_TIME in
     elim (cases_Bool (nat_lt 1_000_000 found.0)) [
       | inl far ↦
           let many : 1_000_000 < suffix_count s.suffix = omega (arith, ltb-true 1_000_000 found.0 far, s.count_is) in

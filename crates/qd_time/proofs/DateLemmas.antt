@@ -1,7 +1,7 @@
 -- The dates of day numbers, day after day, are those that jiff counts.
 use Rattle.std.proofs.Common.{ℕ, zero, suc, ◌+◌, ◌<◌, ◌≤◌, ◌≡◌, inl, inr, false, nat_lt, refl, sym, ap, ◌∙◌, arith, pos}
 use Rattle.std.proofs.lemmas.Bool.Decides.{nat_tests}
-use Rattle.std.proofs.lemmas.Bool.{cases_lt, lt-ltb}
+use Rattle.std.proofs.lemmas.Bool.{cases_lt, lt-ltb, le-ltb}
 use Rattle.jiff_core.specs.Calendar.{days_in_month, day_count}
 use Rattle.jiff_core.specs.declared.civil.date.Date.{Date}
 use Rattle.jiff_core.specs.Date.{epoch_day}
@@ -54,21 +54,18 @@ follows_year d h last e =
       count-next_year d.year ∙ ap (λ n. n + 1) (sym (ap (λ m. day_count (pos d.year) m d.day) e ∙ ap (day_count (pos d.year) 12) long)),
     )
 
-pub nlt-ltb : (a b : ℕ) → b ≤ a → nat_lt a b ≡ false
-nlt-ltb a b h = grind (arith, nat_tests)
-
 pub month_after-is : (d : CalendarDate) → IsCalendarDate d → d.day ≡ month_days d → Follows d (month_after d)
 month_after-is d h last =
     elim (cases_lt d.month 12) [
       | inl lt ↦ rw (lt-ltb d.month 12 lt) (follows_month d h last lt)
-      | inr ge ↦ let high = h.month_high in rw (nlt-ltb d.month 12 ge) (follows_year d h last (omega arith))
+      | inr ge ↦ let high = h.month_high in rw (le-ltb d.month 12 ge) (follows_year d h last (omega arith))
     ]
 
 pub day_after-is : (d : CalendarDate) → IsCalendarDate d → Follows d (day_after d)
 day_after-is d h =
     elim (cases_lt d.day (month_days d)) [
       | inl lt ↦ rw (lt-ltb d.day (month_days d) lt) (follows_day d h lt)
-      | inr ge ↦ let high = h.day_high in rw (nlt-ltb d.day (month_days d) ge) (month_after-is d h (omega arith))
+      | inr ge ↦ let high = h.day_high in rw (le-ltb d.day (month_days d) ge) (month_after-is d h (omega arith))
     ]
 
 -- each day number has a date of the calendar, which jiff counts alike

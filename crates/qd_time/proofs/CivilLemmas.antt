@@ -4,15 +4,16 @@ use Rattle.jiff_core.specs.declared.civil.date.Date.{Date}
 use Rattle.jiff_core.specs.Date.{epoch_day}
 use Rattle.jiff_core.proofs.SignedLemmas.{signed_arith}
 use Rattle.jiff_core.proofs.CalendarLemmas.{days_from_civil-day_count, days_in_month_bounds, day_count-end}
+use Rattle.qd_base.specs.declared.limits.TheConstants.{MAX_TIME}
 use Rattle.qd_time.specs.Calendar.{CalendarDate, IsCalendarDate, Civil, civil_of, day_micros, hour_micros, minute_micros, second_micros, midnight, month_first, year_first, date_of_day, day_number}
 use Rattle.qd_time.specs.Spelled.{IsCivil}
 use Rattle.qd_time.specs.Units.{start_of}
 use Rattle.qd_time.specs.declared.units.Unit.{Unit}
 use Rattle.qd_time.specs.declared.units.Unit.TheVariants.{Micro, Milli, Second, Minute, Hour, Day, Month, Year}
-use Rattle.qd_time.proofs.DateFacts.{date_of_day-is, date_of_day-year_high, first_is}
-use Rattle.qd_time.proofs.DateOrder.{count-lt_year, count-day_number, date_of_day-day_number, day_number-date_of_day}
-use Rattle.qd_time.proofs.UnitFacts.{midnight_day}
-use Rattle.qd_time.proofs.ReadingFacts.{cut, IsShort}
+use Rattle.qd_time.proofs.DateLemmas.{date_of_day-is, date_of_day-year_high, first_is}
+use Rattle.qd_time.proofs.DateOrderLemmas.{count-lt_year, count-day_number, date_of_day-day_number, day_number-date_of_day}
+use Rattle.qd_time.proofs.UnitLemmas.{midnight_day}
+use Rattle.qd_time.proofs.ReadingLemmas.{cut, IsShort}
 
 -- a timestamp from its day and its time of day
 abbrev pub moment : ℕ → ℕ → ℕ → ℕ → ℕ → ℕ
@@ -46,7 +47,7 @@ civil_of-is ts =
     let is = (date_of_day-is (ts / day_micros)).0 in
     record { month_low = is.month_low; month_high = is.month_high; day_low = is.day_low; day_high = is.day_high; hour_high = omega arith; minute_high = omega arith; second_high = omega arith; micro_high = omega arith }
 
-pub civil_of-short : (ts : ℕ) → ts ≤ 253_402_300_799_999_999 → IsShort (civil_of ts)
+pub civil_of-short : (ts : ℕ) → ts ≤ MAX_TIME → IsShort (civil_of ts)
 civil_of-short ts h =
     let n = ts / day_micros in
     let is = (date_of_day-is n).0 in

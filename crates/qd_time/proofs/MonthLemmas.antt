@@ -7,8 +7,8 @@ use Rattle.jiff_core.specs.Calendar.{days_in_month}
 use Rattle.jiff_core.proofs.CalendarLemmas.{days_in_month_bounds, day_count-end}
 use Rattle.qd_time.specs.Buckets.{month_number, day_of_month, moved, months_to, last_index}
 use Rattle.qd_time.specs.Calendar.{CalendarDate, IsCalendarDate, day_micros, date_of_day, day_number}
-use Rattle.qd_time.proofs.DateFacts.{count, date_of_day-is, first_is, count-next_year}
-use Rattle.qd_time.proofs.DateOrder.{count-lt_year, count-lt_month, count-month, same_parts, count-day_number, date_of_day-day_number, day_number-date_of_day}
+use Rattle.qd_time.proofs.DateLemmas.{count, date_of_day-is, first_is, count-next_year}
+use Rattle.qd_time.proofs.DateOrderLemmas.{count-lt_year, count-lt_month, count-month, same_parts, count-day_number, date_of_day-day_number, day_number-date_of_day}
 
 -- a month's number gives its year and its place in the year
 pub month_number-year : (d : CalendarDate) → IsCalendarDate d → (1970 + month_number d / 12 ≡ d.year) × (month_number d % 12 + 1 ≡ d.month)

@@ -1,11 +1,15 @@
 -- Reading a suffix gives what it counts, and nothing else.
-use Rattle.std.proofs.Common.{ℕ, ◌+◌, ◌-◌, ◌*◌, ◌≤◌, ◌≡◌, inl, inr, min, true, false, ◌&&◌, ◌==◌, cond, Some, None, List, [], ◌∷◌, ◌++◌, length, fold, refl, sym, ap, ◌∙◌, arith, subst}
+use Rattle.std.proofs.Common.{ℕ, ◌+◌, ◌-◌, ◌*◌, ◌<◌, ◌≤◌, ◌≡◌, ◌≢◌, inl, inr, min, true, false, ◌&&◌, ◌==◌, cond, Some, None, List, [], ◌∷◌, ◌++◌, length, refl, sym, ap, ◌∙◌, arith, subst}
 use Rattle.std.specs.Prelude.{nat_le}
-use Rattle.std.proofs.lemmas.Bool.{cases_Bool}
-use Rattle.std.proofs.lemmas.Bool.Decides.{nat_tests}
+use Rattle.std.specs.Char.{digit_value}
+use Rattle.std.specs.Int.{IsInRange}
+use Rattle.std.specs.Str.Parse.{AllDigits, IsNumeral, digits_value, digits_value_after}
+use Rattle.std.proofs.lemmas.Bool.{cases_Bool, eqb-true}
+use Rattle.std.proofs.lemmas.Str.{digit_value_digit}
+use Rattle.std.proofs.lemmas.Str.Parse.{digit_from_value}
 use Rattle.qd_time.specs.Reading.{◌>>=◌, Number, digit_at, next_count, span_at, letter_at, count_at, later_at, suffix_at}
-use Rattle.qd_time.proofs.DigitFacts.{bind-some}
-use Rattle.qd_time.specs.Spelled.{Span, seconds, minutes, hours, days, letter, span_micros, Suffix, none, later, suffix_text, AreDigits, IsSuffix, number_of, suffix_count}
+use Rattle.qd_time.proofs.DigitLemmas.{bind-some, digit_test, is_digit}
+use Rattle.qd_time.specs.Spelled.{Span, seconds, minutes, hours, days, letter, span_micros, Suffix, none, later, suffix_text, IsSuffix, suffix_count}
 
 -- a digit counts on
 pub count_at-digit : (k : ℕ) (t : List ℕ) (n : Number) → digit_at t ≡ Some n → count_at k t ≡ count_at (min (10 * k + n.0) 1_000_001) n.1
@@ -32,12 +36,6 @@ count_at-none k (b ∷ rest) e =
       | inr apart ↦ ap (λ t. cond t (count_at (next_count k b) rest) (letter_at k (b ∷ rest))) apart
     ]
 
-digit_test : (b : ℕ) → 48 ≤ b → b ≤ 57 → (nat_le 48 b && nat_le b 57) ≡ true
-digit_test b low high = grind (arith, nat_tests)
-
-digit_is : (b : ℕ) → (nat_le 48 b && nat_le b 57) ≡ true → (48 ≤ b) × (b ≤ 57)
-digit_is b h = grind (arith, nat_tests)
-
 letter_no_digit : (span : Span) → (nat_le 48 (letter span) && nat_le (letter span) 57) ≡ false
 letter_no_digit seconds = refl
 letter_no_digit minutes = refl
@@ -51,26 +49,27 @@ span_at-letter hours = refl
 span_at-letter days = refl
 
 -- a count that is held at 1,000,001 goes on as the number does
-held : (n b : ℕ) → min (10 * min n 1_000_001 + (b - 48)) 1_000_001 ≡ min (10 * n + (b - 48)) 1_000_001
-held n b = omega arith
+held : (n b d : ℕ) → d + 48 ≡ b → min (10 * min n 1_000_001 + (b - 48)) 1_000_001 ≡ min (n * 10 + d) 1_000_001
+held n b d e = omega arith
 
 -- digits and a letter are read
-counts : (n : ℕ) (number : List ℕ) (span : Span) → AreDigits number → count_at (min n 1_000_001) (number ++ (letter span ∷ [])) ≡ Some (min (fold (λ n b. 10 * n + (b - 48)) n number) 1_000_001, span_micros span)
+counts : (n : ℕ) (number : List ℕ) (span : Span) → AllDigits 10 number → count_at (min n 1_000_001) (number ++ (letter span ∷ [])) ≡ Some (min (digits_value_after 10 n number) 1_000_001, span_micros span)
 unfolding count_at
 counts n [] span h =
     ap (λ t. cond t (count_at (next_count (min n 1_000_001) (letter span)) []) (letter_at (min n 1_000_001) (letter span ∷ []))) (letter_no_digit span)
     ∙ ap (λ o. o >>= λ micros. Some (min n 1_000_001, micros)) (span_at-letter span)
 counts n (b ∷ number) span h =
     let rest = number ++ (letter span ∷ []) in
-    ap (λ t. cond t (count_at (next_count (min n 1_000_001) b) rest) (letter_at (min n 1_000_001) (b ∷ rest))) (digit_test b h.0 h.1)
-    ∙ ap (λ k. count_at k rest) (held n b)
-    ∙ counts (10 * n + (b - 48)) number span h.2
+    let is = digit_from_value b h.0 in
+    ap (λ t. cond t (count_at (next_count (min n 1_000_001) b) rest) (letter_at (min n 1_000_001) (b ∷ rest))) (digit_test b is)
+    ∙ ap (λ k. count_at k rest) (held n b (digit_value b) (digit_value_digit b is))
+    ∙ counts (n * 10 + digit_value b) number span h.1
 
-later_reads : (number : List ℕ) (span : Span) → 1 ≤ length number → AreDigits number → later_at (number ++ (letter span ∷ [])) ≡ Some (min (number_of number) 1_000_001, span_micros span)
-later_reads [] span some h = absurd (omega arith)
-later_reads (b ∷ number) span some h =
+later_reads : (number : List ℕ) (span : Span) → IsNumeral 10 number → later_at (number ++ (letter span ∷ [])) ≡ Some (min (digits_value 10 number) 1_000_001, span_micros span)
+later_reads [] span h = absurd (omega (arith, h.0))
+later_reads (b ∷ number) span h =
     let rest = b ∷ number ++ (letter span ∷ []) in
-    ap (λ t. cond t (count_at 0 rest) None) (digit_test b h.0 h.1) ∙ counts 0 (b ∷ number) span h
+    ap (λ t. cond t (count_at 0 rest) None) (digit_test b (digit_from_value b h.1.0)) ∙ counts 0 (b ∷ number) span h.1
 
 -- what a suffix is read as
 abbrev pub span_of : Suffix → ℕ
@@ -79,7 +78,7 @@ span_of (later number span) = span_micros span
 
 pub suffix_reads : (s : Suffix) → IsSuffix s → suffix_at (suffix_text s) ≡ Some (min (suffix_count s) 1_000_001, span_of s)
 suffix_reads none h = refl
-suffix_reads (later number span) h = later_reads number span h.0 h.1
+suffix_reads (later number span) h = later_reads number span h
 
 -- and what is read is a suffix
 pub record FoundSuffix (text : List ℕ) (found : ℕ × ℕ) : Type 0 where
@@ -93,13 +92,10 @@ pub record FoundSuffix (text : List ℕ) (found : ℕ × ℕ) : Type 0 where
 record FoundCount (n : ℕ) (text : List ℕ) (found : ℕ × ℕ) : Type 0 where
   number : List ℕ
   span : Span
-  are_digits : AreDigits number
+  are_digits : AllDigits 10 number
   text_is : text ≡ number ++ (letter span ∷ [])
-  count_is : found.0 ≡ min (fold (λ n b. 10 * n + (b - 48)) n number) 1_000_001
+  count_is : found.0 ≡ min (digits_value_after 10 n number) 1_000_001
   micros_is : found.1 ≡ span_micros span
-
-eqb_is : (a b : ℕ) → (a == b) ≡ true → a ≡ b
-eqb_is a b h = grind (arith, nat_tests)
 
 span_at-some : (b micros : ℕ) → span_at b ≡ Some micros → (span : Span) × (b ≡ letter span) × (micros ≡ span_micros span)
 span_at-some b micros e =
@@ -107,13 +103,13 @@ span_at-some b micros e =
     let h = cond (b == 104) (Some (span_micros hours)) d in
     let m = cond (b == 109) (Some (span_micros minutes)) h in
     elim (cases_Bool (b == 115)) [
-      | inl is ↦ (seconds, eqb_is b 115 is, let found : Some (span_micros seconds) ≡ Some micros = sym (ap (λ t. cond t (Some (span_micros seconds)) m) is) ∙ e in cc)
+      | inl is ↦ (seconds, eqb-true b 115 is, let found : Some (span_micros seconds) ≡ Some micros = sym (ap (λ t. cond t (Some (span_micros seconds)) m) is) ∙ e in cc)
       | inr n1 ↦ let e1 : m ≡ Some micros = sym (ap (λ t. cond t (Some (span_micros seconds)) m) n1) ∙ e in elim (cases_Bool (b == 109)) [
-        | inl is ↦ (minutes, eqb_is b 109 is, let found : Some (span_micros minutes) ≡ Some micros = sym (ap (λ t. cond t (Some (span_micros minutes)) h) is) ∙ e1 in cc)
+        | inl is ↦ (minutes, eqb-true b 109 is, let found : Some (span_micros minutes) ≡ Some micros = sym (ap (λ t. cond t (Some (span_micros minutes)) h) is) ∙ e1 in cc)
         | inr n2 ↦ let e2 : h ≡ Some micros = sym (ap (λ t. cond t (Some (span_micros minutes)) h) n2) ∙ e1 in elim (cases_Bool (b == 104)) [
-          | inl is ↦ (hours, eqb_is b 104 is, let found : Some (span_micros hours) ≡ Some micros = sym (ap (λ t. cond t (Some (span_micros hours)) d) is) ∙ e2 in cc)
+          | inl is ↦ (hours, eqb-true b 104 is, let found : Some (span_micros hours) ≡ Some micros = sym (ap (λ t. cond t (Some (span_micros hours)) d) is) ∙ e2 in cc)
           | inr n3 ↦ let e3 : d ≡ Some micros = sym (ap (λ t. cond t (Some (span_micros hours)) d) n3) ∙ e2 in elim (cases_Bool (b == 100)) [
-            | inl is ↦ (days, eqb_is b 100 is, let found : Some (span_micros days) ≡ Some micros = sym (ap (λ t. cond t (Some (span_micros days)) None) is) ∙ e3 in cc)
+            | inl is ↦ (days, eqb-true b 100 is, let found : Some (span_micros days) ≡ Some micros = sym (ap (λ t. cond t (Some (span_micros days)) None) is) ∙ e3 in cc)
             | inr n4 ↦ absurd (let missing : None ≡ Some micros = sym (ap (λ t. cond t (Some (span_micros days)) None) n4) ∙ e3 in cc)
           ]
         ]
@@ -138,30 +134,30 @@ count_at-some n (b ∷ rest) found e =
     let no_case = letter_at (min n 1_000_001) (b ∷ rest) in
     elim (cases_Bool (nat_le 48 b && nat_le b 57)) [
       | inl is ↦
-          let low = digit_is b is in
-          let f = count_at-some (10 * n + (b - 48)) rest found (ap (λ k. count_at k rest) (sym (held n b)) ∙ sym (ap (λ t. cond t yes_case no_case) is) ∙ e) in
-          record { number = b ∷ f.number; span = f.span; are_digits = (low.0, low.1, f.are_digits); text_is = ap (λ t. b ∷ t) f.text_is; count_is = f.count_is; micros_is = f.micros_is }
+          let digit = is_digit b is in
+          let value = digit_value_digit b digit in
+          let f = count_at-some (n * 10 + digit_value b) rest found (ap (λ k. count_at k rest) (sym (held n b (digit_value b) value)) ∙ sym (ap (λ t. cond t yes_case no_case) is) ∙ e) in
+          record { number = b ∷ f.number; span = f.span; are_digits = (omega (arith, digit.1), f.are_digits); text_is = ap (λ t. b ∷ t) f.text_is; count_is = f.count_is; micros_is = f.micros_is }
       | inr apart ↦ letter_at-some n (b ∷ rest) found (sym (ap (λ t. cond t yes_case no_case) apart) ∙ e)
     ]
 
-not_letter : (span : Span) (b : ℕ) → 48 ≤ b → b ≤ 57 → b ≡ letter span → ⊥
-not_letter seconds b low high e = omega arith
-not_letter minutes b low high e = omega arith
-not_letter hours b low high e = omega arith
-not_letter days b low high e = omega arith
+not_letter : (span : Span) (b : ℕ) → IsInRange 48 57 b → b ≢ letter span
+not_letter seconds b digit e = omega (arith, digit.1)
+not_letter minutes b digit e = omega (arith, digit.1)
+not_letter hours b digit e = omega (arith, digit.1)
+not_letter days b digit e = omega (arith, digit.1)
 
-some_digit : (b : ℕ) (rest number : List ℕ) (span : Span) → 48 ≤ b → b ≤ 57 → b ∷ rest ≡ number ++ (letter span ∷ []) → 1 ≤ length number
-some_digit b rest [] span low high e = absurd (not_letter span b low high cc)
-some_digit b rest (c ∷ number) span low high e = omega arith
+some_digit : (b : ℕ) (rest number : List ℕ) (span : Span) → IsInRange 48 57 b → b ∷ rest ≡ number ++ (letter span ∷ []) → 0 < length number
+some_digit b rest [] span digit e = absurd (not_letter span b digit cc)
+some_digit b rest (c ∷ number) span digit e = omega arith
 
 later_at-some : (text : List ℕ) (found : ℕ × ℕ) → later_at text ≡ Some found → FoundSuffix (59 ∷ text) found
 later_at-some [] found e = absurd cc
 later_at-some (b ∷ rest) found e =
     elim (cases_Bool (nat_le 48 b && nat_le b 57)) [
       | inl is ↦
-          let low = digit_is b is in
           let f = count_at-some 0 (b ∷ rest) found (sym (ap (λ t. cond t (count_at 0 (b ∷ rest)) None) is) ∙ e) in
-          record { suffix = later f.number f.span; is_suffix = (some_digit b rest f.number f.span low.0 low.1 f.text_is, f.are_digits); text_is = ap (λ t. 59 ∷ t) f.text_is; count_is = f.count_is; micros_is = f.micros_is }
+          record { suffix = later f.number f.span; is_suffix = (some_digit b rest f.number f.span (is_digit b is) f.text_is, f.are_digits); text_is = ap (λ t. 59 ∷ t) f.text_is; count_is = f.count_is; micros_is = f.micros_is }
       | inr apart ↦ absurd (let missing : None ≡ Some found = sym (ap (λ t. cond t (count_at 0 (b ∷ rest)) None) apart) ∙ e in cc)
     ]
 
@@ -172,6 +168,6 @@ suffix_at-some [] found e =
     record { suffix = none; is_suffix = tt; text_is = refl; count_is = sym count; micros_is = sym micros }
 suffix_at-some (b ∷ rest) found e =
     elim (cases_Bool (b == 59)) [
-      | inl is ↦ subst (λ c. FoundSuffix (c ∷ rest) found) (sym (eqb_is b 59 is)) (later_at-some rest found (sym (ap (λ t. cond t (later_at rest) None) is) ∙ e))
+      | inl is ↦ subst (λ c. FoundSuffix (c ∷ rest) found) (sym (eqb-true b 59 is)) (later_at-some rest found (sym (ap (λ t. cond t (later_at rest) None) is) ∙ e))
       | inr apart ↦ absurd (let missing : None ≡ Some found = sym (ap (λ t. cond t (later_at rest) None) apart) ∙ e in cc)
     ]

@@ -7,8 +7,8 @@ use Rattle.qd_time.specs.Calendar.{CalendarDate, IsCalendarDate, day_micros, mon
 use Rattle.qd_time.specs.Units.{start_of, end_of}
 use Rattle.qd_time.specs.declared.units.Unit.{Unit}
 use Rattle.qd_time.specs.declared.units.Unit.TheVariants.{Micro, Milli, Second, Minute, Hour, Day, Month, Year}
-use Rattle.qd_time.proofs.DateFacts.{date_of_day-is, first_is}
-use Rattle.qd_time.proofs.DateOrder.{count-lt_year, count-month, count-day_number, day_of_year_high, date_of_day-unique, date_of_day-day_number, month_after_is_date, year_after_is_date, month_first-number, month_after-number, year_first-number, year_after-number}
+use Rattle.qd_time.proofs.DateLemmas.{date_of_day-is, first_is}
+use Rattle.qd_time.proofs.DateOrderLemmas.{count-lt_year, count-month, count-day_number, day_of_year_high, date_of_day-unique, date_of_day-day_number, month_after_is_date, year_after_is_date, month_first-number, month_after-number, year_first-number, year_after-number}
 
 -- the date of a day of the month of day n
 in_month : (n m : ℕ) → day_number (month_first (date_of_day n)) ≤ m → m < day_number (month_after (date_of_day n)) → let d = date_of_day n in date_of_day m ≡ record { year = d.year; month = d.month; day = m - day_number (month_first d) + 1 }
@@ -54,35 +54,24 @@ month_first-month_after d =
 pub midnight_day : (n : ℕ) → n * day_micros / day_micros ≡ n
 midnight_day n = omega arith
 
--- a unit begins at a timestamp or before it
-pub start_of-le : (u : Unit) (ts : ℕ) → start_of u ts ≤ ts
-start_of-le Micro ts = omega arith
-start_of-le Milli ts = omega arith
-start_of-le Second ts = omega arith
-start_of-le Minute ts = omega arith
-start_of-le Hour ts = omega arith
-start_of-le Day ts = omega arith
-start_of-le Month ts =
+-- a unit begins at a timestamp or before it, and ends after it
+pub in_unit : (u : Unit) (ts : ℕ) → (start_of u ts ≤ ts) × (ts < end_of u ts)
+in_unit Micro ts = (omega arith, omega arith)
+in_unit Milli ts = (omega arith, omega arith)
+in_unit Second ts = (omega arith, omega arith)
+in_unit Minute ts = (omega arith, omega arith)
+in_unit Hour ts = (omega arith, omega arith)
+in_unit Day ts = (omega arith, omega arith)
+in_unit Month ts =
     let n = ts / day_micros in
-    omega (arith, month_first-number n, (date_of_day-is n).0.day_low)
-start_of-le Year ts =
+    let is = (date_of_day-is n).0 in
+    let first = month_first-number n in
+    (omega (arith, first, is.day_low), omega (arith, first, month_after-number n, is.day_high))
+in_unit Year ts =
     let n = ts / day_micros in
-    omega (arith, year_first-number n, (date_of_day-is n).0.day_low)
-
--- and ends after it
-pub lt-end_of : (u : Unit) (ts : ℕ) → ts < end_of u ts
-lt-end_of Micro ts = omega arith
-lt-end_of Milli ts = omega arith
-lt-end_of Second ts = omega arith
-lt-end_of Minute ts = omega arith
-lt-end_of Hour ts = omega arith
-lt-end_of Day ts = omega arith
-lt-end_of Month ts =
-    let n = ts / day_micros in
-    omega (arith, month_first-number n, month_after-number n, (date_of_day-is n).0.day_high)
-lt-end_of Year ts =
-    let n = ts / day_micros in
-    omega (arith, year_first-number n, year_after-number n, day_of_year_high (date_of_day n) (date_of_day-is n).0)
+    let is = (date_of_day-is n).0 in
+    let first = year_first-number n in
+    (omega (arith, first, is.day_low), omega (arith, first, year_after-number n, day_of_year_high (date_of_day n) is))
 
 -- those from a unit's start to its end lie in that unit
 pub start_of-within : (u : Unit) (ts other : ℕ) → start_of u ts ≤ other → other < end_of u ts → start_of u other ≡ start_of u ts

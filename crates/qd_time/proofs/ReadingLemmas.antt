@@ -1,15 +1,15 @@
 -- What the readers find is what a text spells: each reading spells its text, and each spelling is
 -- read.
 use Rattle.std.proofs.Common.{ℕ, ◌+◌, ◌*◌, ◌/◌, ◌%◌, ◌^◌, ◌<◌, ◌≡◌, ◌⊎◌, inl, inr, true, false, ◌==◌, cond, Option, Some, None, List, [], ◌∷◌, ◌++◌, refl, sym, ap, ◌∙◌, arith, subst}
-use Rattle.std.proofs.lemmas.Bool.{cases_Bool}
-use Rattle.std.proofs.lemmas.Bool.Decides.{nat_tests}
+use Rattle.std.proofs.lemmas.Bool.{cases_Bool, eqb-true}
+use Rattle.std.proofs.lemmas.Option.{same_Some}
 use Rattle.qd_time.specs.Calendar.{Civil}
 use Rattle.qd_time.specs.Printed.{digits, text_to}
 use Rattle.qd_time.specs.Spelled.{IsMark, IsZone}
 use Rattle.qd_time.specs.Reading.{◌>>=◌, Number, Read, read_as, goes_on, ends_at, after_zone, two_at, three_at, four_at, digit_at, fraction_at, micros_at, second_at, after_second, minute_at, after_minute, hour_at, after_hour, day_at, after_day, month_at, after_month, year_at, after_year, year_start, with_month, with_day}
 use Rattle.qd_time.specs.declared.units.Unit.{Unit}
 use Rattle.qd_time.specs.declared.units.Unit.TheVariants.{Micro, Milli, Second, Minute, Hour, Day, Month, Year}
-use Rattle.qd_time.proofs.DigitFacts.{bind-some, two_at-digits, two_at-some, three_at-digits, three_at-some, four_at-digits, four_at-some}
+use Rattle.qd_time.proofs.DigitLemmas.{bind-some, two_at-digits, two_at-some, three_at-digits, three_at-some, four_at-digits, four_at-some}
 
 -- a moment from its parts
 abbrev pub at : ℕ → ℕ → ℕ → ℕ → ℕ → ℕ → ℕ → Civil
@@ -39,26 +39,24 @@ pub record Found (text : List ℕ) (r : Read) : Type 0 where
   pub day_high : r.civil.date.day < 10 ^ 2
   pub micro_high : r.civil.micro < 10 ^ 6
 
-pub some_injective : {A : Type 0} (a b : A) → Some a ≡ Some b → a ≡ b
-some_injective a b e = cc
-
-eqb_is : (a b : ℕ) → (a == b) ≡ true → a ≡ b
-eqb_is a b h = grind (arith, nat_tests)
-
 -- a text goes on after its mark, or ends
 goes_on-some : (mark : ℕ) (next ends : List ℕ → Option Read) (t : List ℕ) (r : Read) → goes_on mark next ends t ≡ Some r → ((t₂ : List ℕ) × (t ≡ mark ∷ t₂) × (next t₂ ≡ Some r)) ⊎ (ends t ≡ Some r)
 goes_on-some mark next ends [] r e = inr e
 goes_on-some mark next ends (b ∷ rest) r e =
     elim (cases_Bool (b == mark)) [
-      | inl is ↦ inl (rest, ap (λ n. n ∷ rest) (eqb_is b mark is), sym (ap (λ t. cond t (next rest) (ends (b ∷ rest))) is) ∙ e)
+      | inl is ↦ inl (rest, ap (λ n. n ∷ rest) (eqb-true b mark is), sym (ap (λ t. cond t (next rest) (ends (b ∷ rest))) is) ∙ e)
       | inr apart ↦ inr (sym (ap (λ t. cond t (next rest) (ends (b ∷ rest))) apart) ∙ e)
     ]
 
-zone_text : (t : List ℕ) → (zone : List ℕ) × ((zone ≡ []) ⊎ (zone ≡ 90 ∷ [])) × (t ≡ zone ++ after_zone t)
+-- what may stand after a time of day
+abbrev IsAnyZone : List ℕ → Type 0
+IsAnyZone zone = (zone ≡ []) ⊎ (zone ≡ 90 ∷ [])
+
+zone_text : (t : List ℕ) → (zone : List ℕ) × IsAnyZone zone × (t ≡ zone ++ after_zone t)
 zone_text [] = ([], inl refl, refl)
 zone_text (b ∷ rest) =
     elim (cases_Bool (b == 90)) [
-      | inl is ↦ (90 ∷ [], inr refl, ap (λ n. n ∷ rest) (eqb_is b 90 is) ∙ ap (λ t. 90 ∷ t) (sym (ap (λ t. cond t rest (b ∷ rest)) is)))
+      | inl is ↦ (90 ∷ [], inr refl, ap (λ n. n ∷ rest) (eqb-true b 90 is) ∙ ap (λ t. 90 ∷ t) (sym (ap (λ t. cond t rest (b ∷ rest)) is)))
       | inr apart ↦ ([], inl refl, sym (ap (λ t. cond t rest (b ∷ rest)) apart))
     ]
 
@@ -90,40 +88,44 @@ six_digits_of a b ha hb =
     let low : n % 10 ^ 5 % 10 ^ 4 % 10 ^ 3 ≡ b = omega arith in
     rw (d5, d4, d3, low)
 
+-- the year, the month, the day and the fraction fit their digits
+abbrev FitDigits : Civil → Type 0
+FitDigits c = (c.date.year < 10 ^ 4) × (c.date.month < 10 ^ 2) × (c.date.day < 10 ^ 2) × (c.micro < 10 ^ 6)
+
+-- a text that is spelled as far as a unit, and ends there
+found_end : (text : List ℕ) (u : Unit) (c : Civil) (mark : ℕ) (zone rest : List ℕ) (r : Read) → IsMark mark → IsZone u zone → cut u c ≡ c → FitDigits c → text ≡ text_to u mark c ++ (zone ++ rest) → read_as u c rest ≡ Some r → Found text r
+found_end text u c mark zone rest r mark_is zone_is least fit e ends =
+    subst (Found text) (same_Some _ r ends) (record {
+      mark = mark;
+      zone = zone;
+      mark_is = mark_is;
+      zone_is = zone_is;
+      text_is = e;
+      least = least;
+      year_high = fit.0;
+      month_high = fit.1;
+      day_high = fit.2;
+      micro_high = fit.3;
+    })
+
+-- and with a `Z` that may stand there
+found_zone : (text : List ℕ) (u : Unit) (c : Civil) (mark : ℕ) (t : List ℕ) (r : Read) → IsMark mark → ((zone : List ℕ) → IsAnyZone zone → IsZone u zone) → cut u c ≡ c → FitDigits c → text ≡ text_to u mark c ++ t → ends_at u c t ≡ Some r → Found text r
+found_zone text u c mark t r mark_is zoned least fit e ends =
+    let z = zone_text t in
+    found_end text u c mark z.0 (after_zone t) r mark_is (zoned z.0 z.1) least fit (e ∙ ap (λ x. text_to u mark c ++ x) z.2) ends
+
 module _ (text : List ℕ) (y : ℕ) (year_high : y < 10 ^ 4) where
   module _ (m d mark : ℕ) (month_high : m < 10 ^ 2) (day_high : d < 10 ^ 2) (mark_is : IsMark mark) where
     found_milli : (h n s a : ℕ) (t : List ℕ) (r : Read) → a < 10 ^ 3 → text ≡ before_fraction mark y m d h n s (digits 3 a ++ t) → ends_at Milli (at y m d h n s (a * 1000)) t ≡ Some r → Found text r
     found_milli h n s a t r ha e ends =
-        let z = zone_text t in
         let back : a * 1000 / 1000 ≡ a = omega arith in
-        subst (Found text) (some_injective _ r ends) (record {
-          mark = mark;
-          zone = z.0;
-          mark_is = mark_is;
-          zone_is = z.1;
-          text_is = e ∙ ap (λ x. before_fraction mark y m d h n s (digits 3 a ++ x)) z.2 ∙ ap (λ k. before_fraction mark y m d h n s (digits 3 k ++ (z.0 ++ after_zone t))) (sym back);
-          least = ap (λ k. at y m d h n s (k * 1000)) back;
-          year_high = year_high;
-          month_high = month_high;
-          day_high = day_high;
-          micro_high = omega arith;
-        })
+        let spelled = e ∙ ap (λ k. before_fraction mark y m d h n s (digits 3 k ++ t)) (sym back) in
+        found_zone text Milli (at y m d h n s (a * 1000)) mark t r mark_is (λ zone z. z) (ap (λ k. at y m d h n s (k * 1000)) back) (year_high, month_high, day_high, omega arith) spelled ends
 
     found_micro : (h n s a b : ℕ) (t : List ℕ) (r : Read) → a < 10 ^ 3 → b < 10 ^ 3 → text ≡ before_fraction mark y m d h n s (digits 3 a ++ (digits 3 b ++ t)) → ends_at Micro (at y m d h n s (a * 1000 + b)) t ≡ Some r → Found text r
     found_micro h n s a b t r ha hb e ends =
-        let z = zone_text t in
-        subst (Found text) (some_injective _ r ends) (record {
-          mark = mark;
-          zone = z.0;
-          mark_is = mark_is;
-          zone_is = z.1;
-          text_is = e ∙ ap (λ x. before_fraction mark y m d h n s (digits 3 a ++ (digits 3 b ++ x))) z.2 ∙ ap (λ k. before_fraction mark y m d h n s (k ++ (z.0 ++ after_zone t))) (sym (six_digits_of a b ha hb));
-          least = refl;
-          year_high = year_high;
-          month_high = month_high;
-          day_high = day_high;
-          micro_high = omega arith;
-        })
+        let spelled = e ∙ ap (λ k. before_fraction mark y m d h n s (k ++ t)) (sym (six_digits_of a b ha hb)) in
+        found_zone text Micro (at y m d h n s (a * 1000 + b)) mark t r mark_is (λ zone z. z) refl (year_high, month_high, day_high, omega arith) spelled ends
 
     found_low : (h n s : ℕ) (high : Number) (o : Option Number) (r : Read) → high.0 < 10 ^ 3 → text ≡ before_fraction mark y m d h n s (digits 3 high.0 ++ high.1) → three_at high.1 ≡ o → micros_at (at y m d h n s 0) high o ≡ Some r → Found text r
     found_low h n s high None r ha e low ends = found_milli h n s high.0 high.1 r ha e ends
@@ -146,20 +148,7 @@ module _ (text : List ℕ) (y : ℕ) (year_high : y < 10 ^ 4) where
         let so_far = e ∙ ap (before_second mark y m d h n) is.1 in
         elim (goes_on-some 46 (fraction_at (at y m d h n x.0.0 0)) (ends_at Second (at y m d h n x.0.0 0)) x.0.1 r x.2) [
           | inl (t₂, goes, reads₂) ↦ found_fraction h n x.0.0 t₂ r (so_far ∙ ap (λ k. before_second mark y m d h n (digits 2 x.0.0 ++ k)) goes) reads₂
-          | inr ends ↦
-              let z = zone_text x.0.1 in
-              subst (Found text) (some_injective _ r ends) (record {
-                mark = mark;
-                zone = z.0;
-                mark_is = mark_is;
-                zone_is = z.1;
-                text_is = so_far ∙ ap (λ k. before_second mark y m d h n (digits 2 x.0.0 ++ k)) z.2;
-                least = refl;
-                year_high = year_high;
-                month_high = month_high;
-                day_high = day_high;
-                micro_high = omega arith;
-              })
+          | inr ends ↦ found_zone text Second (at y m d h n x.0.0 0) mark x.0.1 r mark_is (λ zone z. z) refl (year_high, month_high, day_high, omega arith) so_far ends
         ]
 
     found_minute : (h : ℕ) (t : List ℕ) (r : Read) → text ≡ before_minute mark y m d h t → minute_at (at y m d h 0 0 0) t ≡ Some r → Found text r
@@ -170,20 +159,7 @@ module _ (text : List ℕ) (y : ℕ) (year_high : y < 10 ^ 4) where
         let so_far = e ∙ ap (before_minute mark y m d h) is.1 in
         elim (goes_on-some 58 (second_at (at y m d h x.0.0 0 0)) (ends_at Minute (at y m d h x.0.0 0 0)) x.0.1 r x.2) [
           | inl (t₂, goes, reads₂) ↦ found_second h x.0.0 t₂ r (so_far ∙ ap (λ k. before_minute mark y m d h (digits 2 x.0.0 ++ k)) goes) reads₂
-          | inr ends ↦
-              let z = zone_text x.0.1 in
-              subst (Found text) (some_injective _ r ends) (record {
-                mark = mark;
-                zone = z.0;
-                mark_is = mark_is;
-                zone_is = z.1;
-                text_is = so_far ∙ ap (λ k. before_minute mark y m d h (digits 2 x.0.0 ++ k)) z.2;
-                least = refl;
-                year_high = year_high;
-                month_high = month_high;
-                day_high = day_high;
-                micro_high = omega arith;
-              })
+          | inr ends ↦ found_zone text Minute (at y m d h x.0.0 0 0) mark x.0.1 r mark_is (λ zone z. z) refl (year_high, month_high, day_high, omega arith) so_far ends
         ]
 
     found_hour : (t : List ℕ) (r : Read) → text ≡ before_hour mark y m d t → hour_at (at y m d 0 0 0 0) t ≡ Some r → Found text r
@@ -194,20 +170,7 @@ module _ (text : List ℕ) (y : ℕ) (year_high : y < 10 ^ 4) where
         let so_far = e ∙ ap (before_hour mark y m d) is.1 in
         elim (goes_on-some 58 (minute_at (at y m d x.0.0 0 0 0)) (ends_at Hour (at y m d x.0.0 0 0 0)) x.0.1 r x.2) [
           | inl (t₂, goes, reads₂) ↦ found_minute x.0.0 t₂ r (so_far ∙ ap (λ k. before_hour mark y m d (digits 2 x.0.0 ++ k)) goes) reads₂
-          | inr ends ↦
-              let z = zone_text x.0.1 in
-              subst (Found text) (some_injective _ r ends) (record {
-                mark = mark;
-                zone = z.0;
-                mark_is = mark_is;
-                zone_is = z.1;
-                text_is = so_far ∙ ap (λ k. before_hour mark y m d (digits 2 x.0.0 ++ k)) z.2;
-                least = refl;
-                year_high = year_high;
-                month_high = month_high;
-                day_high = day_high;
-                micro_high = omega arith;
-              })
+          | inr ends ↦ found_zone text Hour (at y m d x.0.0 0 0 0) mark x.0.1 r mark_is (λ zone z. z) refl (year_high, month_high, day_high, omega arith) so_far ends
         ]
 
   found_day : (m : ℕ) (t : List ℕ) (r : Read) → m < 10 ^ 2 → text ≡ before_day y m t → day_at (at y m 1 0 0 0 0) t ≡ Some r → Found text r
@@ -221,7 +184,7 @@ module _ (text : List ℕ) (y : ℕ) (year_high : y < 10 ^ 4) where
         | inl (t₂, goes, reads₂) ↦ found_hour m x.0.0 84 month_high is.0 (inl refl) t₂ r (so_far ∙ ap (λ k. before_day y m (digits 2 x.0.0 ++ k)) goes) reads₂
         | inr other ↦ elim (goes_on-some 32 (hour_at c) (read_as Day c) x.0.1 r other) [
           | inl (t₂, goes, reads₂) ↦ found_hour m x.0.0 32 month_high is.0 (inr refl) t₂ r (so_far ∙ ap (λ k. before_day y m (digits 2 x.0.0 ++ k)) goes) reads₂
-          | inr ends ↦ subst (Found text) (some_injective _ r ends) (record { mark = 84; zone = []; mark_is = inl refl; zone_is = refl; text_is = so_far; least = refl; year_high = year_high; month_high = month_high; day_high = is.0; micro_high = omega arith })
+          | inr ends ↦ found_end text Day c 84 [] x.0.1 r (inl refl) refl refl (year_high, month_high, is.0, omega arith) so_far ends
         ]
       ]
 
@@ -234,7 +197,7 @@ module _ (text : List ℕ) (y : ℕ) (year_high : y < 10 ^ 4) where
       let c = at y x.0.0 1 0 0 0 0 in
       elim (goes_on-some 45 (day_at c) (read_as Month c) x.0.1 r x.2) [
         | inl (t₂, goes, reads₂) ↦ found_day x.0.0 t₂ r is.0 (so_far ∙ ap (λ k. before_month y (digits 2 x.0.0 ++ k)) goes) reads₂
-        | inr ends ↦ subst (Found text) (some_injective _ r ends) (record { mark = 84; zone = []; mark_is = inl refl; zone_is = refl; text_is = so_far; least = refl; year_high = year_high; month_high = is.0; day_high = omega arith; micro_high = omega arith })
+        | inr ends ↦ found_end text Month c 84 [] x.0.1 r (inl refl) refl refl (year_high, is.0, omega arith, omega arith) so_far ends
       ]
 
 -- what is read spells the text before what is left of it
@@ -246,22 +209,19 @@ found_year text r reads =
     let c = year_start x.0.0 in
     elim (goes_on-some 45 (month_at c) (read_as Year c) x.0.1 r x.2) [
       | inl (t₂, goes, reads₂) ↦ found_month text x.0.0 is.0 t₂ r (is.1 ∙ ap (λ k. digits 4 x.0.0 ++ k) goes) reads₂
-      | inr ends ↦ subst (Found text) (some_injective _ r ends) (record { mark = 84; zone = []; mark_is = inl refl; zone_is = refl; text_is = is.1; least = refl; year_high = is.0; month_high = omega arith; day_high = omega arith; micro_high = omega arith })
+      | inr ends ↦ found_end text Year c 84 [] x.0.1 r (inl refl) refl refl (is.0, omega arith, omega arith, omega arith) is.1 ends
     ]
 
 -- what may follow a moment's text: nothing, or a suffix
 abbrev pub IsStop : List ℕ → Type 0
 IsStop rest = (rest ≡ []) ⊎ ((t : List ℕ) × (rest ≡ 59 ∷ t))
 
-AnyZone : List ℕ → Type 0
-AnyZone zone = (zone ≡ []) ⊎ (zone ≡ 90 ∷ [])
-
 -- a text that stops doesn't go on
 goes_on-stops : (mark : ℕ) (next ends : List ℕ → Option Read) (rest : List ℕ) → (59 == mark) ≡ false → IsStop rest → goes_on mark next ends rest ≡ ends rest
 goes_on-stops mark next ends rest h (inl e) = rw e refl
 goes_on-stops mark next ends rest h (inr (t, e)) = rw e (ap (λ b. cond b (next t) (ends (59 ∷ t))) h)
 
-goes_on-ends : (mark : ℕ) (next : List ℕ → Option Read) (u : Unit) (c : Civil) (zone rest : List ℕ) → (59 == mark) ≡ false → (90 == mark) ≡ false → (zone ≡ []) ⊎ (zone ≡ 90 ∷ []) → IsStop rest → goes_on mark next (ends_at u c) (zone ++ rest) ≡ read_as u c rest
+goes_on-ends : (mark : ℕ) (next : List ℕ → Option Read) (u : Unit) (c : Civil) (zone rest : List ℕ) → (59 == mark) ≡ false → (90 == mark) ≡ false → IsAnyZone zone → IsStop rest → goes_on mark next (ends_at u c) (zone ++ rest) ≡ read_as u c rest
 goes_on-ends mark next u c zone rest h k (inl none) stop =
     let ends : ends_at u c rest ≡ read_as u c rest = elim stop [ inl e ↦ rw e refl | inr (t, e) ↦ rw e refl ] in
     rw none (goes_on-stops mark next (ends_at u c) rest h stop ∙ ends)
@@ -296,13 +256,13 @@ unfolding fraction_at
 fraction_at-step c n t h = ap (λ o. o >>= λ k. micros_at c k (three_at k.1)) (three_at-digits n t h)
 
 -- no digit begins what may follow a moment's text
-three_at-stops : (zone rest : List ℕ) → (zone ≡ []) ⊎ (zone ≡ 90 ∷ []) → IsStop rest → three_at (zone ++ rest) ≡ None
+three_at-stops : (zone rest : List ℕ) → IsAnyZone zone → IsStop rest → three_at (zone ++ rest) ≡ None
 unfolding three_at digit_at
 three_at-stops zone rest (inl none) (inl e) = rw (none, e) refl
 three_at-stops zone rest (inl none) (inr (t, e)) = rw (none, e) refl
 three_at-stops zone rest (inr z) stop = rw z refl
 
-ends_at-stops : (u : Unit) (c : Civil) (zone rest : List ℕ) → (zone ≡ []) ⊎ (zone ≡ 90 ∷ []) → IsStop rest → ends_at u c (zone ++ rest) ≡ read_as u c rest
+ends_at-stops : (u : Unit) (c : Civil) (zone rest : List ℕ) → IsAnyZone zone → IsStop rest → ends_at u c (zone ++ rest) ≡ read_as u c rest
 ends_at-stops u c zone rest (inl none) (inl e) = rw (none, e) refl
 ends_at-stops u c zone rest (inl none) (inr (t, e)) = rw (none, e) refl
 ends_at-stops u c zone rest (inr z) stop = rw z refl

@@ -1,7 +1,9 @@
 -- A reading's answer is what the text spells.
 use Rattle.std.proofs.Common.{ℕ, ◌/◌, ◌<◌, ◌≤◌, ◌≡◌, inl, inr, Option, Some, None, Result, Ok, Err, List, [], ◌∷◌, ◌++◌, refl, sym, ap, ◌∙◌, arith, subst, pos}
 use Rattle.std.proofs.lemmas.List.{append-nil}
+use Rattle.std.proofs.lemmas.Option.{same_Some}
 use Rattle.jiff_core.proofs.CalendarLemmas.{days_in_month_bounds}
+use Rattle.qd_base.specs.declared.limits.TheConstants.{MAX_TIME}
 use Rattle.qd_time.specs.Calendar.{Civil, civil_of, day_micros}
 use Rattle.qd_time.specs.Fields.{TimestampOf}
 use Rattle.qd_time.specs.Printed.{text_to, time_text}
@@ -12,9 +14,9 @@ use Rattle.qd_time.specs.declared.fault.TimeFault.{TimeFault}
 use Rattle.qd_time.specs.declared.fault.TimeFault.TheVariants.{Form, Range}
 use Rattle.qd_time.specs.declared.units.Unit.{Unit}
 use Rattle.qd_time.specs.declared.units.Unit.TheVariants.{Micro, Milli, Second, Minute, Hour, Day, Month, Year}
-use Rattle.qd_time.proofs.DateFacts.{date_of_day-is}
-use Rattle.qd_time.proofs.ReadingFacts.{some_injective, Found, found_year, reads, cut, IsShort}
-use Rattle.qd_time.proofs.CivilFacts.{civil_of-injective, civil_of-is, civil_of-short, civil_of-start_of}
+use Rattle.qd_time.proofs.DateLemmas.{date_of_day-is}
+use Rattle.qd_time.proofs.ReadingLemmas.{Found, found_year, reads, cut, IsShort}
+use Rattle.qd_time.proofs.CivilLemmas.{civil_of-injective, civil_of-is, civil_of-short, civil_of-start_of}
 
 -- a whole reading spells what it reads
 found_spells : (text : List ℕ) (r : Read) → Found text r → r.rest ≡ [] → Spells text r.unit r.civil
@@ -138,7 +140,7 @@ answer_form text (Err Form) h none = refl
 answer_form text (Err Range) h none = absurd (none.1 (range_answer text (Err Range) h refl))
 
 -- a printed moment spells itself
-pub printed_spells : (ts : ℕ) → ts ≤ 253_402_300_799_999_999 → SpellsTime (time_text ts) ts
+pub printed_spells : (ts : ℕ) → ts ≤ MAX_TIME → SpellsTime (time_text ts) ts
 printed_spells ts h = (
   Micro,
   record {
@@ -159,9 +161,9 @@ no_zone Month = refl
 no_zone Year = refl
 
 -- texts that are alike as far as a unit are of moments of one unit
-pub text_to-apart : (u : Unit) (a b : ℕ) → a ≤ 253_402_300_799_999_999 → b ≤ 253_402_300_799_999_999 → text_to u 84 (civil_of a) ≡ text_to u 84 (civil_of b) → start_of u a ≡ start_of u b
+pub text_to-apart : (u : Unit) (a b : ℕ) → a ≤ MAX_TIME → b ≤ MAX_TIME → text_to u 84 (civil_of a) ≡ text_to u 84 (civil_of b) → start_of u a ≡ start_of u b
 text_to-apart u a b ha hb e =
-    let read = λ (ts : ℕ) (h : ts ≤ 253_402_300_799_999_999). spelled_reads (text_to u 84 (civil_of ts)) u (civil_of ts) (civil_of-short ts h) (record { mark = 84; zone = []; mark_is = inl refl; zone_is = no_zone u; text_is = sym (append-nil (text_to u 84 (civil_of ts))) }) in
+    let read = λ (ts : ℕ) (h : ts ≤ MAX_TIME). spelled_reads (text_to u 84 (civil_of ts)) u (civil_of ts) (civil_of-short ts h) (record { mark = 84; zone = []; mark_is = inl refl; zone_is = no_zone u; text_is = sym (append-nil (text_to u 84 (civil_of ts))) }) in
     let same = sym (read a ha) ∙ ap year_at e ∙ read b hb in
-    let cuts : cut u (civil_of a) ≡ cut u (civil_of b) = ap (λ r. r.civil) (some_injective _ _ same) in
+    let cuts : cut u (civil_of a) ≡ cut u (civil_of b) = ap (λ r. r.civil) (same_Some _ _ same) in
     civil_of-injective (start_of u a) (start_of u b) (civil_of-start_of u a ∙ cuts ∙ sym (civil_of-start_of u b))

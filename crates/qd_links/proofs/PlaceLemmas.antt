@@ -5,7 +5,7 @@ use Rattle.qd_links.specs.Lists.{Lists, list_at, StandsAt, IsListed, StandOnce}
 use Rattle.qd_links.specs.Ring.{slot_at, HoldsLists}
 use Rattle.qd_links.specs.declared.ring.Link.{Link}
 use Rattle.qd_links.proofs.CallerLemmas.{place_in, node_at, stands, list_in}
-use Rattle.qd_links.proofs.Slots.{slot_at-end, cases_slot, one_place}
+use Rattle.qd_links.proofs.SlotLemmas.{slot_at-end, cases_slot, one_place}
 
 module _ (ring : List Link) (heads : ℕ) (v : Lists) (h : HoldsLists ring heads v) where
   -- the list of a place has a head

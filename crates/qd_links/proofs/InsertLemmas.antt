@@ -7,9 +7,9 @@ use Rattle.std.proofs.lemmas.List.Edits.{length-insert}
 use Rattle.qd_links.specs.Lists.{Lists, list_at, with_list, IsListed}
 use Rattle.qd_links.specs.Ring.{next_slot, prev_slot, slot_at, IsRing, HoldsLists, Inserts}
 use Rattle.qd_links.specs.declared.ring.Link.{Link}
-use Rattle.qd_links.proofs.Slots.{slot_at-insert_below, slot_at-insert_at, slot_at-insert_above, one_slot, one_next_slot}
+use Rattle.qd_links.proofs.SlotLemmas.{slot_at-insert_below, slot_at-insert_at, slot_at-insert_above, one_slot, one_next_slot}
 use Rattle.qd_links.proofs.CallerLemmas.{list_at-same, list_at-other, inserted_or_listed, listed_after_insert, inserted_is_listed}
-use Rattle.qd_links.proofs.Places.{slot_of_unlisted, next_of_unlisted}
+use Rattle.qd_links.proofs.PlaceLemmas.{slot_of_unlisted, next_of_unlisted}
 
 module _ (old new : List Link) (heads : ℕ) (v : Lists) (h : HoldsLists old heads v) (k i x : ℕ) (k_in : k < heads) (i_in : i ≤ length (list_at v k)) (x_in : x < v.nodes) (out : ¬ IsListed v x) (ins : Inserts old new (slot_at heads k (list_at v k) (i + 1)) (heads + x)) where
   -- the slot before the new one
@@ -17,14 +17,14 @@ module _ (old new : List Link) (heads : ℕ) (v : Lists) (h : HoldsLists old hea
   before_is = (h.rings k k_in i i_in).1
 
   -- links away from the place stay
-  next_stays : (l j : ℕ) → l < heads → j ≤ length (list_at v l) → ((l ≡ k) × (j ≡ i) → ⊥) → next_slot new (slot_at heads l (list_at v l) j) ≡ slot_at heads l (list_at v l) (j + 1)
+  next_stays : (l j : ℕ) → l < heads → j ≤ length (list_at v l) → ¬ ((l ≡ k) × (j ≡ i)) → next_slot new (slot_at heads l (list_at v l) j) ≡ slot_at heads l (list_at v l) (j + 1)
   next_stays l j l_in j_in apart =
       ins.other_next (slot_at heads l (list_at v l) j)
       (λ e. apart (one_slot old heads l k (list_at v l) (list_at v k) (h.rings l l_in) (h.rings k k_in) l_in k_in j i j_in i_in (e ∙ before_is)))
       (slot_of_unlisted old heads v h x out l j l_in j_in)
       ∙ (h.rings l l_in j j_in).0
 
-  prev_stays : (l j : ℕ) → l < heads → j ≤ length (list_at v l) → ((l ≡ k) × (j ≡ i) → ⊥) → prev_slot new (slot_at heads l (list_at v l) (j + 1)) ≡ slot_at heads l (list_at v l) j
+  prev_stays : (l j : ℕ) → l < heads → j ≤ length (list_at v l) → ¬ ((l ≡ k) × (j ≡ i)) → prev_slot new (slot_at heads l (list_at v l) (j + 1)) ≡ slot_at heads l (list_at v l) j
   prev_stays l j l_in j_in apart =
       ins.other_prev (slot_at heads l (list_at v l) (j + 1))
       (λ e. apart (one_next_slot old heads l k (list_at v l) (list_at v k) (h.rings l l_in) (h.rings k k_in) l_in k_in j i j_in i_in e))

@@ -10,9 +10,9 @@ use Rattle.std.proofs.lemmas.Map.Steps.{length-le_from_distinct_below}
 use Rattle.qd_links.specs.Lists.{Lists, list_at}
 use Rattle.qd_links.specs.Ring.{next_slot, slot_at, IsRing, HoldsLists, nodes_from, lists_of}
 use Rattle.qd_links.specs.declared.ring.Link.{Link}
-use Rattle.qd_links.proofs.Slots.{slot_at-zero, slot_at-node, slot_at-end}
+use Rattle.qd_links.proofs.SlotLemmas.{slot_at-zero, slot_at-node, slot_at-end}
 use Rattle.qd_links.proofs.CallerLemmas.{stands}
-use Rattle.qd_links.proofs.Places.{one_place_of}
+use Rattle.qd_links.proofs.PlaceLemmas.{one_place_of}
 
 -- from place i + 1 of a ring on, the nodes from i on are read, if the limit is large enough
 nodes_from-slot_at : (ring : List Link) (heads k : ℕ) (xs : List ℕ) → IsRing ring heads k xs → k < heads → (limit i : ℕ) → length xs ≤ i + limit → nodes_from ring heads limit (slot_at heads k xs (i + 1)) ≡ drop i xs

@@ -7,9 +7,9 @@ use Rattle.std.proofs.lemmas.List.Edits.{length-remove}
 use Rattle.qd_links.specs.Lists.{Lists, list_at, with_list, StandsAt, IsListed}
 use Rattle.qd_links.specs.Ring.{next_slot, prev_slot, slot_at, IsRing, HoldsLists, Removes}
 use Rattle.qd_links.specs.declared.ring.Link.{Link}
-use Rattle.qd_links.proofs.Slots.{slot_at-node, slot_at-remove_below, slot_at-remove_above, one_slot, one_next_slot}
+use Rattle.qd_links.proofs.SlotLemmas.{slot_at-node, slot_at-remove_below, slot_at-remove_above, one_slot, one_next_slot}
 use Rattle.qd_links.proofs.CallerLemmas.{place_in, node_at, list_in, list_at-same, list_at-other, listed_before_remove, removed_or_listed}
-use Rattle.qd_links.proofs.Places.{head_in, slot_of_unlisted, next_of_unlisted}
+use Rattle.qd_links.proofs.PlaceLemmas.{head_in, slot_of_unlisted, next_of_unlisted}
 
 module _ (old new : List Link) (heads : ℕ) (v : Lists) (h : HoldsLists old heads v) (k i x : ℕ) (at : StandsAt v k i x) (rem : Removes old new (heads + x)) where
   k_in : k < heads
@@ -32,14 +32,14 @@ module _ (old new : List Link) (heads : ℕ) (v : Lists) (h : HoldsLists old hea
   behind_is = ap (λ (n : ℕ). next_slot old n) (sym slot_is) ∙ (h.rings k k_in (i + 1) (omega (arith, i_in))).0
 
   -- links away from the place stay
-  next_stays : (l j : ℕ) → l < heads → j ≤ length (list_at v l) → ((l ≡ k) × (j ≡ i) → ⊥) → ((l ≡ k) × (j ≡ i + 1) → ⊥) → next_slot new (slot_at heads l (list_at v l) j) ≡ slot_at heads l (list_at v l) (j + 1)
+  next_stays : (l j : ℕ) → l < heads → j ≤ length (list_at v l) → ¬ ((l ≡ k) × (j ≡ i)) → ¬ ((l ≡ k) × (j ≡ i + 1)) → next_slot new (slot_at heads l (list_at v l) j) ≡ slot_at heads l (list_at v l) (j + 1)
   next_stays l j l_in j_in apart apart' =
       rem.other_next (slot_at heads l (list_at v l) j)
       (λ e. apart (one_slot old heads l k (list_at v l) (list_at v k) (h.rings l l_in) (h.rings k k_in) l_in k_in j i j_in (omega (arith, i_in)) (e ∙ before_is)))
       (λ e. apart' (one_slot old heads l k (list_at v l) (list_at v k) (h.rings l l_in) (h.rings k k_in) l_in k_in j (i + 1) j_in (omega (arith, i_in)) (e ∙ sym slot_is)))
       ∙ (h.rings l l_in j j_in).0
 
-  prev_stays : (l j : ℕ) → l < heads → j ≤ length (list_at v l) → ((l ≡ k) × (j ≡ i) → ⊥) → ((l ≡ k) × (j ≡ i + 1) → ⊥) → prev_slot new (slot_at heads l (list_at v l) (j + 1)) ≡ slot_at heads l (list_at v l) j
+  prev_stays : (l j : ℕ) → l < heads → j ≤ length (list_at v l) → ¬ ((l ≡ k) × (j ≡ i)) → ¬ ((l ≡ k) × (j ≡ i + 1)) → prev_slot new (slot_at heads l (list_at v l) (j + 1)) ≡ slot_at heads l (list_at v l) j
   prev_stays l j l_in j_in apart apart' =
       rem.other_prev (slot_at heads l (list_at v l) (j + 1))
       (λ e. apart' (one_next_slot old heads l k (list_at v l) (list_at v k) (h.rings l l_in) (h.rings k k_in) l_in k_in j (i + 1) j_in (omega (arith, i_in)) (e ∙ behind_is)))

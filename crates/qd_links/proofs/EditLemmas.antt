@@ -2,25 +2,44 @@
 use Rattle.std.proofs.Common.{◌≡◌, ◌≢◌, ℕ, ◌+◌, ◌<◌, List, [], ◌∷◌, ◌++◌, length, sym, ap, ◌∙◌, subst, arith, Vec}
 use Rattle.std.specs.List.{insert}
 use Rattle.std.specs.Vec.{with_items}
-use Rattle.std.proofs.lemmas.List.{with_items_is}
+use Rattle.std.proofs.lemmas.List.{length-set, with_items_is}
 use Rattle.std.proofs.lemmas.List.Edits.{insert_end}
-use Rattle.qd_links.specs.Lists.{Lists, list_at, with_list, StandsAt, IsListed}
+use Rattle.qd_links.specs.Lists.{Lists, list_at, with_list, StandsAt, IsListed, StandOnce}
 use Rattle.qd_links.specs.Ring.{next_slot, prev_slot, slot_at, HoldsLists, Inserts, lists_of}
 use Rattle.qd_links.specs.declared.ring.Link.{Link}
-use Rattle.qd_links.proofs.Slots.{slot_at-node, slot_at-end, one_slot, one_next_slot}
+use Rattle.qd_links.proofs.SlotLemmas.{slot_at-node, slot_at-end, one_slot, one_next_slot}
 use Rattle.qd_links.proofs.CallerLemmas.{place_in, node_at}
-use Rattle.qd_links.proofs.Places.{head_in, slot_in, next_in, slot_of_unlisted}
-use Rattle.qd_links.proofs.Inserting.{holds_inserted}
+use Rattle.qd_links.proofs.PlaceLemmas.{StandOnce_of, head_in, slot_in, next_in, slot_of_unlisted}
+use Rattle.qd_links.proofs.ReadLemmas.{lists_of-held, holds_view}
+use Rattle.qd_links.proofs.InsertLemmas.{holds_inserted}
 
 -- the lists of a view, in an array that is the same
 pub held : (ring ring' : List Link) (heads : ℕ) (v : Lists) → HoldsLists ring heads (lists_of ring heads) → lists_of ring heads ≡ v → ring' ≡ ring → HoldsLists ring' heads v
 held ring ring' heads v h view same =
     subst (λ (r : List Link). HoldsLists r heads v) (sym same) (subst (λ (w : Lists). HoldsLists ring heads w) view h)
 
--- an array that is written back holds what it held
-pub written_back : {Z : Type 0} (vec : Vec Link Z) (new old : List Link) (heads : ℕ) (v : Lists) → length new ≡ length old → length old ≡ vec.len → HoldsLists new heads v → HoldsLists (with_items vec new).items heads v
-written_back vec new old heads v len old_len h =
-    subst (λ (r : List Link). HoldsLists r heads v) (sym (with_items_is vec new (len ∙ old_len))) h
+-- what a call that gives a list other nodes leaves of the lists
+pub record Edited (new : List Link) (heads : ℕ) (v : Lists) (k : ℕ) (nodes : List ℕ) : Type 0 where
+  pub holds : HoldsLists new heads (lists_of new heads)
+  pub view : lists_of new heads ≡ with_list v k nodes
+  pub as_many : (lists_of new heads).nodes ≡ v.nodes
+  pub count : length (lists_of new heads).lists ≡ length v.lists
+  pub once : StandOnce (lists_of new heads)
+
+-- an array that is written back holds what the slice of it held
+pub edited : {Z : Type 0} (vec : Vec Link Z) (new old : List Link) (heads : ℕ) (v : Lists) (k : ℕ) (nodes : List ℕ) → length new ≡ length old → length old ≡ vec.len → HoldsLists new heads (with_list v k nodes) → Edited (with_items vec new).items heads v k nodes
+edited vec new old heads v k nodes len old_len h =
+    let ring = (with_items vec new).items in
+    let back = subst (λ (r : List Link). HoldsLists r heads (with_list v k nodes)) (sym (with_items_is vec new (len ∙ old_len))) h in
+    let view = lists_of-held ring heads (with_list v k nodes) back in
+    let holds = holds_view ring heads (with_list v k nodes) back in
+    record {
+      holds = holds;
+      view = view;
+      as_many = ap (λ (w : Lists). w.nodes) view;
+      count = ap (λ (w : Lists). length w.lists) view ∙ length-set v.lists k nodes;
+      once = StandOnce_of ring heads (lists_of ring heads) holds;
+    }
 
 module _ (ring : List Link) (heads : ℕ) (v : Lists) (h : HoldsLists ring heads v) where
   -- the slot of a node

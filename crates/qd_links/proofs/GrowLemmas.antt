@@ -6,12 +6,12 @@ use Rattle.std.specs.List.{range_with_len}
 use Rattle.std.proofs.lemmas.List.FromFn.{length-range_with_len, get_or-map-range_with_len, map-range_with_len_more}
 use Rattle.qd_links.specs.Lists.{Lists, list_at, IsListed}
 use Rattle.qd_links.specs.Ring.{next_slot, prev_slot, slot_at, IsRing, HoldsLists, lone_slots, lists_of}
-use Rattle.qd_links.proofs.Reading.{lists_of-held, holds_view}
+use Rattle.qd_links.proofs.ReadLemmas.{lists_of-held, holds_view}
 use Rattle.std.specs.Result.{OnOk, OnErr}
 use Rattle.qd_links.specs.declared.ring.Link.{Link}
-use Rattle.qd_links.proofs.Slots.{slot_at-zero, slot_at-end}
+use Rattle.qd_links.proofs.SlotLemmas.{slot_at-zero, slot_at-end}
 use Rattle.qd_links.proofs.CallerLemmas.{place_in}
-use Rattle.qd_links.proofs.Places.{slot_in, next_in}
+use Rattle.qd_links.proofs.PlaceLemmas.{slot_in, next_in}
 
 pub length-lone_slots : (first count : ℕ) → length (lone_slots first count) ≡ count
 length-lone_slots first count = length-map (range_with_len first count) (λ slot. record { prev = slot; next = slot }) ∙ length-range_with_len first count

@@ -1,11 +1,11 @@
 -- The starts of buckets: the last that isn't after a timestamp, and the first that is after it.
 use Rattle.std.proofs.Common.{ℕ, zero, suc, ◌+◌, ◌-◌, ◌*◌, ◌/◌, ◌<◌, ◌≤◌, ◌≡◌, inl, inr, ap, ◌∙◌, arith, ℤ, pos, negsuc, ◌+ℤ◌, ◌-ℤ◌, ◌<ℤ◌}
 use Rattle.std.proofs.Common.{mul-le-mul}
-use Rattle.std.proofs.lemmas.Bool.{cases_order}
+use Rattle.std.proofs.lemmas.Bool.{cases_order, le-ltb}
 use Rattle.std.specs.Int.{int_div_euclid}
 use Rattle.jiff_core.proofs.SignedLemmas.{signed_arith, int_div_euclid-parts}
 use Rattle.qd_base.specs.declared.limits.TheConstants.{MAX_TIME}
-use Rattle.qd_time.specs.Buckets.{clip, month_midnight, months_to, moved, last_index, IsNear, IsOffset}
+use Rattle.qd_time.specs.Buckets.{clip, month_midnight, months_to, moved, moved_end, last_index, IsNear, IsOffset}
 use Rattle.qd_time.specs.Calendar.{date_of_day, day_micros}
 use Rattle.qd_time.proofs.DateLemmas.{date_of_day-is, date_of_day-year_high}
 use Rattle.qd_time.proofs.MonthLemmas.{month_number-far, day_of_month-number_far, lt-months_to, months_to-mono, months_to-moved, moved-zero, last_index-is}
@@ -50,12 +50,11 @@ stride_reaches from to n low le =
     let at_most : 1 * k ≤ n * k = mul-le-mul low (omega arith) in
     (omega arith, omega arith, omega arith)
 
--- the index of the last moved moment, where the month's own isn't after the timestamp
-pub last_index-here : (t0 n ts : ℕ) → 1 ≤ n → t0 ≤ ts → let k = (months_to ts - months_to t0) / n in moved t0 (k * n) ≤ ts → last_index (λ k. moved t0 (k * n)) ts (months_to ts) ≡ k
-last_index-here t0 n ts low reached here =
-    let k = (months_to ts - months_to t0) / n in
+-- the index of the last moved moment, where that of the timestamp's own month isn't after it
+pub last_index-here : (t0 n ts k : ℕ) → k ≡ (months_to ts - months_to t0) / n → 1 ≤ n → t0 ≤ ts → moved t0 (k * n) ≤ ts → last_index (λ k. moved t0 (k * n)) ts (months_to ts) ≡ k
+last_index-here t0 n ts k e low reached here =
     let reaches = stride_reaches (months_to t0) (months_to ts) n low (months_to-mono t0 ts reached) in
-    last_index-is (λ k. moved t0 (k * n)) ts k (months_to ts) reaches.0 here (moved-later t0 n ts k reaches.2)
+    last_index-is (λ k. moved t0 (k * n)) ts k (months_to ts) (omega (arith, reaches.0)) here (moved-later t0 n ts k (rw e reaches.2))
 
 pub from_first : (t0 n ts k : ℕ) → t0 ≤ ts → ts < moved t0 (k * n) → 1 ≤ k
 from_first t0 n ts zero reached after =
@@ -64,16 +63,21 @@ from_first t0 n ts zero reached after =
 from_first t0 n ts (suc k) reached after = omega arith
 
 -- and where it is
-pub last_index-before : (t0 n ts : ℕ) → 1 ≤ n → t0 ≤ ts → let k = (months_to ts - months_to t0) / n in ts < moved t0 (k * n) → (1 ≤ k) × (last_index (λ k. moved t0 (k * n)) ts (months_to ts) ≡ k - 1)
-last_index-before t0 n ts low reached after =
-    let k = (months_to ts - months_to t0) / n in
+pub last_index-before : (t0 n ts k : ℕ) → k ≡ (months_to ts - months_to t0) / n → 1 ≤ n → t0 ≤ ts → ts < moved t0 (k * n) → last_index (λ k. moved t0 (k * n)) ts (months_to ts) ≡ k - 1
+last_index-before t0 n ts k e low reached after =
     let reaches = stride_reaches (months_to t0) (months_to ts) n low (months_to-mono t0 ts reached) in
+    let fits : months_to t0 + k * n ≤ months_to ts = rw e reaches.1 in
     let some = from_first t0 n ts k reached after in
     let one_less : (k - 1 + 1) * n ≡ k * n = ap (λ m. m * n) (omega arith) in
     let before : moved t0 ((k - 1) * n) < ts = lt-months_to (moved t0 ((k - 1) * n)) ts (omega (arith, months_to-moved t0 ((k - 1) * n))) in
     let later : (j : ℕ) → k - 1 < j → ts < moved t0 (j * n) = λ j lt. elim (cases_order k j) [
       | inl same ↦ rw (← same) after
-      | inr (inl more) ↦ moved-later t0 n ts k reaches.2 j more
+      | inr (inl more) ↦ moved-later t0 n ts k (rw e reaches.2) j more
       | inr (inr less) ↦ absurd (omega arith)
     ] in
-    (some, last_index-is (λ k. moved t0 (k * n)) ts (k - 1) (months_to ts) (omega (arith, reaches.0)) (omega arith) later)
+    last_index-is (λ k. moved t0 (k * n)) ts (k - 1) (months_to ts) (omega (arith, reaches.0)) (omega arith) later
+
+-- the moment after the last one, moved past the year 9999
+pub moved_end-far : (ts n t0 k : ℕ) → t0 ≤ ts → k ≡ last_index (λ k. moved t0 (k * n)) ts (months_to ts) → 96_359 < months_to t0 + (k + 1) * n → MAX_TIME < moved_end n t0 ts
+moved_end-far ts n t0 k reached e far =
+    rw (le-ltb ts t0 reached, ← e) (moved-far t0 ((k + 1) * n) far)

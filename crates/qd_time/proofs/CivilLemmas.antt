@@ -29,6 +29,17 @@ civil_of-moment day hour minute second micro h n s u =
     same_civil (date_of_day (ts / day_micros)) (date_of_day day) _ _ _ _ hour minute second micro
     (ap date_of_day (omega arith)) (omega arith) (omega arith) (omega arith) (omega arith)
 
+-- what a date of the calendar with a time of day shows
+pub civil_of-date : (date : CalendarDate) (day hour minute second micro : ℕ) → IsCalendarDate date → day ≡ day_number date → hour < 24 → minute < 60 → second < 60 → micro < 1_000_000 → civil_of (moment day hour minute second micro) ≡ record { date = date; hour = hour; minute = minute; second = second; micro = micro }
+civil_of-date date day hour minute second micro is e h n s u =
+    civil_of-moment day hour minute second micro h n s u
+    ∙ ap (λ (d : CalendarDate). let shows : Civil = record { date = d; hour = hour; minute = minute; second = second; micro = micro } in shows) (ap date_of_day e ∙ date_of_day-day_number date is)
+
+-- the date of a moment from 1970 on
+pub IsCalendarDate-from_civil : (c : Civil) → IsCivil c → 1970 ≤ c.date.year → IsCalendarDate c.date
+IsCalendarDate-from_civil c is low =
+    record { year_low = low; month_low = is.month_low; month_high = is.month_high; day_low = is.day_low; day_high = is.day_high }
+
 pub moment-civil_of : (ts : ℕ) → let c = civil_of ts in moment (ts / day_micros) c.hour c.minute c.second c.micro ≡ ts
 moment-civil_of ts = omega arith
 

@@ -1,5 +1,5 @@
 -- An interval's answer is what the text spells.
-use Rattle.std.proofs.Common.{ℕ, ◌+◌, ◌-◌, ◌*◌, ◌<◌, ◌≤◌, ◌≡◌, inl, inr, min, nat_lt, cond, Option, Some, None, Result, Ok, Err, List, ◌++◌, refl, sym, ap, ◌∙◌, arith, subst, append_assoc}
+use Rattle.std.proofs.Common.{◌↔◌, ℕ, ◌+◌, ◌-◌, ◌*◌, ◌<◌, ◌≤◌, ◌≡◌, inl, inr, min, nat_lt, cond, Option, Some, None, Result, Ok, Err, List, ◌++◌, refl, sym, ap, ◌∙◌, arith, subst, append_assoc}
 use Rattle.std.proofs.lemmas.Bool.{cases_Bool, lt-ltb, ltb-true, le-ltb}
 use Rattle.std.proofs.lemmas.Bool.Decides.{nat_tests}
 use Rattle.qd_base.specs.declared.limits.TheConstants.{MAX_TIME}
@@ -45,7 +45,7 @@ micros_is (later number span) h =
     let whole : min (suffix_count (later number span)) 1_000_001 ≡ suffix_count (later number span) = omega arith in
     ap (λ n. n * span_of (later number span)) whole
 
-pub answer_ok : (text : List ℕ) (result : Result (ℕ × ℕ) TimeFault) (first last : ℕ) → AnswersInterval (year_at text) result → SpellsInterval text first last → result ≡ Ok (first, last)
+answer_ok : (text : List ℕ) (result : Result (ℕ × ℕ) TimeFault) (first last : ℕ) → AnswersInterval (year_at text) result → SpellsInterval text first last → result ≡ Ok (first, last)
 unfolding IsRead
 answer_ok text result first last h s =
     let c = civil_of first in
@@ -85,7 +85,7 @@ outside_far text base s result u ts h is_suffix e spells far =
     found.2 ∙ ap (interval_of u (n, span_of s)) (time_answer c ts found.0 refl found.1)
     ∙ ap (λ b. cond b (Err Range) (Ok (ts, last))) (lt-ltb 1_000_000 n many)
 
-pub answer_range : (text : List ℕ) (result : Result (ℕ × ℕ) TimeFault) → AnswersInterval (year_at text) result → SpellsOutside text → result ≡ Err Range
+answer_range : (text : List ℕ) (result : Result (ℕ × ℕ) TimeFault) → AnswersInterval (year_at text) result → SpellsOutside text → result ≡ Err Range
 answer_range text result h s =
     elim s.outside [
       | inl early ↦ outside_early text s.base s.suffix result h s.is_suffix s.text_is early
@@ -191,19 +191,29 @@ range_spells : (text : List ℕ) (o : Option Read) → year_at text ≡ o → An
 range_spells text None e h = absurd cc
 range_spells text (Some r) e h = range_with text r (suffix_at r.rest) (found_year text r e) refl h
 
-pub ok_answer : (text : List ℕ) (result : Result (ℕ × ℕ) TimeFault) (first last : ℕ) → AnswersInterval (year_at text) result → result ≡ Ok (first, last) → SpellsInterval text first last
+ok_answer : (text : List ℕ) (result : Result (ℕ × ℕ) TimeFault) (first last : ℕ) → AnswersInterval (year_at text) result → result ≡ Ok (first, last) → SpellsInterval text first last
 ok_answer text result first last h e =
     ok_spells text (year_at text) first last refl (subst (AnswersInterval (year_at text)) e h)
 
-pub range_answer : (text : List ℕ) (result : Result (ℕ × ℕ) TimeFault) → AnswersInterval (year_at text) result → result ≡ Err Range → SpellsOutside text
+range_answer : (text : List ℕ) (result : Result (ℕ × ℕ) TimeFault) → AnswersInterval (year_at text) result → result ≡ Err Range → SpellsOutside text
 range_answer text result h e =
     range_spells text (year_at text) refl (subst (AnswersInterval (year_at text)) e h)
 
-pub form_answer : (text : List ℕ) (result : Result (ℕ × ℕ) TimeFault) → AnswersInterval (year_at text) result → result ≡ Err Form → IsNoInterval text
+form_answer : (text : List ℕ) (result : Result (ℕ × ℕ) TimeFault) → AnswersInterval (year_at text) result → result ≡ Err Form → IsNoInterval text
 form_answer text result h e =
     (λ first last s. let other = answer_ok text result first last h s in cc, λ s. let other = answer_range text result h s in cc)
 
-pub answer_form : (text : List ℕ) (result : Result (ℕ × ℕ) TimeFault) → AnswersInterval (year_at text) result → IsNoInterval text → result ≡ Err Form
+answer_form : (text : List ℕ) (result : Result (ℕ × ℕ) TimeFault) → AnswersInterval (year_at text) result → IsNoInterval text → result ≡ Err Form
 answer_form text (Ok (first, last)) h never = absurd (never.0 first last (ok_answer text (Ok (first, last)) first last h refl))
 answer_form text (Err Form) h never = refl
 answer_form text (Err Range) h never = absurd (never.1 (range_answer text (Err Range) h refl))
+
+-- each answer is given exactly where the text spells it
+pub is_ok : (text : List ℕ) (result : Result (ℕ × ℕ) TimeFault) → AnswersInterval (year_at text) result → (first last : ℕ) → (result ≡ Ok (first, last)) ↔ SpellsInterval text first last
+is_ok text result h first last = (ok_answer text result first last h, answer_ok text result first last h)
+
+pub is_range : (text : List ℕ) (result : Result (ℕ × ℕ) TimeFault) → AnswersInterval (year_at text) result → (result ≡ Err Range) ↔ SpellsOutside text
+is_range text result h = (range_answer text result h, answer_range text result h)
+
+pub is_form : (text : List ℕ) (result : Result (ℕ × ℕ) TimeFault) → AnswersInterval (year_at text) result → (result ≡ Err Form) ↔ IsNoInterval text
+is_form text result h = (form_answer text result h, answer_form text result h)

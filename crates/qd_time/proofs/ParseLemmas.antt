@@ -1,5 +1,5 @@
 -- A reading's answer is what the text spells.
-use Rattle.std.proofs.Common.{ℕ, ◌/◌, ◌<◌, ◌≤◌, ◌≡◌, inl, inr, Option, Some, None, Result, Ok, Err, List, [], ◌∷◌, ◌++◌, refl, sym, ap, ◌∙◌, arith, subst, pos}
+use Rattle.std.proofs.Common.{◌↔◌, ℕ, ◌/◌, ◌<◌, ◌≤◌, ◌≡◌, inl, inr, Option, Some, None, Result, Ok, Err, List, [], ◌∷◌, ◌++◌, refl, sym, ap, ◌∙◌, arith, subst, pos}
 use Rattle.std.proofs.lemmas.List.{append-nil}
 use Rattle.std.proofs.lemmas.Option.{same_Some}
 use Rattle.jiff_core.proofs.CalendarLemmas.{days_in_month_bounds}
@@ -117,27 +117,37 @@ pub answer_ok : (text : List ℕ) (result : Result ℕ TimeFault) (ts : ℕ) →
 answer_ok text result ts h (u, s) =
     time_answer (civil_of ts) ts result refl (subst (λ o. Answers o result) (time_reads text u ts s) h)
 
-pub answer_range : (text : List ℕ) (result : Result ℕ TimeFault) → Answers (year_at text) result → SpellsEarly text → result ≡ Err Range
+answer_range : (text : List ℕ) (result : Result ℕ TimeFault) → Answers (year_at text) result → SpellsEarly text → result ≡ Err Range
 answer_range text result h s =
     let short = early_short s.civil s.is_civil s.early in
     let is = cut_is s.unit s.civil s.is_civil in
     let early : (cut s.unit s.civil).date.year < 1970 = rw is.1 s.early in
     early_answer (cut s.unit s.civil) result is.0 early (subst (λ o. Answers o result) (spelled_reads text s.unit s.civil short s.spells) h)
 
-pub ok_answer : (text : List ℕ) (result : Result ℕ TimeFault) (ts : ℕ) → Answers (year_at text) result → result ≡ Ok ts → SpellsTime text ts
+ok_answer : (text : List ℕ) (result : Result ℕ TimeFault) (ts : ℕ) → Answers (year_at text) result → result ≡ Ok ts → SpellsTime text ts
 ok_answer text result ts h e = ok_spells text (year_at text) ts refl (subst (Answers (year_at text)) e h)
 
-pub range_answer : (text : List ℕ) (result : Result ℕ TimeFault) → Answers (year_at text) result → result ≡ Err Range → SpellsEarly text
+range_answer : (text : List ℕ) (result : Result ℕ TimeFault) → Answers (year_at text) result → result ≡ Err Range → SpellsEarly text
 range_answer text result h e = range_spells text (year_at text) refl (subst (Answers (year_at text)) e h)
 
-pub form_answer : (text : List ℕ) (result : Result ℕ TimeFault) → Answers (year_at text) result → result ≡ Err Form → IsNoTime text
+form_answer : (text : List ℕ) (result : Result ℕ TimeFault) → Answers (year_at text) result → result ≡ Err Form → IsNoTime text
 form_answer text result h e =
     (λ ts s. let other = answer_ok text result ts h s in cc, λ s. let other = answer_range text result h s in cc)
 
-pub answer_form : (text : List ℕ) (result : Result ℕ TimeFault) → Answers (year_at text) result → IsNoTime text → result ≡ Err Form
+answer_form : (text : List ℕ) (result : Result ℕ TimeFault) → Answers (year_at text) result → IsNoTime text → result ≡ Err Form
 answer_form text (Ok ts) h none = absurd (none.0 ts (ok_answer text (Ok ts) ts h refl))
 answer_form text (Err Form) h none = refl
 answer_form text (Err Range) h none = absurd (none.1 (range_answer text (Err Range) h refl))
+
+-- each answer is given exactly where the text spells it
+pub is_ok : (text : List ℕ) (result : Result ℕ TimeFault) → Answers (year_at text) result → (ts : ℕ) → (result ≡ Ok ts) ↔ SpellsTime text ts
+is_ok text result h ts = (ok_answer text result ts h, answer_ok text result ts h)
+
+pub is_range : (text : List ℕ) (result : Result ℕ TimeFault) → Answers (year_at text) result → (result ≡ Err Range) ↔ SpellsEarly text
+is_range text result h = (range_answer text result h, answer_range text result h)
+
+pub is_form : (text : List ℕ) (result : Result ℕ TimeFault) → Answers (year_at text) result → (result ≡ Err Form) ↔ IsNoTime text
+is_form text result h = (form_answer text result h, answer_form text result h)
 
 -- a printed moment spells itself
 pub printed_spells : (ts : ℕ) → ts ≤ MAX_TIME → SpellsTime (time_text ts) ts

@@ -19,7 +19,7 @@ use Rattle.qd_time.proofs.DateLemmas.{date_of_day-is}
 use Rattle.qd_time.proofs.UnitLemmas.{in_unit, midnight_day}
 use Rattle.qd_time.proofs.DateOrderLemmas.{date_of_day-day_number}
 use Rattle.qd_time.proofs.MonthLemmas.{month_number-year, month_number-day_of_month, day_of_month-is, day_of_month-first, lt-months_to, months_to-mono, months_to-moved, moved-zero}
-use Rattle.qd_time.proofs.BucketLemmas.{near, stride_reaches, last_index-here, last_index-before, moved-later}
+use Rattle.qd_time.proofs.BucketLemmas.{near, stride_reaches, from_first, last_index-here, last_index-before, moved-later}
 use borrow.Author.Differences.{up, down}
 
 clip-mono : (a b : ℤ) → a ≤ℤ b → clip a ≤ clip b
@@ -216,12 +216,13 @@ last_moved ts t0 n low reached =
     let reaches = stride_reaches (months_to t0) (months_to ts) n low (months_to-mono t0 ts reached) in
     let P : ℕ → Type 0 = λ k. (moved t0 (k * n) ≤ ts) × (ts < moved t0 ((k + 1) * n)) in
     elim (cases_lt ts (moved t0 (q * n))) [
-      | inr here ↦ subst P (sym (last_index-here t0 n ts low reached here)) (here, moved-later t0 n ts q reaches.2 (q + 1) (omega arith))
+      | inr here ↦ subst P (sym (last_index-here t0 n ts q refl low reached here)) (here, moved-later t0 n ts q reaches.2 (q + 1) (omega arith))
       | inl after ↦
-          let before = last_index-before t0 n ts low reached after in
-          let next : (q - 1 + 1) * n ≡ q * n = ap (λ m. m * n) (omega (arith, before.0)) in
+          let some = from_first t0 n ts q reached after in
+          let before = last_index-before t0 n ts q refl low reached after in
+          let next : (q - 1 + 1) * n ≡ q * n = ap (λ m. m * n) (omega (arith, some)) in
           let earlier = lt-months_to (moved t0 ((q - 1) * n)) ts (omega (arith, months_to-moved t0 ((q - 1) * n))) in
-          subst P (sym before.1) (omega arith, rw next after)
+          subst P (sym before) (omega arith, rw next after)
     ]
 
 module _ (ts t0 n : ℕ) (low : 1 ≤ n) (reached : t0 ≤ ts) where

@@ -87,6 +87,7 @@ pub(crate) enum Period {
 impl Stride {
     ghost use Rattle.qd_time.specs.Buckets.{period_of};
 
+    /// The stride as microseconds or as months.
     fn period(self) -> Period
         requires { IsStride self }
         ensures value { result ≡ period_of self }
@@ -154,7 +155,7 @@ fn offset_micros(minutes: i32) -> i64
     ensures value { result ≡ offset_micros minutes }
     ensures bound { IsOffset result }
 {
-    minutes as i64 * 60_000_000
+    minutes as i64 * MINUTE as i64
 }
 
 /// How far a moment lies after the offset.
@@ -318,8 +319,19 @@ fn last_period(ts: u64, n: u64, t0: u64) -> u64
     ensures value { result ≡ last_index (λ k. moved t0 (k * n)) ts (months_to ts) }
     ensures bound { months_to t0 + result * n ≤ 96_359 }
 {
-    let k = (month_number(ts / DAY) - month_number(t0 / DAY)) / n;
+    let k = strides_between(ts, n, t0);
     if moved(t0, k * n) <= ts { k } else { k - 1 }
+}
+
+/// How many strides fit between the months of `t0` and of the moment.
+fn strides_between(ts: u64, n: u64, t0: u64) -> u64
+    requires ts_high { ts ≤ MAX_TIME }
+    requires reached { t0 ≤ ts }
+    requires n_low { 1 ≤ n }
+    ensures value { result ≡ (months_to ts - months_to t0) / n }
+    ensures bound { months_to t0 + result * n ≤ 96_359 }
+{
+    (month_number(ts / DAY) - month_number(t0 / DAY)) / n
 }
 
 /// The start after the bucket that contains the moment, by months from `t0`, unless it is past the

@@ -5,18 +5,20 @@ ghost use Rattle.qd_time.specs.Calendar.{CalendarDate, date_of_day, day_number, 
 
 use jiff_core::civil::{self, Date};
 
+/// A millisecond in microseconds.
 pub(crate) const MILLI: u64 = 1000;
 
+/// A second in microseconds.
 pub(crate) const SECOND: u64 = 1_000_000;
 
+/// A minute in microseconds.
 pub(crate) const MINUTE: u64 = 60_000_000;
 
+/// An hour in microseconds.
 pub(crate) const HOUR: u64 = 3_600_000_000;
 
+/// A day in microseconds: there are no leap seconds.
 pub(crate) const DAY: u64 = 86_400_000_000;
-
-/// The days from the first date that jiff has to 1 January 1970.
-const EPOCH: u32 = 4_371_587;
 
 /// The date with that day number, where 1970-01-01 is day 0 and 9999-12-31 day 2,932,896.
 pub(crate) fn date_of_day(day: u64) -> Date
@@ -105,3 +107,6 @@ pub(crate) fn day_of_month(month: u64, day: u8) -> u64
         day.min(civil::days_in_month(year as i16, month)),
     )
 }
+
+/// The days from the first date that jiff has to 1 January 1970.
+const EPOCH: u32 = 4_371_587;

@@ -31,22 +31,6 @@ pub fn parse_time(text: &[u8]) -> Result<u64, TimeFault>
     read_whole(text)
 }
 
-/// The timestamp of a text that is read to its end.
-fn read_whole(text: &[u8]) -> Result<u64, TimeFault>
-    ensures { Answers (year_at text.now) result }
-{
-    match read_year(text) {
-        Some(
-            Reading {
-                fields,
-                rest: [],
-                ..
-            },
-        ) => fields.timestamp(),
-        _ => Err(TimeFault::Form),
-    }
-}
-
 /// The first and the last microsecond that the text names, both included.
 ///
 /// The text is one that [`parse_time`] reads, and may be followed by a suffix: `;`, one or more
@@ -63,6 +47,22 @@ pub fn parse_interval(text: &[u8]) -> Result<(u64, u64), TimeFault>
     ensures form { (result ≡ Err TimeFault.Form) ↔ IsNoInterval text.now }
 {
     read_interval(text)
+}
+
+/// The timestamp of a text that is read to its end.
+fn read_whole(text: &[u8]) -> Result<u64, TimeFault>
+    ensures { Answers (year_at text.now) result }
+{
+    match read_year(text) {
+        Some(
+            Reading {
+                fields,
+                rest: [],
+                ..
+            },
+        ) => fields.timestamp(),
+        _ => Err(TimeFault::Form),
+    }
 }
 
 /// The interval of a text that is read to its end.

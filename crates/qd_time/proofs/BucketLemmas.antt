@@ -7,6 +7,7 @@ use Rattle.jiff_core.proofs.SignedLemmas.{signed_arith, int_div_euclid-parts}
 use Rattle.qd_base.specs.declared.limits.TheConstants.{MAX_TIME}
 use Rattle.qd_time.specs.Buckets.{clip, month_midnight, months_to, moved, moved_end, last_index, IsNear, IsOffset}
 use Rattle.qd_time.specs.Calendar.{date_of_day, day_micros}
+use Rattle.qd_time.specs.declared.calendar.TheConstants.{LAST_MONTH}
 use Rattle.qd_time.proofs.DateLemmas.{date_of_day-is, date_of_day-year_high}
 use Rattle.qd_time.proofs.MonthLemmas.{month_number-far, day_of_month-number_far, lt-months_to, months_to-mono, months_to-moved, moved-zero, last_index-is}
 
@@ -21,18 +22,18 @@ clip-high (pos n) h = omega (arith, signed_arith)
 clip-high (negsuc n) h = absurd (omega (arith, signed_arith))
 
 -- a month past January 10000 begins past the last timestamp, at any offset
-pub clip-far : (m : ℕ) (offset : ℤ) → 96_360 < m → IsOffset offset → MAX_TIME < clip (pos (month_midnight m) +ℤ offset)
+pub clip-far : (m : ℕ) (offset : ℤ) → LAST_MONTH + 1 < m → IsOffset offset → MAX_TIME < clip (pos (month_midnight m) +ℤ offset)
 clip-far m offset h in_day =
     clip-high (pos (month_midnight m) +ℤ offset) (omega (arith, signed_arith, month_number-far m h))
 
 -- a moment moved past the year 9999
-pub moved-far : (t0 months : ℕ) → 96_359 < months_to t0 + months → MAX_TIME < moved t0 months
+pub moved-far : (t0 months : ℕ) → LAST_MONTH < months_to t0 + months → MAX_TIME < moved t0 months
 moved-far t0 months h =
     let n = t0 / day_micros in
     omega (arith, day_of_month-number_far (months_to t0 + months) (date_of_day n).day (date_of_day-is n).0.day_low h)
 
 -- months of timestamps
-pub months_to-high : (ts : ℕ) → ts ≤ MAX_TIME → months_to ts ≤ 96_359
+pub months_to-high : (ts : ℕ) → ts ≤ MAX_TIME → months_to ts ≤ LAST_MONTH
 months_to-high ts h =
     let n = ts / day_micros in
     omega (arith, date_of_day-year_high n (omega arith), (date_of_day-is n).0.month_high)
@@ -78,6 +79,6 @@ last_index-before t0 n ts k e low reached after =
     last_index-is (λ k. moved t0 (k * n)) ts (k - 1) (months_to ts) (omega (arith, reaches.0)) (omega arith) later
 
 -- the moment after the last one, moved past the year 9999
-pub moved_end-far : (ts n t0 k : ℕ) → t0 ≤ ts → k ≡ last_index (λ k. moved t0 (k * n)) ts (months_to ts) → 96_359 < months_to t0 + (k + 1) * n → MAX_TIME < moved_end n t0 ts
+pub moved_end-far : (ts n t0 k : ℕ) → t0 ≤ ts → k ≡ last_index (λ k. moved t0 (k * n)) ts (months_to ts) → LAST_MONTH < months_to t0 + (k + 1) * n → MAX_TIME < moved_end n t0 ts
 moved_end-far ts n t0 k reached e far =
     rw (le-ltb ts t0 reached, ← e) (moved-far t0 ((k + 1) * n) far)

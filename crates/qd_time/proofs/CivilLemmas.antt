@@ -10,6 +10,7 @@ use Rattle.qd_time.specs.Spelled.{IsCivil}
 use Rattle.qd_time.specs.Units.{start_of}
 use Rattle.qd_time.specs.declared.units.Unit.{Unit}
 use Rattle.qd_time.specs.declared.units.Unit.TheVariants.{Micro, Milli, Second, Minute, Hour, Day, Month, Year}
+use Rattle.qd_time.specs.declared.calendar.TheConstants.{LAST_DAY}
 use Rattle.qd_time.proofs.DateLemmas.{date_of_day-is, date_of_day-year_high, first_is}
 use Rattle.qd_time.proofs.DateOrderLemmas.{count-lt_year, count-day_number, date_of_day-day_number, day_number-date_of_day}
 use Rattle.qd_time.proofs.UnitLemmas.{midnight_day}
@@ -106,7 +107,7 @@ pub epoch_day-day_number : (d : Date) (c : CalendarDate) → IsCalendarDate c �
 epoch_day-day_number d c h y m day =
     rw (y, m, day) (omega (arith, signed_arith, days_from_civil-day_count (pos c.year) c.month c.day, count-day_number c h))
 
-pub day_number-high : (c : CalendarDate) → IsCalendarDate c → c.year ≤ 9999 → day_number c ≤ 2_932_896
+pub day_number-high : (c : CalendarDate) → IsCalendarDate c → c.year ≤ 9999 → day_number c ≤ LAST_DAY
 day_number-high c h high =
     let next : CalendarDate = record { year = 10000; month = 1; day = 1 } in
     omega (arith, count-day_number c h, day_count-end, count-lt_year c next h (first_is 10000 1 (omega arith) (omega arith) (omega arith)) (omega arith))

@@ -8,6 +8,7 @@ use Rattle.jiff_core.proofs.SignedLemmas.{signed_arith}
 use Rattle.jiff_core.proofs.DateLemmas.{epoch_day_injective}
 use Rattle.jiff_core.proofs.CalendarLemmas.{day_count-epoch, day_count-day, day_count-next_month, day_count-next_year, day_count-last_of_year, day_count-later_year, day_count-end, day_count-day_of_year, days_in_month_bounds, days_from_civil-day_count}
 use Rattle.qd_time.specs.Calendar.{CalendarDate, month_days, month_after, day_after, date_of_day, IsDateOfDay, IsCalendarDate}
+use Rattle.qd_time.specs.declared.calendar.TheConstants.{LAST_DAY}
 
 -- the days before a date, as jiff counts them from the year -10000
 abbrev pub count : CalendarDate → ℕ
@@ -77,7 +78,7 @@ date_of_day-is (suc n) =
     (here.0, omega (arith, here.1, before.1))
 
 -- the dates of day numbers up to that of 31 December 9999 lie before the year 10000
-pub date_of_day-year_high : (n : ℕ) → n ≤ 2_932_896 → (date_of_day n).year ≤ 9999
+pub date_of_day-year_high : (n : ℕ) → n ≤ LAST_DAY → (date_of_day n).year ≤ 9999
 date_of_day-year_high n h =
     let d = date_of_day n in
     let is = date_of_day-is n in
@@ -87,7 +88,7 @@ date_of_day-year_high n h =
     ]
 
 -- the date of a day number as a date of jiff's
-pub jiff_date : (n : ℕ) → n ≤ 2_932_896 → Date
+pub jiff_date : (n : ℕ) → n ≤ LAST_DAY → Date
 jiff_date n h =
     let is = (date_of_day-is n).0 in
     let high = date_of_day-year_high n h in
@@ -100,13 +101,13 @@ jiff_date n h =
       day_in = (is.day_low, is.day_high);
     }
 
-pub jiff_date-epoch_day : (n : ℕ) (h : n ≤ 2_932_896) → epoch_day (jiff_date n h) ≡ pos n
+pub jiff_date-epoch_day : (n : ℕ) (h : n ≤ LAST_DAY) → epoch_day (jiff_date n h) ≡ pos n
 unfolding jiff_date
 jiff_date-epoch_day n h =
     omega (arith, signed_arith, days_from_civil-day_count (pos (date_of_day n).year) (date_of_day n).month (date_of_day n).day, (date_of_day-is n).1)
 
 -- a date of jiff's with that day number is that date
-pub IsDateOfDay-epoch_day : (d : Date) (n : ℕ) → n ≤ 2_932_896 → epoch_day d ≡ pos n → IsDateOfDay d n
+pub IsDateOfDay-epoch_day : (d : Date) (n : ℕ) → n ≤ LAST_DAY → epoch_day d ≡ pos n → IsDateOfDay d n
 unfolding jiff_date
 IsDateOfDay-epoch_day d n h e =
     let same = epoch_day_injective d (jiff_date n h) (e ∙ sym (jiff_date-epoch_day n h)) in

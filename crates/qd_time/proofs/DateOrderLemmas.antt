@@ -7,6 +7,7 @@ use Rattle.jiff_core.specs.Date.{ordinal}
 use Rattle.jiff_core.proofs.SignedLemmas.{signed_arith}
 use Rattle.jiff_core.proofs.CalendarLemmas.{day_count-epoch, day_count-day, day_count-later_year, day_count-next_year, day_count-end, day_count-day_of_year, day_of_year_before, days_of_months_all}
 use Rattle.qd_time.specs.Calendar.{CalendarDate, IsCalendarDate, month_days, month_first, month_after, year_first, year_after, date_of_day, day_number, IsDateOfDay}
+use Rattle.qd_time.specs.declared.calendar.TheConstants.{LAST_DAY}
 use Rattle.qd_time.proofs.DateLemmas.{count, date_of_day-is, month_after-is, first_is, date_of_day-year_high}
 
 -- a date's place in its year is at most the year's days
@@ -123,7 +124,7 @@ after_last-count : count after_last ≡ 7_304_850
 after_last-count = day_count-end
 
 -- the month after one before the year 10000 begins at 1 January 10000 at the latest
-pub month_after_high : (n : ℕ) → n ≤ 2_932_896 → day_number (month_after (date_of_day n)) ≤ 2_932_897
+pub month_after_high : (n : ℕ) → n ≤ LAST_DAY → day_number (month_after (date_of_day n)) ≤ LAST_DAY + 1
 month_after_high n h =
     let d = date_of_day n in
     let is = (date_of_day-is n).0 in
@@ -154,7 +155,7 @@ year_after-number n =
     let next = first_is (d.year + 1) 1 (omega (arith, is.0.year_low)) (omega arith) (omega arith) in
     omega (arith, count-day_number (year_first d) first, count-day_number (year_after d) next, day_count-next_year (pos d.year) (pos (d.year + 1)) (omega (arith, signed_arith)) refl)
 
-pub year_after_high : (n : ℕ) → n ≤ 2_932_896 → day_number (year_after (date_of_day n)) ≤ 2_932_897
+pub year_after_high : (n : ℕ) → n ≤ LAST_DAY → day_number (year_after (date_of_day n)) ≤ LAST_DAY + 1
 year_after_high n h =
     let d = date_of_day n in
     let is = (date_of_day-is n).0 in

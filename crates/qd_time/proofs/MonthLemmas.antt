@@ -7,6 +7,7 @@ use Rattle.jiff_core.specs.Calendar.{days_in_month}
 use Rattle.jiff_core.proofs.CalendarLemmas.{days_in_month_bounds, day_count-end}
 use Rattle.qd_time.specs.Buckets.{month_number, day_of_month, moved, months_to, last_index}
 use Rattle.qd_time.specs.Calendar.{CalendarDate, IsCalendarDate, day_micros, date_of_day, day_number}
+use Rattle.qd_time.specs.declared.calendar.TheConstants.{LAST_DAY, LAST_MONTH}
 use Rattle.qd_time.proofs.DateLemmas.{count, date_of_day-is, first_is, count-next_year}
 use Rattle.qd_time.proofs.DateOrderLemmas.{count-lt_year, count-lt_month, count-month, same_parts, count-day_number, date_of_day-day_number, day_number-date_of_day}
 
@@ -80,36 +81,36 @@ far-number =
     omega (arith, count-day_number far far_is, count-month far first far_is is refl refl, day_count-end)
 
 -- months past January 10000 begin long after the last timestamp
-pub month_number-far : (m : ℕ) → 96_360 < m → 2_932_927 < day_number (day_of_month m 1)
+pub month_number-far : (m : ℕ) → LAST_MONTH + 1 < m → 2_932_927 < day_number (day_of_month m 1)
 month_number-far m h =
     let is = day_of_month-is m 1 (omega arith) in
     omega (arith, far-number, count-day_number far far_is, count-day_number (day_of_month m 1) is, count-lt_months far (day_of_month m 1) far_is is (omega arith))
 
-pub month_number-high : (n : ℕ) → n ≤ 2_932_897 → month_number (date_of_day n) ≤ 96_360
+pub month_number-high : (n : ℕ) → n ≤ LAST_DAY + 1 → month_number (date_of_day n) ≤ LAST_MONTH + 1
 month_number-high n h =
     let is = date_of_day-is n in
-    elim (cases_lt 96_360 (month_number (date_of_day n))) [
+    elim (cases_lt (LAST_MONTH + 1) (month_number (date_of_day n))) [
       | inl lt ↦ absurd (omega (arith, is.1, far-number, count-day_number far far_is, count-lt_months far (date_of_day n) far_is is.0 (omega arith)))
       | inr ge ↦ ge
     ]
 
 -- 1 January 10000 is the day after the last
-pub day_of_month-end : day_number (day_of_month 96_360 1) ≡ 2_932_897
+pub day_of_month-end : day_number (day_of_month (LAST_MONTH + 1) 1) ≡ LAST_DAY + 1
 day_of_month-end =
     let is = first_is 10000 1 (omega arith) (omega arith) (omega arith) in
-    ap day_number (day_of_month-first 96_360) ∙ omega (arith, count-day_number (record { year = 10000; month = 1; day = 1 }) is, day_count-end)
+    ap day_number (day_of_month-first (LAST_MONTH + 1)) ∙ omega (arith, count-day_number (record { year = 10000; month = 1; day = 1 }) is, day_count-end)
 
-pub month_number-end : (n : ℕ) → n ≡ 2_932_897 → month_number (date_of_day n) ≡ 96_360
+pub month_number-end : (n : ℕ) → n ≡ LAST_DAY + 1 → month_number (date_of_day n) ≡ LAST_MONTH + 1
 month_number-end n e =
     ap (λ k. month_number (date_of_day k)) (e ∙ sym day_of_month-end)
-    ∙ ap month_number (date_of_day-day_number (day_of_month 96_360 1) (day_of_month-is 96_360 1 (omega arith)))
-    ∙ month_number-day_of_month 96_360 1
+    ∙ ap month_number (date_of_day-day_number (day_of_month (LAST_MONTH + 1) 1) (day_of_month-is (LAST_MONTH + 1) 1 (omega arith)))
+    ∙ month_number-day_of_month (LAST_MONTH + 1) 1
 
 -- a month before the year 10000
-pub day_of_month-year_high : (m day : ℕ) → m ≤ 96_359 → (day_of_month m day).year ≤ 9999
+pub day_of_month-year_high : (m day : ℕ) → m ≤ LAST_MONTH → (day_of_month m day).year ≤ 9999
 day_of_month-year_high m day h = omega arith
 
-pub day_of_month-number_far : (m day : ℕ) → 1 ≤ day → 96_359 < m → 2_932_896 < day_number (day_of_month m day)
+pub day_of_month-number_far : (m day : ℕ) → 1 ≤ day → LAST_MONTH < m → LAST_DAY < day_number (day_of_month m day)
 day_of_month-number_far m day low h =
     let last : CalendarDate = record { year = 9999; month = 12; day = 31 } in
     let last_is : IsCalendarDate last = record { year_low = omega arith; month_low = omega arith; month_high = omega arith; day_low = omega arith; day_high = omega arith } in

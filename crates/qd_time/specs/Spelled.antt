@@ -8,6 +8,7 @@ use Rattle.qd_time.specs.Units.{start_of, end_of}
 use Rattle.qd_base.specs.declared.limits.TheConstants.{MAX_TIME}
 use Rattle.qd_time.specs.declared.units.Unit.{Unit}
 use Rattle.qd_time.specs.declared.units.Unit.TheVariants.{Micro, Milli, Second, Minute, Hour, Day, Month, Year}
+use Rattle.qd_time.specs.declared.suffix.TheConstants.{MAX_COUNT}
 
 -- `T` or a blank stands between the date and the time of day
 abbrev pub IsMark : ℕ → Type 0
@@ -114,7 +115,7 @@ pub record SpellsInterval (text : List ℕ) (first last : ℕ) : Type 0 where
   pub text_is : text ≡ base ++ suffix_text suffix
   pub is_suffix : IsSuffix suffix
   pub spells : SpellsAs base unit first
-  pub count : suffix_count suffix ≤ 1_000_000
+  pub count : suffix_count suffix ≤ MAX_COUNT
   pub last_is : last ≡ min (end_of unit first - 1 + suffix_micros suffix) MAX_TIME
 
 -- the text is a moment's text of the calendar with or without a suffix, but of a year below 1970 or
@@ -124,7 +125,7 @@ pub record SpellsOutside (text : List ℕ) : Type 0 where
   pub suffix : Suffix
   pub text_is : text ≡ base ++ suffix_text suffix
   pub is_suffix : IsSuffix suffix
-  pub outside : SpellsEarly base ⊎ ((ts : ℕ) × SpellsTime base ts × (1_000_000 < suffix_count suffix))
+  pub outside : SpellsEarly base ⊎ ((ts : ℕ) × SpellsTime base ts × (MAX_COUNT < suffix_count suffix))
 
 -- the text spells no interval at all
 abbrev pub IsNoInterval : List ℕ → Type 0

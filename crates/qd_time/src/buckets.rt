@@ -6,7 +6,9 @@ ghost use Rattle.qd_time.specs.Buckets.{clip, offset_micros, month_start, month_
 ghost use Rattle.qd_time.specs.Calendar.{day_number};
 ghost use Rattle.std.specs.Option.{SomeIff};
 
-use crate::calendar::{DAY, HOUR, MILLI, MINUTE, SECOND, date_of_day, day_of_month, month_number};
+use crate::calendar::{
+    DAY, HOUR, LAST_DAY, LAST_MONTH, MILLI, MINUTE, SECOND, date_of_day, day_of_month, month_number,
+};
 use crate::units::Unit;
 use qd_base::MAX_TIME;
 
@@ -260,7 +262,7 @@ fn month_end(n: u64, offset: i64, ahead: i64) -> Option<u64>
     ensures { let end = month_end n offset ahead in SomeIff result (end ≤ MAX_TIME) end }
 {
     let month = month_after(n, ahead);
-    if month > 96_360 {
+    if month > LAST_MONTH + 1 {
         return None;
     }
     let end = month_begin(month, offset);
@@ -281,7 +283,7 @@ fn month_after(n: u64, ahead: i64) -> u64
 
 /// A month's first moment at the offset.
 fn month_begin(month: u64, offset: i64) -> u64
-    requires month_high { month ≤ 96_360 }
+    requires month_high { month ≤ LAST_MONTH + 1 }
     requires offset_in { IsOffset offset }
     ensures { result ≡ clip (pos (month_midnight month) +ℤ offset) }
 {
@@ -290,12 +292,12 @@ fn month_begin(month: u64, offset: i64) -> u64
 
 /// The day number of a month's first day. The month may be January 10000.
 fn first_of(month: u64) -> u64
-    requires { month ≤ 96_360 }
+    requires { month ≤ LAST_MONTH + 1 }
     ensures value { result ≡ day_number (day_of_month month 1) }
-    ensures bound { result ≤ 2_932_897 }
+    ensures bound { result ≤ LAST_DAY + 1 }
 {
-    if month > 96_359 {
-        return 2_932_897;
+    if month > LAST_MONTH {
+        return LAST_DAY + 1;
     }
     day_of_month(month, 1)
 }
@@ -303,7 +305,7 @@ fn first_of(month: u64) -> u64
 /// A moment moved by months, within the last year that timestamps have.
 fn moved(t0: u64, months: u64) -> u64
     requires t0_high { t0 ≤ MAX_TIME }
-    requires months_high { months_to t0 + months ≤ 96_359 }
+    requires months_high { months_to t0 + months ≤ LAST_MONTH }
     ensures value { result ≡ moved t0 months }
     ensures bound { result ≤ MAX_TIME }
 {
@@ -317,7 +319,7 @@ fn last_period(ts: u64, n: u64, t0: u64) -> u64
     requires reached { t0 ≤ ts }
     requires n_low { 1 ≤ n }
     ensures value { result ≡ last_index (λ k. moved t0 (k * n)) ts (months_to ts) }
-    ensures bound { months_to t0 + result * n ≤ 96_359 }
+    ensures bound { months_to t0 + result * n ≤ LAST_MONTH }
 {
     let k = strides_between(ts, n, t0);
     if moved(t0, k * n) <= ts { k } else { k - 1 }
@@ -329,7 +331,7 @@ fn strides_between(ts: u64, n: u64, t0: u64) -> u64
     requires reached { t0 ≤ ts }
     requires n_low { 1 ≤ n }
     ensures value { result ≡ (months_to ts - months_to t0) / n }
-    ensures bound { months_to t0 + result * n ≤ 96_359 }
+    ensures bound { months_to t0 + result * n ≤ LAST_MONTH }
 {
     (month_number(ts / DAY) - month_number(t0 / DAY)) / n
 }
@@ -346,7 +348,7 @@ fn moved_end(ts: u64, n: u64, t0: u64) -> Option<u64>
         return Some(t0);
     }
     let months = (last_period(ts, n, t0) + 1) * n;
-    if month_number(t0 / DAY) + months > 96_359 {
+    if month_number(t0 / DAY) + months > LAST_MONTH {
         return None;
     }
     Some(moved(t0, months))

@@ -1,5 +1,5 @@
 -- What is read from a slot, and which node is beside it.
-use Rattle.std.proofs.Common.{subst, ◌≡◌, ◌≢◌, ℕ, ◌+◌, ◌-◌, ◌<◌, ◌≤◌, List, length, get_or, refl, sym, ap, ◌∙◌, arith, Option, Some, None, eqb, IsTrue, not, inl, inr, ◌↔◌}
+use Rattle.std.proofs.Common.{subst, ◌≡◌, ◌≢◌, ℕ, ◌+◌, ◌-◌, ◌<◌, List, length, get_or, refl, sym, ap, ◌∙◌, arith, Option, Some, None, eqb, IsTrue, not, inl, inr, ◌↔◌}
 use Rattle.std.specs.List.{slice_get}
 use Rattle.std.specs.Option.{IfSome}
 use Rattle.std.proofs.lemmas.Bool.{cases_lt, cases_eq, both_ways, eq-eqb, ne_eqb, not-true}
@@ -107,7 +107,7 @@ module _ (ring : List Link) (heads : ℕ) (v : Lists) (h : HoldsLists ring heads
   next_found r node l n_in read r_is =
       let n = next_read ring (heads + node) l (node_slot_in node n_in) read in
       let next : (k i : ℕ) → StandsAt v k i node → r ≡ slice_get (list_at v k) (i + 1) = λ k i s.
-          node_of_slot_at r heads (heads + node) k (list_at v k) l.next (i + 1) r_is (λ some e. next_of_node_other ring heads v h node (k, i, s) (sym e ∙ n)) (n ∙ next_of_node ring heads v h k i node s) (head_in ring heads v h k i node s) in
+      node_of_slot_at r heads (heads + node) k (list_at v k) l.next (i + 1) r_is (λ some e. next_of_node_other ring heads v h node (k, i, s) (sym e ∙ n)) (n ∙ next_of_node ring heads v h k i node s) (head_in ring heads v h k i node s) in
       let unlisted : ¬ IsListed v node → r ≡ None = λ out. none_alone r heads (heads + node) l.next r_is (n ∙ (h.alone node n_in out).0) in
       record {
         next = next;
@@ -123,12 +123,12 @@ module _ (ring : List Link) (heads : ℕ) (v : Lists) (h : HoldsLists ring heads
   prev_found r node l n_in read r_is =
       let p = prev_read ring (heads + node) l (node_slot_in node n_in) read in
       let first : (k : ℕ) → StandsAt v k 0 node → r ≡ None = λ k s.
-          let e = prev_of_node ring heads v h k 0 node s in
-          let z = slot_at-zero heads k (list_at v k) in
-          let k_in = head_in ring heads v h k 0 node s in
-          none_of_head r heads (heads + node) l.prev r_is (omega arith) in
+      let e = prev_of_node ring heads v h k 0 node s in
+      let z = slot_at-zero heads k (list_at v k) in
+      let k_in = head_in ring heads v h k 0 node s in
+      none_of_head r heads (heads + node) l.prev r_is (omega arith) in
       let prev : (k i : ℕ) → StandsAt v k (i + 1) node → r ≡ slice_get (list_at v k) i = λ k i s.
-          node_of_slot_at r heads (heads + node) k (list_at v k) l.prev i r_is (λ some e. prev_of_node_other ring heads v h node (k, i + 1, s) (sym e ∙ p)) (p ∙ prev_of_node ring heads v h k (i + 1) node s) (head_in ring heads v h k (i + 1) node s) in
+      node_of_slot_at r heads (heads + node) k (list_at v k) l.prev i r_is (λ some e. prev_of_node_other ring heads v h node (k, i + 1, s) (sym e ∙ p)) (p ∙ prev_of_node ring heads v h k (i + 1) node s) (head_in ring heads v h k (i + 1) node s) in
       let unlisted : ¬ IsListed v node → r ≡ None = λ out. none_alone r heads (heads + node) l.prev r_is (p ∙ (h.alone node n_in out).1) in
       record {
         first = first;

@@ -1,5 +1,5 @@
 //! What a session needs of the protocol that its wire speaks.
-ghost use Rattle.std.specs.Prelude.{◌≡◌, ℕ, ◌+◌, ◌<◌, ◌≤◌, List, ◌++◌, length, IfOk, OnOk, OnErr};
+ghost use Rattle.std.specs.Prelude.{◌≡◌, ℕ, List, IfOk, OnOk, OnErr};
 ghost use Rattle.qd_base.specs.Script.{Feeds, Protocol, ReadsOn, Script, TakesStep, ends_with};
 
 use crate::request::{Reply, Step};
@@ -41,10 +41,9 @@ pub trait Front {
         ensures reads_on { ReadsOn (protocol self.old) (protocol self.new) }
         ensures err { OnErr result (self.new ≡ self.old) };
 
-    /// Law: every text spells a script.
-    ghost some_script: { (front : Self) (more : List ℕ) → (s : Script) × (protocol front).spells more s };
-
-    /// Law: no text spells two.
-    ghost one_script: { (front : Self) (more : List ℕ) (s t : Script) →
-        (protocol front).spells more s → (protocol front).spells more t → s ≡ t };
+    /// Law: what waits, followed by whatever may come, spells one script. The call does nothing.
+    fn one_script(&self)
+        ensures some { (more : List ℕ) → (s : Script) × (protocol self.now).spells more s }
+        ensures one { (more : List ℕ) (s t : Script) →
+            (protocol self.now).spells more s → (protocol self.now).spells more t → s ≡ t };
 }

@@ -1,4 +1,4 @@
-// The one error of all device calls.
+//! The one error of all device calls.
 ghost use Rattle.qd_io.specs.declared.fault.IoFault.TheVariants.{Memory as OutOfMemory};
 ghost use Rattle.std.specs.Prelude.{◌≡◌};
 

@@ -1,4 +1,4 @@
-// What a program is given of the machine beside its two standard streams.
+//! What a program is given of the machine beside its two standard streams.
 ghost use Rattle.std.specs.Prelude.{◌≡◌};
 
 /// What a program is given of the machine beside its input and its output. It has no call yet: the calls

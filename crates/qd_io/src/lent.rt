@@ -1,4 +1,4 @@
-// A borrowed end is an end too: what is done through the borrow is done to what was lent.
+//! A borrowed end is an end too: what is done through the borrow is done to what was lent.
 ghost use Rattle.std.specs.Prelude.{◌∷◌};
 
 use super::fault::IoFault;

@@ -1,4 +1,4 @@
-// Ends over memory, which tell all that they hold and fail where they are told to.
+//! Ends over memory, which tell all that they hold and fail where they are told to.
 mod plan;
 mod sink;
 mod source;

@@ -1,4 +1,4 @@
-// A source and a sink as one object.
+//! A source and a sink as one object.
 ghost use Rattle.std.specs.Prelude.{◌≡◌};
 
 use super::fault::IoFault;

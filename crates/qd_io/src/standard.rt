@@ -1,4 +1,4 @@
-// The ends over std's readers and writers: the edge to the outside, a few lines each.
+//! The ends over std's readers and writers: the edge to the outside, a few lines each.
 mod failures;
 mod sink;
 mod source;

@@ -1,5 +1,5 @@
-// Each public call once on its happy path, the faults that devices answer, and a pair of lent ends as the
-// layers above use it.
+//! Each public call once on its happy path, the faults that devices answer, and a pair of lent ends as the
+//! layers above use it.
 ghost use Rattle.qd_io.specs.Ends.{WritesAll};
 ghost use Rattle.std.specs.Prelude.{◌≡◌, ◌≤◌, ℕ, IfOk, IfSome, Some, drop, length};
 

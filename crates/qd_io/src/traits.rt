@@ -1,4 +1,4 @@
-// The two ends of a stream of bytes, and what a call does to each.
+//! The two ends of a stream of bytes, and what a call does to each.
 ghost use Rattle.qd_io.specs.Ends.{Counts, InputStays, OutputStays, Reads, Stream, Writes};
 ghost use Rattle.std.specs.Prelude.{◌<◌, ◌≤◌, length, IfOk};
 

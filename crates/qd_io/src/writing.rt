@@ -1,4 +1,4 @@
-// Writing the whole of a piece, in as many writes as the sink needs.
+//! Writing the whole of a piece, in as many writes as the sink needs.
 ghost use Rattle.qd_io.specs.Ends.{Counts, InputStays, WritesAll};
 
 use super::fault::IoFault;

@@ -1,17 +1,24 @@
--- What the backend does is what a backend may do.
-use Rattle.std.proofs.Common.{◌≡◌, ℕ, ◌+◌, ◌-◌, inl, suc, zero, List, [], ◌∷◌, ◌++◌, length, take, subst, refl, sym, ap, ◌∙◌, arith, Some, Result, Ok, Err, append-nil}
+-- What the list does is what a backend of its rule may do.
+use Rattle.std.proofs.Common.{◌≡◌, ℕ, ◌+◌, ◌-◌, ◌≤◌, inl, inr, suc, zero, List, [], ◌∷◌, ◌++◌, length, take, subst, refl, sym, ap, ◌∙◌, arith, Some, None, Option, Result, Ok, Err, append-nil}
 use Rattle.std.specs.List.{range_with_len, slice_get}
-use Rattle.std.specs.Result.{IfOk, OnErr}
+use Rattle.std.specs.Result.{IfOk, OnErr, OnOk}
 use Rattle.std.proofs.lemmas.List.{take_all, take_at, length_push}
+use Rattle.qd_base.specs.Codes.{number_of}
+use Rattle.qd_base.specs.declared.code.Code.TheVariants as code
 use Rattle.qd_base.specs.declared.op.Entry.{Entry}
+use Rattle.qd_base.specs.declared.request.Request.{Request}
 use Rattle.qd_base.specs.declared.request.Request.TheVariants as request
+use Rattle.qd_base.specs.declared.request.Table.{Table}
 use Rattle.qd_base.specs.declared.request.Reply.{Reply}
 use Rattle.qd_base.specs.declared.request.Reply.TheVariants as reply
 use Rattle.qd_base.specs.Database.{schemas_of}
 use Rattle.qd_base.specs.Replay.{after, first}
 use Rattle.qd_session.specs.LineForm.{Line, ReadsBatch, RefusesBatch, entry_of, letters_of}
-use Rattle.qd_session.specs.Legal.{Handles, IsTransactionOf}
-use Rattle.qd_session.specs.Listed.{Listed, Writes, letters_known}
+use Rattle.qd_session.specs.Looks.{Grows, Shown, look_at}
+use Rattle.qd_session.specs.Legal.{Answers, GoesOn, Handles, want_of_memory}
+use Rattle.qd_session.specs.Allowed.{IsTransactionOf, answer}
+use Rattle.qd_session.specs.Listed.{AllowedAlone, Listed, Writes, all_applied, answered, letters_known, listed_shown, sql_reply}
+use Rattle.qd_session.proofs.RuleLemmas.{allowed-wants}
 
 -- the numbers from a on with one more
 range_more : (a n : ℕ) → range_with_len a (suc n) ≡ range_with_len a n ++ (a + n) ∷ []
@@ -23,54 +30,94 @@ slice_get_behind : {X : Type 0} (xs : List X) (x : X) → slice_get (xs ++ x ∷
 slice_get_behind [] x = refl
 slice_get_behind (y ∷ ys) x = slice_get_behind ys x
 
-abbrev mine_of : List Entry → List ℕ
-mine_of history = range_with_len 1 (length history)
-
-mine_more : (history : List Entry) (entry : Entry) (n : ℕ) → n ≡ length history + 1 → mine_of (history ++ entry ∷ []) ≡ mine_of history ++ n ∷ []
-mine_more history entry n is =
+own_more : (history : List Entry) (entry : Entry) (n : ℕ) → n ≡ length history + 1 → range_with_len 1 (length (history ++ entry ∷ [])) ≡ range_with_len 1 (length history) ++ n ∷ []
+own_more history entry n is =
     let size : length (history ++ entry ∷ []) ≡ suc (length history) = length_push history entry ∙ omega arith in
     ap (range_with_len 1) size ∙ range_more 1 (length history) ∙ ap (λ m. range_with_len 1 (length history) ++ m ∷ []) (omega arith)
 
+grows_still : (l : Listed) → Grows (listed_shown l) (listed_shown l)
+grows_still l = record { history = ([], ap Some (sym (append-nil l.history))); sequenced = omega arith; known = omega arith; faults = omega arith }
+
+-- no memory is found, and nothing is changed
+pub answers_want : (l : Listed) (time : ℕ) (asked : Request) → GoesOn (asked ∷ []) → Answers AllowedAlone (listed_shown l) (listed_shown l) time asked want_of_memory
+answers_want l time asked on = record {
+  grows = grows_still l;
+  allowed = λ clock clock' later. (allowed-wants (Some l.history) (look_at clock (listed_shown l)) (look_at clock' (listed_shown l)) time asked on (record { sequenced = refl; known = refl; clock_faults = later; volume_faults = refl; pinned = refl }), refl);
+  own = sym (append-nil (range_with_len 1 (length l.history)));
+}
+
+wants : (old new : Listed) (time : ℕ) (asked : Request) → GoesOn (asked ∷ []) → new ≡ old → Answers AllowedAlone (listed_shown old) (listed_shown new) time asked want_of_memory
+wants old new time asked on e = subst (λ (l : Listed). Answers AllowedAlone (listed_shown old) (listed_shown l) time asked want_of_memory) (sym e) (answers_want old time asked on)
+
 -- a batch that is the next transaction
-handles_done : (E : Type 0) (old : Listed) (text : List ℕ) (n : ℕ) (lines : List Line) → ReadsBatch (letters_known old) text lines → n ≡ length old.history + 1 → Handles {E = E} old.history (old.history ++ entry_of (letters_known old) lines ∷ []) old.applied old.applied (mine_of old.history) (mine_of (old.history ++ entry_of (letters_known old) lines ∷ [])) (request.Write text) (Ok (reply.Done n))
-handles_done E old text n lines reads is =
+answers_done : (old : Listed) (time : ℕ) (text : List ℕ) (n : ℕ) (lines : List Line) → ReadsBatch (letters_known old) text lines → n ≡ length old.history + 1
+    → Answers AllowedAlone (listed_shown old) (listed_shown (record { history = old.history ++ entry_of (letters_known old) lines ∷ []; applied = old.applied })) time (request.Write text) (reply.Done n)
+answers_done old time text n lines reads is =
     let entry = entry_of (letters_known old) lines in
     let before : n - 1 ≡ length old.history = omega arith in
     let front : first (old.history ++ entry ∷ []) (n - 1) ≡ after old.history = ap after (ap (λ m. take m (old.history ++ entry ∷ [])) before ∙ take_at old.history (entry ∷ []) (length old.history) refl) in
     let at : slice_get (old.history ++ entry ∷ []) (n - 1) ≡ Some entry = ap (slice_get (old.history ++ entry ∷ [])) before ∙ slice_get_behind old.history entry in
-    let transaction : IsTransactionOf (schemas_of (after old.history)) text entry = record { lines = lines; reads = reads; says = refl } in (
-      (entry ∷ [], refl),
-      omega arith,
-      (is ∙ sym (length_push old.history entry), omega arith, refl, (entry, at, subst (λ db. IsTransactionOf (schemas_of db) text entry) (sym front) transaction)),
-      mine_more old.history entry n is,
-    )
-
--- a history goes on from itself
-same_history : (history : List Entry) → (more : List Entry) × (history ≡ history ++ more)
-same_history history = ([], sym (append-nil history))
+    let transaction : IsTransactionOf (schemas_of (after old.history)) text entry = record { lines = lines; reads = reads; says = refl } in
+    let longer : length (old.history ++ entry ∷ []) ≡ length old.history + 1 = length_push old.history entry in
+    record {
+      grows = record { history = (entry ∷ [], refl); sequenced = omega (arith, longer); known = omega arith; faults = omega arith };
+      allowed = λ clock clock' later. ((is ∙ sym longer, omega (arith, is), (entry, at, subst (λ db. IsTransactionOf (schemas_of db) text entry) (sym front) transaction)), refl);
+      own = own_more old.history entry n is;
+    }
 
 -- a batch that is refused
-handles_refused : (E : Type 0) (old : Listed) (text : List ℕ) (code line : ℕ) → code ≡ 9 → RefusesBatch (letters_known old) text line → Handles {E = E} old.history old.history old.applied old.applied (mine_of old.history) (mine_of old.history) (request.Write text) (Ok (reply.Refused code line))
-handles_refused E old text code line is refuses =
-    let all : first old.history (length old.history) ≡ after old.history = ap after (take_all (length old.history) old.history (omega arith)) in (
-      same_history old.history,
-      omega arith,
-      (refl, inl (record { unbuilt = is; line = subst (λ db. RefusesBatch (letters_of (schemas_of db)) text line) (sym all) refuses })),
-      sym (append-nil (mine_of old.history)),
-    )
+answers_refused : (old : Listed) (time : ℕ) (text : List ℕ) (number line : ℕ) → number ≡ number_of code.UnbuiltLine → RefusesBatch (letters_known old) text line
+    → Answers AllowedAlone (listed_shown old) (listed_shown old) time (request.Write text) (reply.Refused number line)
+answers_refused old time text number line is refuses =
+    let all : first old.history (length old.history) ≡ after old.history = ap after (take_all (length old.history) old.history (omega arith)) in
+    record {
+      grows = grows_still old;
+      allowed = λ clock clock' later. (inl (is, subst (λ db. RefusesBatch (letters_of (schemas_of db)) text line) (sym all) refuses), refl);
+      own = sym (append-nil (range_with_len 1 (length old.history)));
+    }
 
-pub handles_written : {E : Type 0} (old new : Listed) (text : List ℕ) (result : Result Reply E) → IfOk result (λ told. Writes old new text told) → OnErr result (new ≡ old) → Handles old.history new.history old.applied new.applied (mine_of old.history) (mine_of new.history) (request.Write text) result
-handles_written {E} old new text (Err e) ok err =
-    let P : Listed → Type 0 = λ w. Handles {E = E} old.history w.history old.applied w.applied (mine_of old.history) (mine_of w.history) (request.Write text) (Err e) in
-    subst P (sym err) (same_history old.history, refl, refl)
-handles_written {E} old new text (Ok (reply.Done n)) ok err =
-    let P : Listed → Type 0 = λ w. Handles {E = E} old.history w.history old.applied w.applied (mine_of old.history) (mine_of w.history) (request.Write text) (Ok (reply.Done n)) in
-    subst P (sym ok.3) (handles_done E old text n ok.0 ok.1 ok.2)
-handles_written {E} old new text (Ok (reply.Refused code line)) ok err =
-    let P : Listed → Type 0 = λ w. Handles {E = E} old.history w.history old.applied w.applied (mine_of old.history) (mine_of w.history) (request.Write text) (Ok (reply.Refused code line)) in
-    subst P (sym ok.2) (handles_refused E old text code line ok.0 ok.1)
-handles_written old new text (Ok (reply.Rows n table)) ok err = absurd ok
-handles_written old new text (Ok (reply.Applied n)) ok err = absurd ok
-handles_written old new text (Ok (reply.QueryRefused n code place)) ok err = absurd ok
-handles_written old new text (Ok (reply.Damaged file at)) ok err = absurd ok
-handles_written old new text (Ok reply.Bye) ok err = absurd ok
+pub handles_written : {E : Type 0} (old new : Listed) (time : ℕ) (text : List ℕ) (result : Result Reply E) → IfOk result (λ given. Writes old new text given) → OnErr result (new ≡ old) → Handles AllowedAlone (listed_shown old) (listed_shown new) time (request.Write text) result
+handles_written old new time text (Err e) ok err = wants old new time (request.Write text) tt err
+handles_written old new time text (Ok (reply.Done n)) ok err =
+    subst (λ (l : Listed). Answers AllowedAlone (listed_shown old) (listed_shown l) time (request.Write text) (reply.Done n)) (sym ok.3) (answers_done old time text n ok.0 ok.1 ok.2)
+handles_written old new time text (Ok (reply.Refused number line)) ok err =
+    subst (λ (l : Listed). Answers AllowedAlone (listed_shown old) (listed_shown l) time (request.Write text) (reply.Refused number line)) (sym ok.2) (answers_refused old time text number line ok.0 ok.1)
+handles_written old new time text (Ok (reply.Rows n table)) ok err = absurd ok
+handles_written old new time text (Ok (reply.Applied n)) ok err = absurd ok
+handles_written old new time text (Ok (reply.QueryRefused n number place)) ok err = absurd ok
+handles_written old new time text (Ok (reply.Damaged file at)) ok err = absurd ok
+handles_written old new time text (Ok reply.Bye) ok err = absurd ok
+
+-- a statement is answered over what is applied
+answers_sql : (l : Listed) (time : ℕ) (text : List ℕ) (found : Option Table) → l.applied ≤ length l.history → answer (first l.history l.applied) text ≡ found
+    → Answers AllowedAlone (listed_shown l) (listed_shown l) time (request.Sql text) (answered l.applied found)
+answers_sql l time text (Some table) within is = record {
+  grows = grows_still l;
+  allowed = λ clock clock' later. (((omega arith, omega arith), within, is), (refl, refl));
+  own = sym (append-nil (range_with_len 1 (length l.history)));
+}
+answers_sql l time text None within is = record {
+  grows = grows_still l;
+  allowed = λ clock clock' later. (inl (refl, refl, (l.applied, (omega arith, omega arith), within, is)), refl);
+  own = sym (append-nil (range_with_len 1 (length l.history)));
+}
+
+pub handles_sql : {E : Type 0} (old new : Listed) (time : ℕ) (text : List ℕ) (result : Result Reply E) → old.applied ≤ length old.history → IfOk result (λ given. given ≡ sql_reply old text) → new ≡ old → Handles AllowedAlone (listed_shown old) (listed_shown new) time (request.Sql text) result
+handles_sql old new time text (Err e) within ok same = wants old new time (request.Sql text) tt same
+handles_sql old new time text (Ok given) within ok same =
+    subst (λ (l : Listed). Answers AllowedAlone (listed_shown old) (listed_shown l) time (request.Sql text) given) (sym same)
+    (subst (λ (r : Reply). Answers AllowedAlone (listed_shown old) (listed_shown old) time (request.Sql text) r) (sym ok) (answers_sql old time text (answer (first old.history old.applied) text) within refl))
+
+-- all is applied
+answers_applied : (l : Listed) (time : ℕ) → l.applied ≤ length l.history → Answers AllowedAlone (listed_shown l) (listed_shown (all_applied l)) time request.Apply (reply.Applied (length l.history))
+answers_applied l time within = record {
+  grows = record { history = ([], ap Some (sym (append-nil l.history))); sequenced = omega arith; known = within; faults = omega arith };
+  allowed = λ clock clock' later. (((within, omega arith), omega arith, omega arith), refl);
+  own = sym (append-nil (range_with_len 1 (length l.history)));
+}
+
+pub handles_applied : {E : Type 0} (old new : Listed) (time : ℕ) (result : Result Reply E) → old.applied ≤ length old.history → OnOk result (new ≡ all_applied old) → IfOk result (λ given. given ≡ reply.Applied (length old.history)) → OnErr result (new ≡ old) → Handles AllowedAlone (listed_shown old) (listed_shown new) time request.Apply result
+handles_applied old new time (Err e) within ok given err = wants old new time request.Apply tt err
+handles_applied old new time (Ok r) within ok given err =
+    subst (λ (l : Listed). Answers AllowedAlone (listed_shown old) (listed_shown l) time request.Apply r) (sym ok)
+    (subst (λ (x : Reply). Answers AllowedAlone (listed_shown old) (listed_shown (all_applied old)) time request.Apply x) (sym given) (answers_applied old time within))

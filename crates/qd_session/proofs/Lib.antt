@@ -1,21 +1,13 @@
 -- Lemmas that the proofs of this crate share.
 pub mod BatchLemmas
-pub mod DecimalLemmas
-pub mod FrameLemmas
 pub mod HandlesLemmas
-pub mod HeadLemmas
 pub mod HistoryLemmas
-pub mod LengthLemmas
 pub mod LineLemmas
 pub mod ListedLemmas
-pub mod NumberLemmas
-pub mod PartsLemmas
 pub mod PointLemmas
-pub mod PrintLemmas
 pub mod ProgressLemmas
+pub mod RuleLemmas
 pub mod RunLemmas
 pub mod SortLemmas
-pub mod StepLemmas
-pub mod StepsLemmas
 pub mod TurnLemmas
 pub mod WireLemmas

@@ -14,8 +14,8 @@ use Rattle.qd_base.specs.Database.{Database, StoredTable}
 use Rattle.qd_base.specs.Replay.{first}
 use Rattle.qd_session.specs.LineForm.{Letters, Line, ReadsBatch, letters_after, schema_of, entry_of}
 use Rattle.qd_session.specs.LineParts.{letters_in, point_of}
-use Rattle.qd_session.specs.Legal.{answer}
-use Rattle.qd_session.specs.Listed.{Listed, Writes, FitsTogether, letters_known, listed, told, sql_reply, all_applied, columns_of, row_at, with_point, with_batch, with_batches, ops_of, there_after, history_of, letters_or_any}
+use Rattle.qd_session.specs.Allowed.{answer}
+use Rattle.qd_session.specs.Listed.{Listed, Writes, FitsTogether, letters_known, listed, answered, sql_reply, all_applied, columns_of, row_at, with_point, with_batch, with_batches, ops_of, there_after, history_of, letters_or_any}
 use Rattle.qd_session.specs.declared.list.points.Point.{Point}
 use Rattle.qd_session.specs.declared.list.form.Letters.{Letters as Kept}
 use Rattle.qd_session.proofs.BatchLemmas.{letters_stay}
@@ -128,11 +128,11 @@ answer_in letters true rows text =
     let db = table_in letters true rows in
     elim (pointwise nat_eq (letters.table ∷ []) text) as (λ b. option_map (λ (t : StoredTable). let r : Table = record { cols = t.schema.cols; rows = t.rows } in r) (cond b (Some (let t : StoredTable = record { schema = schema_of letters; rows = map row_at rows } in t)) None) ≡ cond b (Some (let r : Table = record { cols = (schema_of letters).cols; rows = map row_at rows } in r)) None) [ true ↦ refl | false ↦ refl ]
 
-sql_is : (kept : Option Kept) (batches : List (List Point)) (rows : List Point) (applied : ℕ) (v : Listed) (text : List ℕ) → FitsTogether kept batches rows applied → listed kept batches applied ≡ v → sql_reply v text ≡ told applied (cond (ltb 0 (length rows)) (cond (pointwise nat_eq ((letters_or_any kept).table ∷ []) text) (Some (record { cols = (schema_of (letters_or_any kept)).cols; rows = map row_at rows })) None) None)
+sql_is : (kept : Option Kept) (batches : List (List Point)) (rows : List Point) (applied : ℕ) (v : Listed) (text : List ℕ) → FitsTogether kept batches rows applied → listed kept batches applied ≡ v → sql_reply v text ≡ answered applied (cond (ltb 0 (length rows)) (cond (pointwise nat_eq ((letters_or_any kept).table ∷ []) text) (Some (record { cols = (schema_of (letters_or_any kept)).cols; rows = map row_at rows })) None) None)
 sql_is kept batches rows applied v text fits is =
     sym (ap (λ w. sql_reply w text) is)
-    ∙ ap (λ (db : Database). told applied (answer db text)) (applied_database kept batches rows applied fits)
-    ∙ ap (λ (t : Option Table). told applied t) (answer_in (letters_or_any kept) (ltb 0 (length rows)) rows text)
+    ∙ ap (λ (db : Database). answered applied (answer db text)) (applied_database kept batches rows applied fits)
+    ∙ ap (λ (t : Option Table). answered applied t) (answer_in (letters_or_any kept) (ltb 0 (length rows)) rows text)
 
 -- the table is named, and is there
 pub sql_rows : (kept : Option Kept) (k : Kept) (batches : List (List Point)) (rows : List Point) (applied : ℕ) (v : Listed) (text : List ℕ) → FitsTogether kept batches rows applied → listed kept batches applied ≡ v → kept ≡ Some k → 0 < length rows → pointwise nat_eq (k.table ∷ []) text ≡ true → sql_reply v text ≡ reply.Rows applied (record { cols = columns_of k.column; rows = map row_at rows })
@@ -141,8 +141,8 @@ sql_rows (Some m) k batches rows applied v text fits is kept some named =
     let same : m ≡ k = cc in
     let named' : pointwise nat_eq (m.table ∷ []) text ≡ true = ap (λ (a : Kept). pointwise nat_eq (a.table ∷ []) text) same ∙ named in
     sql_is (Some m) batches rows applied v text fits is
-    ∙ ap (λ b. told applied (cond b (cond (pointwise nat_eq (m.table ∷ []) text) (Some (let r : Table = record { cols = columns_of m.column; rows = map row_at rows } in r)) None) None)) (lt-ltb 0 (length rows) some)
-    ∙ ap (λ b. told applied (cond b (Some (let r : Table = record { cols = columns_of m.column; rows = map row_at rows } in r)) None)) named'
+    ∙ ap (λ b. answered applied (cond b (cond (pointwise nat_eq (m.table ∷ []) text) (Some (let r : Table = record { cols = columns_of m.column; rows = map row_at rows } in r)) None) None)) (lt-ltb 0 (length rows) some)
+    ∙ ap (λ b. answered applied (cond b (Some (let r : Table = record { cols = columns_of m.column; rows = map row_at rows } in r)) None)) named'
     ∙ ap (λ (a : Kept). reply.Rows applied (record { cols = columns_of a.column; rows = map row_at rows })) same
 
 -- another name
@@ -152,14 +152,14 @@ sql_other (Some m) k batches rows applied v text fits is kept named =
     let same : m ≡ k = cc in
     let named' : pointwise nat_eq (m.table ∷ []) text ≡ false = ap (λ (a : Kept). pointwise nat_eq (a.table ∷ []) text) same ∙ named in
     sql_is (Some m) batches rows applied v text fits is
-    ∙ ap (λ b. told applied (cond (ltb 0 (length rows)) (cond b (Some (let r : Table = record { cols = columns_of m.column; rows = map row_at rows } in r)) None) None)) named'
-    ∙ elim (ltb 0 (length rows)) as (λ b. told applied (cond b None None) ≡ reply.Refused 40 0) [ true ↦ refl | false ↦ refl ]
+    ∙ ap (λ b. answered applied (cond (ltb 0 (length rows)) (cond b (Some (let r : Table = record { cols = columns_of m.column; rows = map row_at rows } in r)) None) None)) named'
+    ∙ elim (ltb 0 (length rows)) as (λ b. answered applied (cond b None None) ≡ reply.Refused 40 0) [ true ↦ refl | false ↦ refl ]
 
 -- no row is there
 pub sql_empty : (kept : Option Kept) (batches : List (List Point)) (rows : List Point) (applied : ℕ) (v : Listed) (text : List ℕ) → FitsTogether kept batches rows applied → listed kept batches applied ≡ v → length rows ≡ 0 → sql_reply v text ≡ reply.Refused 40 0
 sql_empty kept batches rows applied v text fits is none =
     sql_is kept batches rows applied v text fits is
-    ∙ ap (λ b. told applied (cond b (cond (pointwise nat_eq ((letters_or_any kept).table ∷ []) text) (Some (let r : Table = record { cols = (schema_of (letters_or_any kept)).cols; rows = map row_at rows } in r)) None) None)) (le-ltb 0 (length rows) (omega arith))
+    ∙ ap (λ b. answered applied (cond b (cond (pointwise nat_eq ((letters_or_any kept).table ∷ []) text) (Some (let r : Table = record { cols = (schema_of (letters_or_any kept)).cols; rows = map row_at rows } in r)) None) None)) (le-ltb 0 (length rows) (omega arith))
 
 -- a front of batches without a point has none
 none_before : (n : ℕ) (batches : List (List Point)) → fold there_after false batches ≡ false → fold there_after false (take n batches) ≡ false
@@ -175,4 +175,4 @@ sql_unknown None batches rows applied v text fits is kept =
     let none = none_before applied batches (sym fits.known) in
     let small : ltb 0 (length rows) ≡ false = ap (λ (r : List Point). ltb 0 (length r)) fits.placed ∙ sym (there_rows false [] (take applied batches) refl) ∙ none in
     sql_is None batches rows applied v text fits is
-    ∙ ap (λ b. told applied (cond b (cond (pointwise nat_eq (0 ∷ []) text) (Some (let r : Table = record { cols = columns_of 0; rows = map row_at rows } in r)) None) None)) small
+    ∙ ap (λ b. answered applied (cond b (cond (pointwise nat_eq (0 ∷ []) text) (Some (let r : Table = record { cols = columns_of 0; rows = map row_at rows } in r)) None) None)) small

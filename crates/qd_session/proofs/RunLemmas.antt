@@ -1,95 +1,78 @@
--- What is legal over a history is legal over a longer one, and a legal run goes on by one reply.
-use Rattle.std.proofs.Common.{◌≡◌, ℕ, zero, suc, ◌-◌, ◌≤◌, inl, inr, List, [], ◌∷◌, ◌++◌, length, Some, None, refl, sym, ◌∙◌, ap, subst, arith, slice_get, append_assoc}
-use Rattle.std.proofs.lemmas.List.{take-append-le, append-nil}
+-- A legal run goes on by one reply, and is legal over a history that has grown.
+use Rattle.std.proofs.Common.{◌≡◌, ℕ, ◌≤◌, suc, List, [], ◌∷◌, ◌++◌, length, Option, Some, None, refl, sym, ◌∙◌, ap, subst, arith, append_assoc}
+use Rattle.std.specs.Prelude.{IfSome}
+use Rattle.std.proofs.lemmas.List.{append-nil, length-append}
 use Rattle.qd_base.specs.declared.op.Entry.{Entry}
 use Rattle.qd_base.specs.declared.request.Request.{Request}
 use Rattle.qd_base.specs.declared.request.Request.TheVariants as request
 use Rattle.qd_base.specs.declared.request.Reply.{Reply}
-use Rattle.qd_base.specs.declared.request.Reply.TheVariants as reply
-use Rattle.qd_base.specs.Database.{Database, schemas_of}
-use Rattle.qd_base.specs.Replay.{after, first}
-use Rattle.qd_session.specs.Legal.{Allowed, EndIsLast, IsRefusalOf, IsTransactionOf, LegalRun, answer, done_in, done_numbers}
-use Rattle.qd_session.specs.Session.{GoesOn}
+use Rattle.qd_session.specs.Looks.{Extends, IsNoLess, Look}
+use Rattle.qd_session.specs.Legal.{EndIsLast, GoesOn, IsLasting, LegalRun, Rule, done_in, done_numbers}
 
--- the database after a prefix, where more follows
-pub first-append : (h more : List Entry) (n : ℕ) → n ≤ length h → first (h ++ more) n ≡ first h n
-first-append h more n le = ap after (take-append-le n h more le)
+pub extends-here : (h : Option (List Entry)) → Extends h h
+extends-here None = refl
+extends-here (Some h) = ([], ap Some (sym (append-nil h)))
 
--- an element that is there stays where more follows
-pub get-append : {A : Type 0} (xs more : List A) (i : ℕ) (x : A) → slice_get xs i ≡ Some x → slice_get (xs ++ more) i ≡ Some x
-get-append [] more i x e = absurd (cc (e))
-get-append (y ∷ xs) more zero x e = e
-get-append (y ∷ xs) more (suc i) x e = get-append xs more i x e
+pub extends-on : (a b c : Option (List Entry)) → Extends a b → Extends b c → Extends a c
+extends-on None b c h k = subst (λ (x : Option (List Entry)). Extends x c) h k
+extends-on (Some a) b c h k =
+    let q : Extends (Some (a ++ h.0)) c = subst (λ (x : Option (List Entry)). Extends x c) h.1 k in
+    (h.0 ++ q.0, q.1 ∙ ap Some (append_assoc a h.0 q.0))
 
-pub allowed_more : (h more : List Entry) (k k' n n' : ℕ) (asked : Request) (told : Reply) → k' ≤ length h → Allowed h k k' n n' asked told → Allowed (h ++ more) k k' n n' asked told
-allowed_more h more k k' n n' (request.Write text) (reply.Done m) le a =
-    (a.0, a.1, a.2, (a.3.0, get-append h more (m - 1) a.3.0 a.3.1, subst (λ (db : Database). IsTransactionOf (schemas_of db) text a.3.0) (sym (first-append h more (m - 1) (omega arith))) a.3.2))
-allowed_more h more k k' n n' (request.Write text) (reply.Refused code place) le (e, inl r) =
-    (e, inl (subst (λ (db : Database). IsRefusalOf (schemas_of db) text code place) (sym (first-append h more k' le)) r))
-allowed_more h more k k' n n' (request.Write text) (reply.Refused code place) le (e, inr r) = (e, inr r)
-allowed_more h more k k' n n' (request.Write text) (reply.Rows m table) le a = a
-allowed_more h more k k' n n' (request.Write text) (reply.Applied m) le a = a
-allowed_more h more k k' n n' (request.Write text) (reply.QueryRefused m code place) le a = a
-allowed_more h more k k' n n' (request.Write text) (reply.Damaged file at) le a = a
-allowed_more h more k k' n n' (request.Write text) reply.Bye le a = a
-allowed_more h more k k' n n' (request.Sql text) (reply.Rows m table) le a =
-    (a.0, a.1, subst (λ (db : Database). answer db text ≡ Some table) (sym (first-append h more m (omega arith))) a.2)
-allowed_more h more k k' n n' (request.Sql text) (reply.Refused code place) le (inl a) =
-    inl (a.0, a.1, a.2, subst (λ (db : Database). answer db text ≡ None) (sym (first-append h more n' (omega arith))) a.3)
-allowed_more h more k k' n n' (request.Sql text) (reply.Refused code place) le (inr a) = inr a
-allowed_more h more k k' n n' (request.Sql text) (reply.Done m) le a = a
-allowed_more h more k k' n n' (request.Sql text) (reply.Applied m) le a = a
-allowed_more h more k k' n n' (request.Sql text) (reply.QueryRefused m code place) le a = a
-allowed_more h more k k' n n' (request.Sql text) (reply.Damaged file at) le a = a
-allowed_more h more k k' n n' (request.Sql text) reply.Bye le a = a
-allowed_more h more k k' n n' request.Apply (reply.Applied m) le a = a
-allowed_more h more k k' n n' request.Apply (reply.Refused code place) le a = a
-allowed_more h more k k' n n' request.Apply (reply.Done m) le a = a
-allowed_more h more k k' n n' request.Apply (reply.Rows m table) le a = a
-allowed_more h more k k' n n' request.Apply (reply.QueryRefused m code place) le a = a
-allowed_more h more k k' n n' request.Apply (reply.Damaged file at) le a = a
-allowed_more h more k k' n n' request.Apply reply.Bye le a = a
-allowed_more h more k k' n n' request.End reply.Bye le a = a
-allowed_more h more k k' n n' request.End (reply.Done m) le a = a
-allowed_more h more k k' n n' request.End (reply.Rows m table) le a = a
-allowed_more h more k k' n n' request.End (reply.Applied m) le a = a
-allowed_more h more k k' n n' request.End (reply.Refused code place) le a = a
-allowed_more h more k k' n n' request.End (reply.QueryRefused m code place) le a = a
-allowed_more h more k k' n n' request.End (reply.Damaged file at) le a = a
+-- what is seen of a told history is seen of what it grows to
+pub seen-on : (old new : Option (List Entry)) (n : ℕ) → Extends old new → IfSome old (λ h. n ≤ length h) → IfSome new (λ h. n ≤ length h)
+seen-on None new n e le = subst (λ (x : Option (List Entry)). IfSome x (λ h. n ≤ length h)) (sym e) tt
+seen-on (Some h) new n e le =
+    let more : n ≤ length (h ++ e.0) = omega (arith, le, length-append h e.0) in
+    subst (λ (x : Option (List Entry)). IfSome x (λ h. n ≤ length h)) (sym e.1) more
 
--- the length doesn't fall along a run
-pub run_rises : (h : List Entry) (k n : ℕ) (requests : List Request) (replies : List Reply) (k' n' : ℕ) → LegalRun h k n requests replies k' n' → k ≤ k'
-run_rises h k n [] [] k' n' r = omega arith
-run_rises h k n (asked ∷ requests) (told ∷ replies) k' n' r = omega (arith, run_rises h r.0 r.1 requests replies k' n' r.5)
-run_rises h k n [] (told ∷ replies) k' n' r = absurd r
-run_rises h k n (asked ∷ requests) [] k' n' r = absurd r
+pub no-less-here : (a : Look) → IsNoLess a a
+no-less-here a = record { sequenced = omega arith; known = omega arith; clock_faults = omega arith; volume_faults = omega arith }
 
-pub run_more : (h more : List Entry) (k n : ℕ) (requests : List Request) (replies : List Reply) (k' n' : ℕ) → k' ≤ length h → LegalRun h k n requests replies k' n' → LegalRun (h ++ more) k n requests replies k' n'
-run_more h more k n [] [] k' n' le r = r
-run_more h more k n (asked ∷ requests) (told ∷ replies) k' n' le r =
-    (r.0, r.1, r.2, r.3, allowed_more h more k r.0 n r.1 asked told (omega (arith, run_rises h r.0 r.1 requests replies k' n' r.5)) r.4, run_more h more r.0 r.1 requests replies k' n' le r.5)
-run_more h more k n [] (told ∷ replies) k' n' le r = absurd r
-run_more h more k n (asked ∷ requests) [] k' n' le r = absurd r
+-- a look that sees no more of a told history
+pub seen-below : (history : Option (List Entry)) (m n : ℕ) → m ≤ n → IfSome history (λ h. n ≤ length h) → IfSome history (λ h. m ≤ length h)
+seen-below None m n le s = tt
+seen-below (Some h) m n le s = omega (arith, le, s)
 
--- one reply more
-pub run_snoc : (h : List Entry) (k n : ℕ) (requests : List Request) (replies : List Reply) (k' n' k₂ n₂ : ℕ) (asked : Request) (told : Reply) → LegalRun h k n requests replies k' n' → k' ≤ k₂ → n' ≤ n₂ → Allowed h k' k₂ n' n₂ asked told → LegalRun h k n (requests ++ asked ∷ []) (replies ++ told ∷ []) k₂ n₂
-run_snoc h k n [] [] k' n' k₂ n₂ asked told r lk ln a =
-    (k₂, n₂, omega (arith, r.0), omega (arith, r.1), subst (λ (x : ℕ). Allowed h x k₂ n n₂ asked told) r.0 (subst (λ (x : ℕ). Allowed h k' k₂ x n₂ asked told) r.1 a), (refl, refl))
-run_snoc h k n (q ∷ requests) (t ∷ replies) k' n' k₂ n₂ asked told r lk ln a =
-    (r.0, r.1, r.2, r.3, r.4, run_snoc h r.0 r.1 requests replies k' n' k₂ n₂ asked told r.5 lk ln a)
-run_snoc h k n [] (t ∷ replies) k' n' k₂ n₂ asked told r lk ln a = absurd r
-run_snoc h k n (q ∷ requests) [] k' n' k₂ n₂ asked told r lk ln a = absurd r
+module _ (rule : Rule) where
+  -- what is sequenced doesn't fall along a run
+  pub run-rises : (h : Option (List Entry)) (from : Look) (requests : List Request) (replies : List Reply) (upto : Look) → LegalRun rule h from requests replies upto → from.sequenced ≤ upto.sequenced
+  run-rises h from [] [] upto r = omega (arith, ap (λ (x : Look). x.sequenced) r)
+  run-rises h from (asked ∷ requests) (given ∷ replies) upto r = omega (arith, r.2.sequenced, run-rises h r.0 requests replies upto r.4)
+  run-rises h from [] (given ∷ replies) upto r = absurd r
+  run-rises h from (asked ∷ requests) [] upto r = absurd r
 
--- one reply for each request
-pub run_matches : (h : List Entry) (k n : ℕ) (requests : List Request) (replies : List Reply) (k' n' : ℕ) → LegalRun h k n requests replies k' n' → length replies ≡ length requests
-run_matches h k n [] [] k' n' r = refl
-run_matches h k n (asked ∷ requests) (told ∷ replies) k' n' r = ap suc (run_matches h r.0 r.1 requests replies k' n' r.5)
-run_matches h k n [] (told ∷ replies) k' n' r = absurd r
-run_matches h k n (asked ∷ requests) [] k' n' r = absurd r
+  pub run-on : IsLasting rule → (old new : Option (List Entry)) (from : Look) (requests : List Request) (replies : List Reply) (upto : Look) → Extends old new → IfSome old (λ h. upto.sequenced ≤ length h) → LegalRun rule old from requests replies upto → LegalRun rule new from requests replies upto
+  run-on lasts old new from [] [] upto e seen r = r
+  run-on lasts old new from (asked ∷ requests) (given ∷ replies) upto e seen r = (
+    r.0,
+    r.1,
+    r.2,
+    lasts old new from r.0 r.1 asked given e (seen-below old r.0.sequenced upto.sequenced (run-rises old r.0 requests replies upto r.4) seen) r.3,
+    run-on lasts old new r.0 requests replies upto e seen r.4,
+  )
+  run-on lasts old new from [] (given ∷ replies) upto e seen r = absurd r
+  run-on lasts old new from (asked ∷ requests) [] upto e seen r = absurd r
 
-pub done_numbers-snoc : (replies : List Reply) (told : Reply) → done_numbers (replies ++ told ∷ []) ≡ done_numbers replies ++ done_in told
-done_numbers-snoc [] told = append-nil (done_in told)
-done_numbers-snoc (r ∷ replies) told = ap (λ x. done_in r ++ x) (done_numbers-snoc replies told) ∙ sym (append_assoc (done_in r) (done_numbers replies) (done_in told))
+  -- one reply more
+  pub run-snoc : (h : Option (List Entry)) (from : Look) (requests : List Request) (replies : List Reply) (upto now : Look) (time : ℕ) (asked : Request) (given : Reply) → LegalRun rule h from requests replies upto → IsNoLess upto now → rule h upto now time asked given → LegalRun rule h from (requests ++ asked ∷ []) (replies ++ given ∷ []) now
+  run-snoc h from [] [] upto now time asked given r less a =
+      (now, time, subst (λ (x : Look). IsNoLess x now) r less, subst (λ (x : Look). rule h x now time asked given) r a, refl)
+  run-snoc h from (q ∷ requests) (t ∷ replies) upto now time asked given r less a =
+      (r.0, r.1, r.2, r.3, run-snoc h r.0 requests replies upto now time asked given r.4 less a)
+  run-snoc h from [] (t ∷ replies) upto now time asked given r less a = absurd r
+  run-snoc h from (q ∷ requests) [] upto now time asked given r less a = absurd r
+
+  -- one reply for each request
+  pub run-matches : (h : Option (List Entry)) (from : Look) (requests : List Request) (replies : List Reply) (upto : Look) → LegalRun rule h from requests replies upto → length replies ≡ length requests
+  run-matches h from [] [] upto r = refl
+  run-matches h from (asked ∷ requests) (given ∷ replies) upto r = ap suc (run-matches h r.0 requests replies upto r.4)
+  run-matches h from [] (given ∷ replies) upto r = absurd r
+  run-matches h from (asked ∷ requests) [] upto r = absurd r
+
+pub done_numbers-snoc : (replies : List Reply) (given : Reply) → done_numbers (replies ++ given ∷ []) ≡ done_numbers replies ++ done_in given
+done_numbers-snoc [] given = append-nil (done_in given)
+done_numbers-snoc (r ∷ replies) given = ap (λ x. done_in r ++ x) (done_numbers-snoc replies given) ∙ sym (append_assoc (done_in r) (done_numbers replies) (done_in given))
 
 -- requests none of which is for the end, with one more
 pub goes_on-snoc : (requests : List Request) (asked : Request) → GoesOn requests → GoesOn (asked ∷ []) → GoesOn (requests ++ asked ∷ [])

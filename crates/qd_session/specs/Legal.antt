@@ -1,86 +1,28 @@
--- Which replies a session may give to its requests, over the history that it saw in the end.
-use Rattle.std.specs.Prelude.{◌≡◌, ℕ, ◌-◌, ◌<◌, ◌≤◌, ◌⊎◌, List, [], ◌∷◌, ◌++◌, length, Option, Some, None, Result, Ok, Err, option_map, slice_get, find, nat_eq}
-use Rattle.std.specs.Cmp.Lexicographic.{pointwise}
+-- Which replies a session may give to its requests. What each of them may be is the backend's own rule.
+use Rattle.std.specs.Prelude.{◌≡◌, ℕ, ◌≤◌, List, [], ◌∷◌, ◌++◌, length, Option, IfSome, Result, Ok, Err}
+use Rattle.qd_base.specs.Codes.{number_of}
+use Rattle.qd_base.specs.declared.code.Code.TheVariants as code
 use Rattle.qd_base.specs.declared.op.Entry.{Entry}
-use Rattle.qd_base.specs.declared.schema.Schema.{Schema}
-use Rattle.qd_base.specs.declared.request.Table.{Table}
 use Rattle.qd_base.specs.declared.request.Request.{Request}
 use Rattle.qd_base.specs.declared.request.Request.TheVariants as request
 use Rattle.qd_base.specs.declared.request.Reply.{Reply}
 use Rattle.qd_base.specs.declared.request.Reply.TheVariants as reply
-use Rattle.qd_base.specs.Database.{Database, StoredTable, schemas_of}
-use Rattle.qd_base.specs.Replay.{first}
-use Rattle.qd_session.specs.LineForm.{Line, ReadsBatch, RefusesBatch, entry_of, letters_of}
+use Rattle.qd_session.specs.Looks.{Extends, Grows, IsNoLess, IsStill, Look, Shown, look_at}
 
--- the transaction that a batch is, over the schemas before it
-pub record IsTransactionOf (schemas : List Schema) (text : List ℕ) (entry : Entry) : Type 0 where
-  pub lines : List Line
-  pub reads : ReadsBatch (letters_of schemas) text lines
-  pub says : entry ≡ entry_of (letters_of schemas) lines
+-- A rule says whether a reply may come to a request: over the history, where it is told; between what the session knew at
+-- its look before and what it knows at this one; and, for a batch, with the time that its lines without one were given.
+abbrev pub Rule : Type 1
+Rule = Option (List Entry) → (before now : Look) → (time : ℕ) → Request → Reply → Type 0
 
--- a batch is refused with this code at this line, over the schemas before it; 9: a line is none of this version's form
-pub record IsRefusalOf (schemas : List Schema) (text : List ℕ) (code place : ℕ) : Type 0 where
-  pub unbuilt : code ≡ 9
-  pub line : RefusesBatch (letters_of schemas) text place
+-- the reply that says that no memory was found
+abbrev pub want_of_memory : Reply
+want_of_memory = reply.Refused (number_of code.Memory) 0
 
--- the answer to a statement that is exactly the name of a table: all of its rows
-abbrev pub answer : Database → List ℕ → Option Table
-answer db text = option_map (λ (t : StoredTable). record { cols = t.schema.cols; rows = t.rows }) (find (λ t. pointwise nat_eq t.schema.name text) db)
-
--- transaction n of the history, counted from 1, has P
-abbrev pub HasTransaction : List Entry → ℕ → (Entry → Type 0) → Type 0
-HasTransaction history n P = (entry : Entry) × (slice_get history (n - 1) ≡ Some entry) × P entry
-
--- want of memory is free
-abbrev pub IsWantOfMemory : ℕ → ℕ → Type 0
-IsWantOfMemory code place = (code ≡ 61) × (place ≡ 0)
-
--- What a reply to a request says of the history, where k transactions were sequenced at the session's look before and k'
--- are at this one, and where n were applied in its last answer and n' are in this one.
-abbrev pub Allowed : (history : List Entry) (k k' n n' : ℕ) → Request → Reply → Type 0
--- a batch becomes transaction m, the last one now, over the schemas of those before it
-Allowed history k k' n n' (request.Write text) (reply.Done m) =
-    (m ≡ k') × (k < m) × (n' ≡ n) × HasTransaction history m (IsTransactionOf (schemas_of (first history (m - 1))) text)
-Allowed history k k' n n' (request.Write text) (reply.Refused code place) =
-    (n' ≡ n) × (IsRefusalOf (schemas_of (first history k')) text code place ⊎ IsWantOfMemory code place)
-Allowed history k k' n n' (request.Write text) (reply.Rows m table) = ⊥
-Allowed history k k' n n' (request.Write text) (reply.Applied m) = ⊥
-Allowed history k k' n n' (request.Write text) (reply.QueryRefused m code place) = ⊥
-Allowed history k k' n n' (request.Write text) (reply.Damaged file at) = ⊥
-Allowed history k k' n n' (request.Write text) reply.Bye = ⊥
--- a statement is answered over the first m transactions; 40: it is none that this version builds
-Allowed history k k' n n' (request.Sql text) (reply.Rows m table) =
-    (m ≡ n') × (m ≤ k') × (answer (first history m) text ≡ Some table)
-Allowed history k k' n n' (request.Sql text) (reply.Refused code place) =
-    ((code ≡ 40) × (place ≡ 0) × (n' ≤ k') × (answer (first history n') text ≡ None)) ⊎ (IsWantOfMemory code place × (n' ≡ n))
-Allowed history k k' n n' (request.Sql text) (reply.Done m) = ⊥
-Allowed history k k' n n' (request.Sql text) (reply.Applied m) = ⊥
-Allowed history k k' n n' (request.Sql text) (reply.QueryRefused m code place) = ⊥
-Allowed history k k' n n' (request.Sql text) (reply.Damaged file at) = ⊥
-Allowed history k k' n n' (request.Sql text) reply.Bye = ⊥
--- all that was sequenced at the look before is applied
-Allowed history k k' n n' request.Apply (reply.Applied m) = (m ≡ n') × (k ≤ m) × (m ≤ k')
-Allowed history k k' n n' request.Apply (reply.Refused code place) = (n' ≡ n) × IsWantOfMemory code place
-Allowed history k k' n n' request.Apply (reply.Done m) = ⊥
-Allowed history k k' n n' request.Apply (reply.Rows m table) = ⊥
-Allowed history k k' n n' request.Apply (reply.QueryRefused m code place) = ⊥
-Allowed history k k' n n' request.Apply (reply.Damaged file at) = ⊥
-Allowed history k k' n n' request.Apply reply.Bye = ⊥
-Allowed history k k' n n' request.End reply.Bye = (k' ≡ k) × (n' ≡ n)
-Allowed history k k' n n' request.End (reply.Done m) = ⊥
-Allowed history k k' n n' request.End (reply.Rows m table) = ⊥
-Allowed history k k' n n' request.End (reply.Applied m) = ⊥
-Allowed history k k' n n' request.End (reply.Refused code place) = ⊥
-Allowed history k k' n n' request.End (reply.QueryRefused m code place) = ⊥
-Allowed history k k' n n' request.End (reply.Damaged file at) = ⊥
-
--- The replies to requests, one for each, lead from these two numbers to those; neither number falls.
-abbrev pub LegalRun : (history : List Entry) (k n : ℕ) → List Request → List Reply → (k' n' : ℕ) → Type 0
-LegalRun history k n [] [] k' n' = (k' ≡ k) × (n' ≡ n)
-LegalRun history k n (asked ∷ requests) (told ∷ replies) k' n' =
-    (k₁ n₁ : ℕ) × (k ≤ k₁) × (n ≤ n₁) × Allowed history k k₁ n n₁ asked told × LegalRun history k₁ n₁ requests replies k' n'
-LegalRun history k n [] (told ∷ replies) k' n' = ⊥
-LegalRun history k n (asked ∷ requests) [] k' n' = ⊥
+-- none of the requests is for the end
+abbrev pub GoesOn : List Request → Type 0
+GoesOn [] = Unit {0}
+GoesOn (request.End ∷ requests) = ⊥
+GoesOn (asked ∷ requests) = GoesOn requests
 
 -- nothing is asked after the end
 abbrev pub EndIsLast : List Request → Type 0
@@ -88,36 +30,54 @@ EndIsLast [] = Unit {0}
 EndIsLast (request.End ∷ requests) = requests ≡ []
 EndIsLast (asked ∷ requests) = EndIsLast requests
 
--- A legal session: it began at k transactions sequenced and n applied, and each reply is allowed over the history that it
--- saw in the end.
-pub record Legal (history : List Entry) (k n : ℕ) (requests : List Request) (replies : List Reply) : Type 0 where
-  pub sequenced : ℕ
-  pub applied : ℕ
-  pub run : LegalRun history k n requests replies sequenced applied
-  pub seen : sequenced ≤ length history
+-- A request for the end is answered by Bye, and by nothing else; and nothing else is answered so.
+pub record EndsByBye (rule : Rule) : Type 0 where
+  pub bye : (history : Option (List Entry)) (before now : Look) (time : ℕ) → IsStill before now → rule history before now time request.End reply.Bye
+  pub only_bye : (history : Option (List Entry)) (before now : Look) (time : ℕ) (given : Reply) → rule history before now time request.End given → given ≡ reply.Bye
+  pub only_end : (history : Option (List Entry)) (before now : Look) (time : ℕ) (asked : Request) → rule history before now time asked reply.Bye → asked ≡ request.End
+
+-- To any other request it may be said that no memory was found, where nothing has changed.
+abbrev pub MayWantMemory : Rule → Type 0
+MayWantMemory rule =
+    (history : Option (List Entry)) (before now : Look) (time : ℕ) (asked : Request) → GoesOn (asked ∷ []) → IsStill before now → rule history before now time asked want_of_memory
+
+-- What may come over a history may come over each that it grows to.
+abbrev pub IsLasting : Rule → Type 0
+IsLasting rule =
+    (old new : Option (List Entry)) (before now : Look) (time : ℕ) (asked : Request) (given : Reply)
+    → Extends old new → IfSome old (λ h. now.sequenced ≤ length h) → rule old before now time asked given → rule new before now time asked given
+
+-- The replies to requests, one for each, lead from one look to another, and no number falls.
+abbrev pub LegalRun : Rule → Option (List Entry) → (from : Look) → List Request → List Reply → (upto : Look) → Type 0
+LegalRun rule history from [] [] upto = upto ≡ from
+LegalRun rule history from (asked ∷ requests) (given ∷ replies) upto =
+    (now : Look) × (time : ℕ) × IsNoLess from now × rule history from now time asked given × LegalRun rule history now requests replies upto
+LegalRun rule history from [] (given ∷ replies) upto = ⊥
+LegalRun rule history from (asked ∷ requests) [] upto = ⊥
+
+-- A legal session, from one look to another: each reply may come by the rule, over the history that it saw in the end.
+pub record Legal (rule : Rule) (history : Option (List Entry)) (from upto : Look) (requests : List Request) (replies : List Reply) : Type 0 where
+  pub run : LegalRun rule history from requests replies upto
+  pub seen : IfSome history (λ h. upto.sequenced ≤ length h)
   pub end_is_last : EndIsLast requests
 
 -- the numbers of the transactions that replies acknowledge, in order
 abbrev pub done_in : Reply → List ℕ
 done_in (reply.Done n) = n ∷ []
-done_in (reply.Rows n table) = []
-done_in (reply.Applied n) = []
-done_in (reply.Refused code place) = []
-done_in (reply.QueryRefused n code place) = []
-done_in (reply.Damaged file at) = []
-done_in reply.Bye = []
+done_in _ = []
 
 abbrev pub done_numbers : List Reply → List ℕ
 done_numbers [] = []
-done_numbers (told ∷ replies) = done_in told ++ done_numbers replies
+done_numbers (given ∷ replies) = done_in given ++ done_numbers replies
 
--- the old list is the front of the new one
-abbrev pub Extends : List Entry → List Entry → Type 0
-Extends old new = (more : List Entry) × (new ≡ old ++ more)
+-- A backend answered a request: what it shows has grown, the reply may come by its rule whatever the clock does, and its
+-- own transactions are those that the reply acknowledges.
+pub record Answers (rule : Rule) (old new : Shown) (time : ℕ) (asked : Request) (given : Reply) : Type 0 where
+  pub grows : Grows old new
+  pub allowed : (clock clock' : ℕ) → clock ≤ clock' → rule new.history (look_at clock old) (look_at clock' new) time asked given
+  pub own : new.own ≡ old.own ++ done_in given
 
--- What a backend does with a request: its history grows at its end, its reply is allowed over it, and its own transactions
--- are those that the reply acknowledges. Where it finds no memory, it has added nothing.
-abbrev pub Handles : {E : Type 0} → (history history' : List Entry) (applied applied' : ℕ) (mine mine' : List ℕ) → Request → Result Reply E → Type 0
-Handles h h' n n' mine mine' asked (Ok told) =
-    Extends h h' × (n ≤ n') × Allowed h' (length h) (length h') n n' asked told × (mine' ≡ mine ++ done_in told)
-Handles h h' n n' mine mine' asked (Err e) = Extends h h' × (n' ≡ n) × (mine' ≡ mine)
+-- What a call of a backend does: it answers, or finds no memory, which may then be the reply. So it has added nothing then.
+abbrev pub Handles : {E : Type 0} → Rule → (old new : Shown) → (time : ℕ) → Request → Result Reply E → Type 0
+Handles rule old new time asked (Ok given) = Answers rule old new time asked given
+Handles rule old new time asked (Err e) = Answers rule old new time asked want_of_memory

@@ -1,12 +1,10 @@
 -- The definitions that the contracts of this crate cite.
-pub mod Frames
-pub mod Heads
+pub mod Allowed
 pub mod Legal
 pub mod LineForm
 pub mod LineParts
-pub mod Sorting
 pub mod Listed
-pub mod Parts
-pub mod Printed
+pub mod Looks
 pub mod Session
+pub mod Sorting
 pub mod Turns

@@ -1,6 +1,9 @@
 -- What a list of transactions keeps: its history, and how many of it are applied. And how batches of points are one.
 use Rattle.std.specs.Prelude.{◌≡◌, ℕ, Bool, true, false, List, [], ◌∷◌, ◌++◌, nat_le, nat_lt, filter, fold, map, length, take, is_some, Option, Some, None, option_map, ◌≤◌, ◌+◌}
+use Rattle.std.specs.List.{range_with_len}
 use Rattle.std.specs.List.Sorted.{IsNonDecreasingBy}
+use Rattle.qd_base.specs.Codes.{number_of}
+use Rattle.qd_base.specs.declared.code.Code.TheVariants as code
 use Rattle.qd_base.specs.declared.cell.Cell.TheVariants as cell
 use Rattle.qd_base.specs.declared.op.Op.{Op}
 use Rattle.qd_base.specs.declared.op.Op.TheVariants as op
@@ -10,9 +13,11 @@ use Rattle.qd_base.specs.Rows.{Row}
 use Rattle.qd_base.specs.Database.{schemas_of}
 use Rattle.qd_base.specs.Replay.{after, first}
 use Rattle.qd_base.specs.declared.request.Table.{Table}
+use Rattle.qd_base.specs.declared.request.Request.{Request}
 use Rattle.qd_base.specs.declared.request.Reply.{Reply}
 use Rattle.qd_base.specs.declared.request.Reply.TheVariants as reply
-use Rattle.qd_session.specs.Legal.{answer}
+use Rattle.qd_session.specs.Allowed.{Allowed, answer}
+use Rattle.qd_session.specs.Looks.{Look, Shown}
 use Rattle.qd_session.specs.LineForm.{Letters, Line, ReadsBatch, RefusesBatch, entry_of, letters_after, letters_of, schema_of}
 use Rattle.qd_session.specs.LineParts.{letters_in, point_of}
 use Rattle.qd_session.specs.declared.list.form.Letters.{Letters as Kept}
@@ -24,6 +29,28 @@ use Rattle.qd_session.specs.declared.list.batch.Reading.TheVariants as reading
 pub record Listed : Type 0 where
   pub history : List Entry
   pub applied : ℕ
+
+-- what a list shows: it tells its transactions, and all of them are its own
+abbrev pub listed_shown : Listed → Shown
+listed_shown l = record {
+  history = Some l.history;
+  sequenced = length l.history;
+  known = l.applied;
+  own = range_with_len 1 (length l.history);
+  faults = 0;
+  pinned = [];
+}
+
+-- Only an apply changes what is applied, to what its reply says; and a query is over just that.
+abbrev pub IsOfLastApply : (before now : Look) → Reply → Type 0
+IsOfLastApply before now (reply.Applied n) = now.known ≡ n
+IsOfLastApply before now (reply.Rows n table) = (now.known ≡ before.known) × (n ≡ before.known)
+IsOfLastApply before now (reply.QueryRefused n number place) = (now.known ≡ before.known) × (n ≡ before.known)
+IsOfLastApply before now given = now.known ≡ before.known
+
+-- The rule of a list: that of the product, and what is exact where one session alone applies.
+abbrev pub AllowedAlone : Option (List Entry) → (before now : Look) → (time : ℕ) → Request → Reply → Type 0
+AllowedAlone history before now time asked given = Allowed history before now time asked given × IsOfLastApply before now given
 
 -- the row of a point
 abbrev pub row_at : Point → Row
@@ -38,20 +65,16 @@ abbrev pub Writes : Listed → Listed → List ℕ → Reply → Type 0
 Writes old new text (reply.Done n) =
     (lines : List Line) × ReadsBatch (letters_known old) text lines × (n ≡ length old.history + 1)
     × (new ≡ record { history = old.history ++ entry_of (letters_known old) lines ∷ []; applied = old.applied })
-Writes old new text (reply.Refused code line) = (code ≡ 9) × RefusesBatch (letters_known old) text line × (new ≡ old)
-Writes old new text (reply.Rows n table) = ⊥
-Writes old new text (reply.Applied n) = ⊥
-Writes old new text (reply.QueryRefused n code place) = ⊥
-Writes old new text (reply.Damaged file at) = ⊥
-Writes old new text reply.Bye = ⊥
+Writes old new text (reply.Refused number line) = (number ≡ number_of code.UnbuiltLine) × RefusesBatch (letters_known old) text line × (new ≡ old)
+Writes old new text _ = ⊥
 
 -- the reply to a statement: the table that it names, or that it is none of this version's
-abbrev pub told : ℕ → Option Table → Reply
-told n (Some table) = reply.Rows n table
-told n None = reply.Refused 40 0
+abbrev pub answered : ℕ → Option Table → Reply
+answered n (Some table) = reply.Rows n table
+answered n None = reply.Refused (number_of code.NotBuilt) 0
 
 abbrev pub sql_reply : Listed → List ℕ → Reply
-sql_reply l text = told l.applied (answer (first l.history l.applied) text)
+sql_reply l text = answered l.applied (answer (first l.history l.applied) text)
 
 -- the columns of a run's table
 abbrev pub columns_of : ℕ → List Col

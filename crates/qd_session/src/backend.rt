@@ -1,40 +1,49 @@
 //! What a session needs of what it serves.
-ghost use Rattle.std.specs.Prelude.{◌≡◌, ℕ, ◌≤◌, List, length};
-ghost use Rattle.qd_base.specs.declared.op.Entry.{Entry};
+ghost use Rattle.std.specs.Prelude.{◌≤◌, length};
 ghost use Rattle.qd_base.specs.declared.request.Request.TheVariants as request;
-ghost use Rattle.qd_session.specs.Legal.{Handles};
+ghost use Rattle.qd_session.specs.Legal.{EndsByBye, Handles, IsLasting, MayWantMemory, Rule};
+ghost use Rattle.qd_session.specs.Looks.{IsCounted, Shown};
 
-use qd_base::{Memory, Reply, Txt};
+use qd_base::{MAX_QUERY_BYTES, Memory, Reply, Txt};
 use std::alloc::Global;
 
 /// What handles the requests of a session.
 ///
-/// Its meaning is a history of transactions, the number of them that its last answers are over, and the numbers of those
-/// that came through itself. The history grows at its end alone.
+/// Its meaning is what it shows: the transactions sequenced, where it tells them, and always how many these are, over how
+/// many its last answers were, and the numbers of those that came through itself. No number falls, and the transactions
+/// grow at their end alone.
+///
+/// Which reply may come to which request is its own rule. So a session is proved once, and a backend that knows further
+/// statements states them in its rule.
 pub trait Backend {
-    /// The transactions sequenced, as far as this backend has seen.
-    ghost history: { Self → List Entry };
+    /// What is shown at a moment.
+    ghost shown: { Self → Shown };
 
-    /// How many of them are applied, as far as this backend has seen.
-    ghost applied: { Self → ℕ };
-
-    /// The numbers, counted from 1, of the transactions that came through this backend.
-    ghost mine: { Self → List ℕ };
+    /// Which reply may come to which request.
+    ghost rule: { Rule };
 
     /// Makes a batch of lines one transaction, or refuses it whole. `now` is the time, in microseconds, of lines
     /// without one. Where it finds no memory, it has added nothing.
     fn lines(&mut self, alloc: Global, text: &Txt, now: u64) -> Result<Reply, Memory>
-        ensures handled { Handles (history self.old) (history self.new) (applied self.old) (applied self.new)
-            (mine self.old) (mine self.new) (request.Write text.now) result };
+        ensures handled { Handles rule (shown self.old) (shown self.new) now (request.Write text.now) result };
 
-    /// Answers one statement.
+    /// Answers one statement. Where it finds no memory, it has added nothing.
     fn sql(&mut self, alloc: Global, text: &Txt) -> Result<Reply, Memory>
-        requires { length text.now ≤ 65536 }
-        ensures handled { Handles (history self.old) (history self.new) (applied self.old) (applied self.new)
-            (mine self.old) (mine self.new) (request.Sql text.now) result };
+        requires { length text.now ≤ MAX_QUERY_BYTES }
+        ensures handled { Handles rule (shown self.old) (shown self.new) 0 (request.Sql text.now) result };
 
     /// Applies all that is sequenced.
     fn apply(&mut self, alloc: Global) -> Result<Reply, Memory>
-        ensures handled { Handles (history self.old) (history self.new) (applied self.old) (applied self.new)
-            (mine self.old) (mine self.new) request.Apply result };
+        ensures handled { Handles rule (shown self.old) (shown self.new) 0 request.Apply result };
+
+    /// Law: the transactions that are told are as many as are shown. The call does nothing.
+    fn is_counted(&self)
+        ensures counted { IsCounted (shown self.now) };
+
+    /// Laws of the rule: Bye answers a request for the end, and nothing else does; want of memory may answer any other;
+    /// and what may come over a history may come over each that it grows to. The call does nothing.
+    fn keeps_to_its_rule(&self)
+        ensures bye { EndsByBye rule }
+        ensures memory { MayWantMemory rule }
+        ensures lasting { IsLasting rule };
 }

@@ -1,16 +1,16 @@
-//! Sessions: the frames of a wire are requests, a backend handles them, and their replies are written in order.
+//! Sessions: the requests of a wire are handled by a backend, and their replies are written in order.
+//!
+//! `specs/Legal` says which replies may come, by the backend's own rule; `specs/Allowed` is the rule of the product.
 #![tactic(auto)]
 
 mod backend;
 mod ended;
-mod frames;
 mod list;
-mod print;
 mod session;
 
 pub use backend::Backend;
 pub use ended::Ended;
-pub use frames::FrameFront;
 pub use list::ListBack;
-pub use print::csv_of;
+pub use qd_frames::FrameFront;
+pub use qd_print::csv_of;
 pub use session::serve;

@@ -6,26 +6,19 @@ mod points;
 mod tests;
 
 ghost use Rattle.std.specs.Prelude.{◌≡◌, ◌+◌, ◌≤◌, length, IfOk, OnOk, OnErr, [], ◌∷◌, nat_eq};
-ghost use Rattle.std.specs.List.{range_with_len};
 ghost use Rattle.std.specs.Cmp.Lexicographic.{pointwise};
 ghost use Rattle.qd_base.specs.declared.request.Request.TheVariants as request;
 ghost use Rattle.qd_base.specs.declared.request.Reply.TheVariants as reply;
 ghost use Rattle.qd_session.specs.Legal.{Handles};
-ghost use Rattle.qd_session.specs.Listed.{Writes, all_applied, columns_of, sql_reply};
+ghost use Rattle.qd_session.specs.Listed.{AllowedAlone, Writes, all_applied, columns_of, listed_shown, sql_reply};
 
 use crate::backend::Backend;
 use batch::{Reading, read_batch};
 use form::Letters;
 use points::{Point, Points, put_batches, rows_of};
-use qd_base::{Col, ColList, ColType, Memory, Reply, Seq, Table, Txt};
+use qd_base::{Code, Col, ColList, ColType, MAX_QUERY_BYTES, Memory, Reply, Seq, Table, Txt};
 use std::alloc::Global;
 use std::marker::Model;
-
-/// The code of a refusal: a line is none of this version's form.
-const UNBUILT_LINE: u8 = 9;
-
-/// The code of a refusal: a statement is none that this version builds.
-const UNBUILT_STATEMENT: u8 = 40;
 
 /// A backend that keeps its transactions in memory, and the rows of the applied ones in one list in order of time.
 ///
@@ -64,12 +57,12 @@ impl ListBack {
 
     /// Makes a batch the next transaction, or refuses it.
     fn write(&mut self, alloc: Global, text: &[u8]) -> Result<Reply, Memory>
-        ensures ok { IfOk result (λ reply. Writes self.old self.new text.now reply) }
+        ensures ok { IfOk result (λ given. Writes self.old self.new text.now given) }
         ensures err { OnErr result (self.new ≡ self.old) }
     {
         match read_batch(alloc, text, self.letters)? {
             Reading::Faulty { line } => Ok(Reply::Refused {
-                code: UNBUILT_LINE,
+                code: Code::UnbuiltLine.number(),
                 place: line,
             }),
             Reading::Lines(batch) => {
@@ -84,7 +77,7 @@ impl ListBack {
 
     /// Makes the reply to a statement.
     fn reply_to(&self, alloc: Global, text: &[u8]) -> Result<Reply, Memory>
-        ensures ok { IfOk result (λ reply. reply ≡ sql_reply self.now text.now) }
+        ensures ok { IfOk result (λ given. given ≡ sql_reply self.now text.now) }
         ensures within { self.now.applied ≤ length self.now.history }
     {
         match self.letters {
@@ -98,7 +91,7 @@ impl ListBack {
                 },
             ),
             _ => Ok(Reply::Refused {
-                code: UNBUILT_STATEMENT,
+                code: Code::NotBuilt.number(),
                 place: 0,
             }),
         }
@@ -107,7 +100,7 @@ impl ListBack {
     /// Puts the points of the batches that wait into the rows.
     fn apply_all(&mut self, alloc: Global) -> Result<Reply, Memory>
         ensures ok { OnOk result (self.new ≡ all_applied self.old) }
-        ensures reply { IfOk result (λ told. told ≡ reply.Applied (length self.old.history)) }
+        ensures reply { IfOk result (λ given. given ≡ reply.Applied (length self.old.history)) }
         ensures within { self.old.applied ≤ length self.old.history }
         ensures err { OnErr result (self.new ≡ self.old) }
     {
@@ -120,32 +113,27 @@ impl ListBack {
 }
 
 impl Backend for ListBack {
-    ghost history = { λ b. b.history };
+    ghost shown = { listed_shown };
 
-    ghost applied = { λ b. b.applied };
+    ghost rule = { AllowedAlone };
 
-    ghost mine = { λ b. range_with_len 1 (length b.history) };
-
-    /// Makes a batch the next transaction, or refuses it whole with code 9 at its first line that is none of the form.
-    /// It costs time linear in the batch's bytes, and memory for its points.
-    fn lines(&mut self, alloc: Global, text: &Txt, _now: u64) -> Result<Reply, Memory>
-        ensures handled { Handles self.old.history self.new.history self.old.applied self.new.applied
-            (range_with_len 1 (length self.old.history)) (range_with_len 1 (length self.new.history))
-            (request.Write text.now) result }
-        ensures written { IfOk result (λ told. Writes self.old self.new text.now told) }
+    /// Makes a batch the next transaction, or refuses it whole at its first line that is none of the form. It costs time
+    /// linear in the batch's bytes, and memory for its points.
+    fn lines(&mut self, alloc: Global, text: &Txt, now: u64) -> Result<Reply, Memory>
+        ensures handled { Handles AllowedAlone (listed_shown self.old) (listed_shown self.new) now (request.Write text.now) result }
+        ensures written { IfOk result (λ given. Writes self.old self.new text.now given) }
         ensures err { OnErr result (self.new ≡ self.old) }
     {
+        let _unused = now;
         self.write(alloc, text.bytes())
     }
 
-    /// Answers a statement that is the table's name with all of its applied rows, each other one with code 40.
-    /// It costs time and memory linear in the rows.
+    /// Answers a statement that is the table's name with all of its applied rows, and refuses each other one. It costs
+    /// time and memory linear in the rows.
     fn sql(&mut self, alloc: Global, text: &Txt) -> Result<Reply, Memory>
-        requires { length text.now ≤ 65536 }
-        ensures handled { Handles self.old.history self.new.history self.old.applied self.new.applied
-            (range_with_len 1 (length self.old.history)) (range_with_len 1 (length self.new.history))
-            (request.Sql text.now) result }
-        ensures answered { IfOk result (λ told. told ≡ sql_reply self.old text.now) }
+        requires { length text.now ≤ MAX_QUERY_BYTES }
+        ensures handled { Handles AllowedAlone (listed_shown self.old) (listed_shown self.new) 0 (request.Sql text.now) result }
+        ensures answered { IfOk result (λ given. given ≡ sql_reply self.old text.now) }
         ensures unchanged { self.new ≡ self.old }
     {
         self.reply_to(alloc, text.bytes())
@@ -155,15 +143,17 @@ impl Backend for ListBack {
     /// from the place of the earliest late one on. It takes memory for the new rows, and to sort late ones; where there
     /// is none, nothing is applied.
     fn apply(&mut self, alloc: Global) -> Result<Reply, Memory>
-        ensures handled { Handles self.old.history self.new.history self.old.applied self.new.applied
-            (range_with_len 1 (length self.old.history)) (range_with_len 1 (length self.new.history))
-            request.Apply result }
+        ensures handled { Handles AllowedAlone (listed_shown self.old) (listed_shown self.new) 0 request.Apply result }
         ensures ok { OnOk result (self.new ≡ all_applied self.old) }
-        ensures told { IfOk result (λ told. told ≡ reply.Applied (length self.old.history)) }
+        ensures reply { IfOk result (λ given. given ≡ reply.Applied (length self.old.history)) }
         ensures err { OnErr result (self.new ≡ self.old) }
     {
         self.apply_all(alloc)
     }
+
+    fn is_counted(&self) {}
+
+    fn keeps_to_its_rule(&self) {}
 }
 
 /// Whether a text is this letter and nothing else.

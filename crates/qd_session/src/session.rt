@@ -1,105 +1,86 @@
 //! A session over one wire.
-ghost use Rattle.std.specs.Prelude.{◌≡◌, ℕ, ◌+◌, ◌-◌, ◌*◌, ◌<◌, ◌≤◌, ◌^◌, List, [], ◌∷◌, ◌++◌, length, take, IfOk, OnOk, OnErr, IsErrOf, Ok, Err, Some, None};
-ghost use Rattle.qd_base.specs.declared.op.Entry.{Entry};
-ghost use Rattle.qd_base.specs.declared.request.Reply.{Reply};
-ghost use Rattle.qd_base.specs.declared.request.Reply.TheVariants as reply;
-ghost use Rattle.qd_base.specs.Script.{Script};
-ghost use Rattle.qd_io.specs.Ends.{Rose};
-ghost use Rattle.qd_session.specs.Legal.{Extends};
-ghost use Rattle.qd_session.specs.Session.{Serves, TakenFrom, IsAllOf};
-ghost use Rattle.qd_session.specs.Turns.{Answers, Finishes, IsAskable, Refuses, Said, SessionStep, TakesPiece, TakesTurn, Wrote, ended_by_write};
+ghost use Rattle.std.specs.Prelude.{◌≡◌, ℕ, ◌+◌, ◌-◌, ◌*◌, ◌<◌, ◌≤◌, List, [], length, take, IfOk, OnOk, OnErr, IsErrOf, Ok, Err, Some, None};
+ghost use Rattle.qd_base.specs.Script.{ReadsOn, ends_with};
+ghost use Rattle.qd_io.specs.Ends.{Counts, OutputStays};
+ghost use Rattle.qd_session.specs.Legal.{Answers, IsLasting};
+ghost use Rattle.qd_session.specs.Looks.{Extends, IsCounted};
+ghost use Rattle.qd_session.specs.Session.{Faults, IsAllOf, Moves, Serves, TakenFrom, moment, refusal};
+ghost use Rattle.qd_session.specs.Turns.{Finishes, IsAskable, Refuses, Said, SessionStep, TakesPiece, TakesTurn, Wrote, ended_by_write};
 
 use crate::backend::Backend;
 use crate::ended::Ended;
-use qd_base::{Front, Reply, Request, Step};
+use qd_base::{Code, Front, LAST_OFFSET, Reply, Request, Step};
 use qd_io::{IoFault, Sink, Source, write_all};
 use std::alloc::Global;
 
 /// How many bytes one read asks for.
 const PIECE: usize = 65_536;
 
-/// The code of a frame that is none.
-const FRAME: u8 = 1;
-
-/// The code of want of memory.
-const NO_MEMORY: u8 = 61;
-
-/// Lets a backend handle a request. Where it finds no memory, the reply says so.
-fn handle<B: Backend>(alloc: Global, back: &mut B, asked: &Request) -> Reply
-    requires { IsAskable asked.now }
-    ensures { Answers (B.history back.old) (B.history back.new) (B.applied back.old) (B.applied back.new)
-        (B.mine back.old) (B.mine back.new) asked.now result }
-{
-    let handled = match asked {
-        Request::Write(text) => back.lines(alloc, text, 0),
-        Request::Sql(text) => back.sql(alloc, text),
-        Request::Apply => back.apply(alloc),
-        Request::End => return Reply::Bye,
-    };
-    match handled {
-        Ok(told) => told,
-        Err(_) => Reply::Refused {
-            code: NO_MEMORY,
-            place: 0,
-        },
-    }
-}
-
-/// Prints a reply and writes it.
-fn print<F: Front, W: Sink>(
+/// Serves one wire: answers the requests that its bytes spell, in order, until it ends.
+///
+/// It costs what the requests cost, and time linear in the bytes however they come; it keeps one read buffer of 65,536
+/// bytes beside what the front and the backend keep. A request that finds no memory is refused with its code, and the
+/// session goes on. An input is taken as ended at the last offset, 2^64 - 1.
+pub fn serve<F: Front, B: Backend, W: Source + Sink>(
     alloc: Global,
     front: &mut F,
+    back: &mut B,
     wire: &mut W,
-    told: &Reply,
-) -> Result<(), IoFault>
-    ensures wrote { Wrote (W.output wire.old) (W.output wire.new) (F.printed front.old told.now) result }
-    ensures failed { IsErrOf result IoFault.Failed → Rose (W.writes_failed wire.old) (W.writes_failed wire.new) }
-    ensures never_falls { W.writes_failed wire.old ≤ W.writes_failed wire.new }
-    ensures input { W.input wire.new ≡ W.input wire.old }
-    ensures reads_failed { W.reads_failed wire.new ≡ W.reads_failed wire.old }
-    ensures input_lent { W.input_lent wire.new ≡ W.input_lent wire.old }
-    ensures output_lent { W.output_lent wire.new ≡ W.output_lent wire.old }
-    ensures waiting { F.waiting front.new ≡ F.waiting front.old }
-    ensures start { F.start front.new ≡ F.start front.old }
-    ensures spells { (more : List ℕ) (s : Script) → F.spells front.new more s → F.spells front.old more s }
-{
-    let text = match front.reply(alloc, told) {
-        Ok(text) => text,
-        Err(_) => return Err(IoFault::Memory),
-    };
-    write_all(wire, text.bytes())
-}
+) -> Ended
+    // What was written is the replies to what was read, and these are legal over the backend's history.
+    ensures served { Serves B.rule (moment (F.protocol front.old) (B.shown back.old) (W.stream wire.old))
+        (moment (F.protocol front.new) (B.shown back.new) (W.stream wire.new)) result }
+    ensures history { Extends (B.shown back.old).history (B.shown back.new).history }
 
-/// Reads the next piece of the input, and no byte past the last offset.
-fn read_piece<W: Source>(wire: &mut W, buffer: &mut [u8], fed: u64) -> Result<usize, IoFault>
-    requires room { 0 < length buffer.old }
-    requires more { fed < 18446744073709551615 }
-    ensures within { IfOk result (λ n. (n ≤ length buffer.new) × (fed + n < 2 ^ 64)) }
-    ensures taken { IfOk result (λ n. TakenFrom (W.input wire.old) (W.input wire.new) (take n buffer.new)) }
-    ensures none { OnErr result (TakenFrom (W.input wire.old) (W.input wire.new) []) }
-    ensures end { result ≡ Ok 0 → IsAllOf (W.input wire.old) [] }
-    ensures failed { IsErrOf result IoFault.Failed → Rose (W.reads_failed wire.old) (W.reads_failed wire.new) }
-    ensures never_falls { W.reads_failed wire.old ≤ W.reads_failed wire.new }
-    ensures output { W.output wire.new ≡ W.output wire.old }
-    ensures writes_failed { W.writes_failed wire.new ≡ W.writes_failed wire.old }
-    ensures input_lent { W.input_lent wire.new ≡ W.input_lent wire.old }
-    ensures output_lent { W.output_lent wire.new ≡ W.output_lent wire.old }
+    // Faults come exactly where the wire counts one.
+    ensures faults { Faults (W.stream wire.old) (W.stream wire.new) (Some result) }
 {
-    let room = u64::MAX - fed;
-    if room < buffer.len() as u64 {
-        wire.read(&mut buffer[..room as usize])
-    } else {
-        wire.read(buffer)
+    back.keeps_to_its_rule();
+    back.is_counted();
+    let Ok(mut buffer) = vec![in alloc; 0u8; PIECE] else {
+        return Ended::Memory;
+    };
+    let mut fed = 0;
+    'steps: loop {
+        match take_step(alloc, front, back, wire, &mut buffer, &mut fed) {
+            Some(ended) => {
+                back.is_counted();
+                return ended;
+            }
+            None => {}
+        }
     }
 }
 
-/// What the fault of a write makes of a session.
-fn of_write(fault: IoFault) -> Ended
-    ensures { result ≡ ended_by_write fault }
+/// Takes one step of a session, and says whether it is over.
+fn take_step<F: Front, B: Backend, W: Source + Sink>(
+    alloc: Global,
+    front: &mut F,
+    back: &mut B,
+    wire: &mut W,
+    buffer: &mut [u8],
+    fed: &mut u64,
+) -> Option<Ended>
+    requires room { 0 < length buffer.old }
+    requires few { fed.old ≤ LAST_OFFSET }
+    ensures step { SessionStep B.rule (moment (F.protocol front.old) (B.shown back.old) (W.stream wire.old))
+        (moment (F.protocol front.new) (B.shown back.new) (W.stream wire.new)) fed.old fed.new result }
+    ensures nearer { result ≡ None → 2 * (LAST_OFFSET - fed.new) + length (F.protocol front.new).waiting
+        < 2 * (LAST_OFFSET - fed.old) + length (F.protocol front.old).waiting }
+    ensures most { fed.new ≤ LAST_OFFSET }
+    ensures faults { Faults (W.stream wire.old) (W.stream wire.new) result }
+    ensures lasting { IsLasting B.rule }
+    ensures counted { IsCounted (B.shown back.old) }
 {
-    match fault {
-        IoFault::Failed => Ended::WriteFault,
-        IoFault::Memory => Ended::Memory,
+    back.keeps_to_its_rule();
+    back.is_counted();
+    match front.next_step(alloc) {
+        Ok(Step::Ask(asked)) => take_request(alloc, front, back, wire, &asked),
+        Ok(Step::Say(text)) => say(wire, text.bytes()),
+        Ok(Step::More) => take_piece(alloc, front, wire, buffer, fed),
+        Ok(Step::Clean) => unreachable!(),
+        Ok(Step::Bad { place }) => Some(refuse(alloc, front, wire, place)),
+        Err(_) => Some(Ended::Memory),
     }
 }
 
@@ -112,69 +93,63 @@ fn take_request<F: Front, B: Backend, W: Sink>(
     asked: &Request,
 ) -> Option<Ended>
     requires { IsAskable asked.now }
-    ensures told { TakesTurn (F.printed front.old) (B.history back.old) (B.history back.new) (B.applied back.old) (B.applied back.new)
-        (B.mine back.old) (B.mine back.new) (W.output wire.old) (W.output wire.new) asked.now result }
-    ensures write_fault { result ≡ Some Ended.WriteFault → Rose (W.writes_failed wire.old) (W.writes_failed wire.new) }
-    ensures never_falls { W.writes_failed wire.old ≤ W.writes_failed wire.new }
-    ensures input { W.input wire.new ≡ W.input wire.old }
-    ensures reads_failed { W.reads_failed wire.new ≡ W.reads_failed wire.old }
-    ensures input_lent { W.input_lent wire.new ≡ W.input_lent wire.old }
-    ensures output_lent { W.output_lent wire.new ≡ W.output_lent wire.old }
-    ensures waiting { F.waiting front.new ≡ F.waiting front.old }
-    ensures start { F.start front.new ≡ F.start front.old }
-    ensures spells { (more : List ℕ) (s : Script) → F.spells front.new more s → F.spells front.old more s }
+    ensures reply { TakesTurn B.rule (F.protocol front.old).printed (B.shown back.old) (B.shown back.new)
+        (W.stream wire.old) (W.stream wire.new) asked.now result }
+    ensures faults { Faults (W.stream wire.old) (W.stream wire.new) result }
+    ensures front { ReadsOn (F.protocol front.old) (F.protocol front.new) }
 {
-    let told = handle(alloc, back, asked);
-    match print(alloc, front, wire, &told) {
+    let given = handle(alloc, back, asked);
+    match print(alloc, front, wire, &given) {
         Ok(()) if matches!(asked, Request::End) => Some(Ended::Finished),
         Ok(()) => None,
         Err(fault) => Some(of_write(fault)),
     }
 }
 
-/// Refuses the bytes at this place, and ends the session.
-fn refuse<F: Front, W: Sink>(alloc: Global, front: &mut F, wire: &mut W, place: u64) -> Ended
-    ensures told { Refuses (W.output wire.old) (W.output wire.new) (F.printed front.old (reply.Refused 1 place)) result }
-    ensures write_fault { result ≡ Ended.WriteFault → Rose (W.writes_failed wire.old) (W.writes_failed wire.new) }
-    ensures never_falls { W.writes_failed wire.old ≤ W.writes_failed wire.new }
-    ensures input { W.input wire.new ≡ W.input wire.old }
-    ensures reads_failed { W.reads_failed wire.new ≡ W.reads_failed wire.old }
-    ensures input_lent { W.input_lent wire.new ≡ W.input_lent wire.old }
-    ensures output_lent { W.output_lent wire.new ≡ W.output_lent wire.old }
+/// Lets a backend handle a request. Where it finds no memory, the reply says so.
+fn handle<B: Backend>(alloc: Global, back: &mut B, asked: &Request) -> Reply
+    requires { IsAskable asked.now }
+    ensures { Answers B.rule (B.shown back.old) (B.shown back.new) 0 asked.now result }
 {
-    let refusal = Reply::Refused { code: FRAME, place };
-    match print(alloc, front, wire, &refusal) {
-        Ok(()) => Ended::BadFrame,
-        Err(fault) => of_write(fault),
+    let handled = match asked {
+        Request::Write(text) => back.lines(alloc, text, 0),
+        Request::Sql(text) => back.sql(alloc, text),
+        Request::Apply => back.apply(alloc),
+        Request::End => {
+            back.keeps_to_its_rule();
+            return Reply::Bye;
+        }
+    };
+    match handled {
+        Ok(given) => given,
+        Err(_) => Reply::Refused {
+            code: Code::Memory.number(),
+            place: 0,
+        },
     }
 }
 
-/// Ends the session where the input has ended.
-fn finish<F: Front, W: Sink>(alloc: Global, front: &mut F, wire: &mut W) -> Ended
-    ensures told { Finishes (F.waiting front.old) (F.start front.old) (F.printed front.old)
-        (W.output wire.old) (W.output wire.new) result }
-    ensures write_fault { result ≡ Ended.WriteFault → Rose (W.writes_failed wire.old) (W.writes_failed wire.new) }
-    ensures never_falls { W.writes_failed wire.old ≤ W.writes_failed wire.new }
-    ensures input { W.input wire.new ≡ W.input wire.old }
-    ensures reads_failed { W.reads_failed wire.new ≡ W.reads_failed wire.old }
-    ensures input_lent { W.input_lent wire.new ≡ W.input_lent wire.old }
-    ensures output_lent { W.output_lent wire.new ≡ W.output_lent wire.old }
+/// Prints a reply and writes it.
+fn print<F: Front, W: Sink>(
+    alloc: Global,
+    front: &mut F,
+    wire: &mut W,
+    given: &Reply,
+) -> Result<(), IoFault>
+    ensures wrote { Wrote (W.stream wire.old) (W.stream wire.new) ((F.protocol front.old).printed given.now) result }
+    ensures front { ReadsOn (F.protocol front.old) (F.protocol front.new) }
 {
-    match front.finish() {
-        Step::Bad { place } => refuse(alloc, front, wire, place),
-        _ => Ended::Finished,
-    }
+    let text = match front.reply(alloc, given) {
+        Ok(text) => text,
+        Err(_) => return Err(IoFault::Memory),
+    };
+    write_all(wire, text.bytes())
 }
 
 /// Writes bytes that the front says by itself.
 fn say<W: Sink>(wire: &mut W, bytes: &[u8]) -> Option<Ended>
-    ensures told { Said (W.output wire.old) (W.output wire.new) bytes.now result }
-    ensures write_fault { result ≡ Some Ended.WriteFault → Rose (W.writes_failed wire.old) (W.writes_failed wire.new) }
-    ensures never_falls { W.writes_failed wire.old ≤ W.writes_failed wire.new }
-    ensures input { W.input wire.new ≡ W.input wire.old }
-    ensures reads_failed { W.reads_failed wire.new ≡ W.reads_failed wire.old }
-    ensures input_lent { W.input_lent wire.new ≡ W.input_lent wire.old }
-    ensures output_lent { W.output_lent wire.new ≡ W.output_lent wire.old }
+    ensures said { Said (W.stream wire.old) (W.stream wire.new) bytes.now result }
+    ensures faults { Faults (W.stream wire.old) (W.stream wire.new) result }
 {
     match write_all(wire, bytes) {
         Ok(()) => None,
@@ -190,22 +165,15 @@ fn take_piece<F: Front, W: Source + Sink>(
     buffer: &mut [u8],
     fed: &mut u64,
 ) -> Option<Ended>
-    requires room { 0 < length buffer.old }
-    requires offsets { F.start front.old + length (F.waiting front.old) ≡ fed.old }
-    ensures told { TakesPiece (F.spells front.old) (F.spells front.new) (F.waiting front.old) (F.start front.old) (F.printed front.old)
-        (W.input wire.old) (W.input wire.new) (W.output wire.old) (W.output wire.new) fed.old fed.new result }
-    ensures offsets { result ≡ None → F.start front.new + length (F.waiting front.new) ≡ fed.new }
-    ensures start { result ≡ None → F.start front.new ≡ F.start front.old }
-    ensures nearer { result ≡ None → fed.old < fed.new }
-    ensures most { fed.new < 2 ^ 64 }
-    ensures read_fault { result ≡ Some Ended.ReadFault → Rose (W.reads_failed wire.old) (W.reads_failed wire.new) }
-    ensures write_fault { result ≡ Some Ended.WriteFault → Rose (W.writes_failed wire.old) (W.writes_failed wire.new) }
-    ensures reads_never_fall { W.reads_failed wire.old ≤ W.reads_failed wire.new }
-    ensures writes_never_fall { W.writes_failed wire.old ≤ W.writes_failed wire.new }
-    ensures input_lent { W.input_lent wire.new ≡ W.input_lent wire.old }
-    ensures output_lent { W.output_lent wire.new ≡ W.output_lent wire.old }
+    requires { 0 < length buffer.old }
+    ensures taken { TakesPiece (F.protocol front.old) (F.protocol front.new) (W.stream wire.old) (W.stream wire.new)
+        fed.old fed.new result }
+    ensures nearer { result ≡ None → 2 * (LAST_OFFSET - fed.new) + length (F.protocol front.new).waiting
+        < 2 * (LAST_OFFSET - fed.old) + length (F.protocol front.old).waiting }
+    ensures most { fed.new ≤ LAST_OFFSET }
+    ensures faults { Faults (W.stream wire.old) (W.stream wire.new) result }
 {
-    if *fed == u64::MAX {
+    if *fed == LAST_OFFSET {
         return Some(finish(alloc, front, wire));
     }
     let n = match read_piece(wire, buffer, *fed) {
@@ -223,77 +191,57 @@ fn take_piece<F: Front, W: Source + Sink>(
     }
 }
 
-/// Takes one step of a session, and says whether it is over.
-fn take_step<F: Front, B: Backend, W: Source + Sink>(
-    alloc: Global,
-    front: &mut F,
-    back: &mut B,
-    wire: &mut W,
-    buffer: &mut [u8],
-    fed: &mut u64,
-) -> Option<Ended>
+/// Reads the next piece of the input, and no byte past the last offset.
+fn read_piece<W: Source>(wire: &mut W, buffer: &mut [u8], fed: u64) -> Result<usize, IoFault>
     requires room { 0 < length buffer.old }
-    requires offsets { F.start front.old + length (F.waiting front.old) ≡ fed.old }
-    ensures step { SessionStep (F.spells front.old) (F.spells front.new) (B.history back.old) (B.history back.new)
-        (B.applied back.old) (B.applied back.new) (B.mine back.old) (B.mine back.new)
-        (W.input wire.old) (W.input wire.new) (W.output wire.old) (W.output wire.new) fed.old fed.new result }
-    ensures offsets { result ≡ None → F.start front.new + length (F.waiting front.new) ≡ fed.new }
-    ensures nearer { result ≡ None → 2 * (18446744073709551615 - fed.new) + length (F.waiting front.new)
-        < 2 * (18446744073709551615 - fed.old) + length (F.waiting front.old) }
-    ensures read_fault { result ≡ Some Ended.ReadFault → Rose (W.reads_failed wire.old) (W.reads_failed wire.new) }
-    ensures write_fault { result ≡ Some Ended.WriteFault → Rose (W.writes_failed wire.old) (W.writes_failed wire.new) }
-    ensures reads_never_fall { W.reads_failed wire.old ≤ W.reads_failed wire.new }
-    ensures writes_never_fall { W.writes_failed wire.old ≤ W.writes_failed wire.new }
-    ensures input_lent { W.input_lent wire.new ≡ W.input_lent wire.old }
-    ensures output_lent { W.output_lent wire.new ≡ W.output_lent wire.old }
+    requires more { fed < LAST_OFFSET }
+    ensures within { IfOk result (λ n. (n ≤ length buffer.new) × (fed + n ≤ LAST_OFFSET)) }
+    ensures taken { IfOk result (λ n. TakenFrom (W.stream wire.old).input (W.stream wire.new).input (take n buffer.new)) }
+    ensures none { OnErr result (TakenFrom (W.stream wire.old).input (W.stream wire.new).input []) }
+    ensures end { result ≡ Ok 0 → IsAllOf (W.stream wire.old).input [] }
+    ensures counted { Counts (W.stream wire.old).reads_failed (W.stream wire.new).reads_failed result }
+    ensures rest { OutputStays (W.stream wire.old) (W.stream wire.new) }
 {
-    match front.next_step(alloc) {
-        Ok(Step::Ask(asked)) => take_request(alloc, front, back, wire, &asked),
-        Ok(Step::Say(text)) => say(wire, text.bytes()),
-        Ok(Step::More) => take_piece(alloc, front, wire, buffer, fed),
-        Ok(Step::Clean) => unreachable!(),
-        Ok(Step::Bad { place }) => Some(refuse(alloc, front, wire, place)),
-        Err(_) => Some(Ended::Memory),
+    let room = LAST_OFFSET - fed;
+    if room < buffer.len() as u64 {
+        wire.read(&mut buffer[..room as usize])
+    } else {
+        wire.read(buffer)
     }
 }
 
-/// Serves one wire: answers the requests that its bytes spell, in order, until it ends.
-///
-/// It costs what the requests cost, and time linear in the bytes however they come; it keeps one read buffer of 65,536
-/// bytes beside what the front and the backend keep. A request that finds no memory is refused with code 61, and the
-/// session goes on. An input is taken as ended at 2^64 - 1 bytes.
-pub fn serve<F: Front, B: Backend, W: Source + Sink>(
-    alloc: Global,
-    front: &mut F,
-    back: &mut B,
-    wire: &mut W,
-) -> Ended
-    // The front is new.
-    requires start { F.start front.old ≡ 0 }
-    requires nothing_waits { F.waiting front.old ≡ [] }
-
-    // What was written is the replies to what was read, and these are legal over the backend's history.
-    ensures served { Serves (F.spells front.old) (F.spells front.new) (B.history back.new) (length (B.history back.old))
-        (B.applied back.old) (B.mine back.old) (B.mine back.new) (W.input wire.old) (W.input wire.new)
-        (W.output wire.old) (W.output wire.new) result }
-    ensures history { Extends (B.history back.old) (B.history back.new) }
-
-    // Faults come only where the wire counted one.
-    ensures read_fault { result ≡ Ended.ReadFault → Rose (W.reads_failed wire.old) (W.reads_failed wire.new) }
-    ensures write_fault { result ≡ Ended.WriteFault → Rose (W.writes_failed wire.old) (W.writes_failed wire.new) }
-    ensures reads_never_fall { W.reads_failed wire.old ≤ W.reads_failed wire.new }
-    ensures writes_never_fall { W.writes_failed wire.old ≤ W.writes_failed wire.new }
-    ensures input_lent { W.input_lent wire.new ≡ W.input_lent wire.old }
-    ensures output_lent { W.output_lent wire.new ≡ W.output_lent wire.old }
+/// Ends the session where the input has ended.
+fn finish<F: Front, W: Sink>(alloc: Global, front: &mut F, wire: &mut W) -> Ended
+    ensures ended { Finishes (F.protocol front.old) (W.stream wire.old) (W.stream wire.new) result }
+    ensures faults { Faults (W.stream wire.old) (W.stream wire.new) (Some result) }
 {
-    let Ok(mut buffer) = vec![in alloc; 0u8; PIECE] else {
-        return Ended::Memory;
+    match front.finish() {
+        Step::Bad { place } => refuse(alloc, front, wire, place),
+        _ => Ended::Finished,
+    }
+}
+
+/// Refuses the bytes at this place, and ends the session.
+fn refuse<F: Front, W: Sink>(alloc: Global, front: &mut F, wire: &mut W, place: u64) -> Ended
+    ensures refused { Refuses (W.stream wire.old) (W.stream wire.new) ((F.protocol front.old).printed (refusal place)) result }
+    ensures faults { Faults (W.stream wire.old) (W.stream wire.new) (Some result) }
+{
+    let refusal = Reply::Refused {
+        code: Code::Frame.number(),
+        place,
     };
-    let mut fed = 0;
-    'steps: loop {
-        match take_step(alloc, front, back, wire, &mut buffer, &mut fed) {
-            Some(ended) => return ended,
-            None => {}
-        }
+    match print(alloc, front, wire, &refusal) {
+        Ok(()) => Ended::BadFrame,
+        Err(fault) => of_write(fault),
+    }
+}
+
+/// What the fault of a write makes of a session.
+fn of_write(fault: IoFault) -> Ended
+    ensures { result ≡ ended_by_write fault }
+{
+    match fault {
+        IoFault::Failed => Ended::WriteFault,
+        IoFault::Memory => Ended::Memory,
     }
 }

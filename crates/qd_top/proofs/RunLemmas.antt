@@ -1,23 +1,28 @@
 -- From what a session over frames says of itself to what a run says.
 use Rattle.std.proofs.Common.{◌≡◌, ℕ, ◌+◌, ◌<◌, ◌≤◌, ◌⊎◌, inl, inr, List, [], ◌∷◌, ◌++◌, length, take, drop, get_or, codes, Bool, IsTrue, nat_eq, Option, Some, None, Ok, Err, refl, sym, ◌∙◌, ap, subst, arith, zero, suc, ◌-◌}
 use Rattle.std.specs.List.{range_with_len}
-use Rattle.std.proofs.lemmas.List.{append-nil, append_assoc, length-append, take-append-drop}
+use Rattle.std.proofs.lemmas.List.{append-nil, append_assoc, length-append, take-append-drop, take_all}
+use Rattle.std.proofs.Math.Seq.{take-append-add}
 use Rattle.std.specs.Cmp.Lexicographic.{bytes_decides, pointwise}
-use Rattle.qd_io.specs.Ends.{Rose, WritesAll}
+use Rattle.qd_io.specs.Ends.{HasRisen, Stream, WritesAll}
 use Rattle.qd_io.specs.declared.fault.IoFault.{IoFault}
+use Rattle.qd_base.specs.declared.limits.TheConstants.{LAST_OFFSET}
 use Rattle.qd_base.specs.declared.op.Entry.{Entry}
 use Rattle.qd_base.specs.declared.request.Request.{Request}
 use Rattle.qd_base.specs.declared.request.Request.TheVariants as request
 use Rattle.qd_base.specs.declared.request.Reply.{Reply}
 use Rattle.qd_base.specs.declared.request.Reply.TheVariants as reply
-use Rattle.qd_base.specs.Script.{Turn, Asks, Ending, Waiting, Ended, Malformed}
+use Rattle.qd_base.specs.Script.{Protocol, Turn, Asks, Ending, Waiting, Ended, Malformed}
 use Rattle.qd_session.specs.declared.ended.Ended.{Ended as EndedBy}
 use Rattle.qd_session.specs.declared.ended.Ended.TheVariants as ended
-use Rattle.qd_session.specs.Frames.{Frames, Steps, asked, frame, frames_spell}
+use Rattle.qd_frames.specs.Frames.{Frames, Steps, asked, frame, frames_protocol}
+use Rattle.qd_print.specs.Printed.{reply_bytes}
+use Rattle.qd_session.specs.Allowed.{Allowed}
+use Rattle.qd_session.specs.Listed.{AllowedAlone, Listed, listed_shown}
+use Rattle.qd_session.specs.Looks.{Look}
 use Rattle.qd_session.specs.Legal.{Legal, LegalRun, done_numbers}
-use Rattle.qd_session.specs.Printed.{reply_bytes}
-use Rattle.qd_session.specs.Session.{Dialogue, IsBad, IsCutShort, PutTo, Serves, TakenFrom, requests_in, transcript}
-use Rattle.qd_top.specs.Run.{AppliesAll, CutRun, FinishedRun, IsOwn, IsRun, IsWellFramed, Ran, RefusedRun, Run, StoppedRun, WroteUsage, printed, usage}
+use Rattle.qd_session.specs.Session.{Dialogue, Faults, IsBad, IsCutShort, Moment, Moves, PutTo, Serves, TakenFrom, moment, refusal, requests_in, transcript}
+use Rattle.qd_top.specs.Run.{AnswersLast, AppliesAll, CountsReads, CountsWrites, CutRun, FinishedRun, IsRun, IsWellFramed, Ran, RefusedRun, Replied, Run, StoppedRun, Store, WroteUsage, look_of, no_store, printed, reached, usage}
 use Rattle.qd_top.specs.Status.{number_of, status_of}
 use Rattle.qd_top.specs.declared.status.Status.{Status}
 use Rattle.qd_top.specs.declared.status.Status.TheVariants as status
@@ -28,11 +33,11 @@ requests_in-asked [] = refl
 requests_in-asked (r ∷ rs) = ap (λ (x : List Request). r ∷ x) (requests_in-asked rs)
 
 -- one reply for each request
-matches : (h : List Entry) (k n : ℕ) (rs : List Request) (replies : List Reply) (k' n' : ℕ) → LegalRun h k n rs replies k' n' → length replies ≡ length rs
-matches h k n [] [] k' n' r = refl
-matches h k n (q ∷ rs) (t ∷ replies) k' n' r = ap suc (matches h r.0 r.1 rs replies k' n' r.5)
-matches h k n [] (t ∷ replies) k' n' r = absurd r
-matches h k n (q ∷ rs) [] k' n' r = absurd r
+matches : (h : Option (List Entry)) (from : Look) (rs : List Request) (replies : List Reply) (upto : Look) → LegalRun AllowedAlone h from rs replies upto → length replies ≡ length rs
+matches h from [] [] upto r = refl
+matches h from (q ∷ rs) (t ∷ replies) upto r = ap suc (matches h r.0 rs replies upto r.4)
+matches h from [] (t ∷ replies) upto r = absurd r
+matches h from (q ∷ rs) [] upto r = absurd r
 
 -- the transcript of turns that ask requests is the replies, printed
 transcript-asked : (rs : List Request) (replies : List Reply) → length replies ≡ length rs → transcript (asked rs) replies ≡ printed replies
@@ -86,142 +91,178 @@ Total = (at : ℕ) (bytes : List ℕ) → (rs : List Request) × (e : Ending) ×
 
 -- What is there of a history behind its first c transactions, and how far the session has looked: no further than its own
 -- transactions go, so each apply gives the number of these.
-pub record Counted (c k : ℕ) (replies : List Reply) : Type 0 where
-  pub most : k ≤ c
-  pub applies : AppliesAll c replies
+record Counted (c k : ℕ) (replies : List Reply) : Type 0 where
+  most : k ≤ c
+  applies : AppliesAll c replies
 
 range_empty : (a n : ℕ) → [] ≡ range_with_len a n → n ≡ 0
 range_empty a zero e = refl
 range_empty a (suc n) e = absurd (cc (e))
 
 -- the first of a range, and what is left of it
-pub record First (m : ℕ) (ms : List ℕ) (a n : ℕ) : Type 0 where
-  pub some : 0 < n
-  pub first_is : m ≡ a
-  pub rest : ms ≡ range_with_len (a + 1) (n - 1)
+record First (m : ℕ) (ms : List ℕ) (a n : ℕ) : Type 0 where
+  some : 0 < n
+  first_is : m ≡ a
+  rest : ms ≡ range_with_len (a + 1) (n - 1)
 
 range_first : (m : ℕ) (ms : List ℕ) (a n : ℕ) → m ∷ ms ≡ range_with_len a n → First m ms a n
 range_first m ms a zero e = absurd (cc (e))
 range_first m ms a (suc n) e = let tail : ms ≡ range_with_len (a + 1) n = cc (e) in record { some = omega arith; first_is = cc (e); rest = tail ∙ ap (λ (x : ℕ). range_with_len (a + 1) x) (omega arith) }
 
-counted : (h : List Entry) (c k n : ℕ) (requests : List Request) (replies : List Reply) (k' n' : ℕ) → LegalRun h k n requests replies k' n' → k' ≤ length h → done_numbers replies ≡ range_with_len (c + 1) (length h - c) → c ≤ k → Counted c k replies
-counted h c k n [] [] k' n' r le own low = record { most = omega (arith, range_empty (c + 1) (length h - c) own, r.0); applies = tt }
-counted h c k n [] (t ∷ replies) k' n' r le own low = absurd r
-counted h c k n (q ∷ requests) [] k' n' r le own low = absurd r
-counted h c k n (request.Write text ∷ requests) (reply.Done m ∷ replies) k' n' r le own low =
+-- what an acknowledgement, and an apply, say of the numbers
+done-says : (h : Option (List Entry)) (a b : Look) (time : ℕ) (q : Request) (m : ℕ) → Allowed h a b time q (reply.Done m) → (m ≡ b.sequenced) × (a.sequenced < m)
+done-says h a b time (request.Write text) m x = (x.0, x.1)
+done-says h a b time (request.Sql text) m x = absurd x
+done-says h a b time request.Apply m x = absurd x
+done-says h a b time request.End m x = absurd x
+
+applied-says : (h : Option (List Entry)) (a b : Look) (time : ℕ) (q : Request) (m : ℕ) → Allowed h a b time q (reply.Applied m) → (a.sequenced ≤ m) × (m ≤ b.sequenced)
+applied-says h a b time (request.Write text) m x = absurd x
+applied-says h a b time (request.Sql text) m x = absurd x
+applied-says h a b time request.Apply m x = (x.1, x.2)
+applied-says h a b time request.End m x = absurd x
+
+counted : (h : List Entry) (c : ℕ) (from : Look) (requests : List Request) (replies : List Reply) (upto : Look) → LegalRun Allowed (Some h) from requests replies upto → upto.sequenced ≤ length h → done_numbers replies ≡ range_with_len (c + 1) (length h - c) → c ≤ from.sequenced → Counted c from.sequenced replies
+counted h c from [] [] upto r le own low =
+    let same : upto.sequenced ≡ from.sequenced = ap (λ (x : Look). x.sequenced) r in
+    record { most = omega (arith, range_empty (c + 1) (length h - c) own, same, le); applies = tt }
+counted h c from [] (t ∷ replies) upto r le own low = absurd r
+counted h c from (q ∷ requests) [] upto r le own low = absurd r
+counted h c from (q ∷ requests) (reply.Done m ∷ replies) upto r le own low =
     let f = range_first m (done_numbers replies) (c + 1) (length h - c) own in
+    let says = done-says (Some h) from r.0 r.1 q m r.3 in
     let rest : done_numbers replies ≡ range_with_len (c + 1 + 1) (length h - (c + 1)) = f.rest ∙ ap (λ (x : ℕ). range_with_len (c + 1 + 1) x) (omega arith) in
-    let later = counted h (c + 1) r.0 r.1 requests replies k' n' r.5 le rest (omega (arith, r.4.0, f.first_is)) in
-    record { most = omega (arith, r.4.1, f.first_is); applies = later.applies }
-counted h c k n (request.Apply ∷ requests) (reply.Applied m ∷ replies) k' n' r le own low =
-    let later = counted h c r.0 r.1 requests replies k' n' r.5 le own (omega (arith, r.2)) in
-    record { most = omega (arith, r.2, later.most); applies = (omega (arith, r.2, later.most, r.4.1, r.4.2), later.applies) }
-counted h c k n (request.Write text ∷ requests) (reply.Refused code place ∷ replies) k' n' r le own low =
-    let later = counted h c r.0 r.1 requests replies k' n' r.5 le own (omega (arith, r.2)) in record { most = omega (arith, r.2, later.most); applies = later.applies }
-counted h c k n (request.Sql text ∷ requests) (reply.Rows m table ∷ replies) k' n' r le own low =
-    let later = counted h c r.0 r.1 requests replies k' n' r.5 le own (omega (arith, r.2)) in record { most = omega (arith, r.2, later.most); applies = later.applies }
-counted h c k n (request.Sql text ∷ requests) (reply.Refused code place ∷ replies) k' n' r le own low =
-    let later = counted h c r.0 r.1 requests replies k' n' r.5 le own (omega (arith, r.2)) in record { most = omega (arith, r.2, later.most); applies = later.applies }
-counted h c k n (request.Apply ∷ requests) (reply.Refused code place ∷ replies) k' n' r le own low =
-    let later = counted h c r.0 r.1 requests replies k' n' r.5 le own (omega (arith, r.2)) in record { most = omega (arith, r.2, later.most); applies = later.applies }
-counted h c k n (request.End ∷ requests) (reply.Bye ∷ replies) k' n' r le own low =
-    let later = counted h c r.0 r.1 requests replies k' n' r.5 le own (omega (arith, r.2)) in record { most = omega (arith, r.2, later.most); applies = later.applies }
-counted h c k n (request.Write text ∷ requests) (reply.Rows m table ∷ replies) k' n' r le own low = absurd r.4
-counted h c k n (request.Write text ∷ requests) (reply.Applied m ∷ replies) k' n' r le own low = absurd r.4
-counted h c k n (request.Write text ∷ requests) (reply.QueryRefused m code place ∷ replies) k' n' r le own low = absurd r.4
-counted h c k n (request.Write text ∷ requests) (reply.Damaged file at ∷ replies) k' n' r le own low = absurd r.4
-counted h c k n (request.Write text ∷ requests) (reply.Bye ∷ replies) k' n' r le own low = absurd r.4
-counted h c k n (request.Sql text ∷ requests) (reply.Done m ∷ replies) k' n' r le own low = absurd r.4
-counted h c k n (request.Sql text ∷ requests) (reply.Applied m ∷ replies) k' n' r le own low = absurd r.4
-counted h c k n (request.Sql text ∷ requests) (reply.QueryRefused m code place ∷ replies) k' n' r le own low = absurd r.4
-counted h c k n (request.Sql text ∷ requests) (reply.Damaged file at ∷ replies) k' n' r le own low = absurd r.4
-counted h c k n (request.Sql text ∷ requests) (reply.Bye ∷ replies) k' n' r le own low = absurd r.4
-counted h c k n (request.Apply ∷ requests) (reply.Done m ∷ replies) k' n' r le own low = absurd r.4
-counted h c k n (request.Apply ∷ requests) (reply.Rows m table ∷ replies) k' n' r le own low = absurd r.4
-counted h c k n (request.Apply ∷ requests) (reply.QueryRefused m code place ∷ replies) k' n' r le own low = absurd r.4
-counted h c k n (request.Apply ∷ requests) (reply.Damaged file at ∷ replies) k' n' r le own low = absurd r.4
-counted h c k n (request.Apply ∷ requests) (reply.Bye ∷ replies) k' n' r le own low = absurd r.4
-counted h c k n (request.End ∷ requests) (reply.Done m ∷ replies) k' n' r le own low = absurd r.4
-counted h c k n (request.End ∷ requests) (reply.Rows m table ∷ replies) k' n' r le own low = absurd r.4
-counted h c k n (request.End ∷ requests) (reply.Applied m ∷ replies) k' n' r le own low = absurd r.4
-counted h c k n (request.End ∷ requests) (reply.Refused code place ∷ replies) k' n' r le own low = absurd r.4
-counted h c k n (request.End ∷ requests) (reply.QueryRefused m code place ∷ replies) k' n' r le own low = absurd r.4
-counted h c k n (request.End ∷ requests) (reply.Damaged file at ∷ replies) k' n' r le own low = absurd r.4
+    let later = counted h (c + 1) r.0 requests replies upto r.4 le rest (omega (arith, says.0, f.first_is)) in
+    record { most = omega (arith, says.1, f.first_is); applies = later.applies }
+counted h c from (q ∷ requests) (reply.Applied m ∷ replies) upto r le own low =
+    let says = applied-says (Some h) from r.0 r.1 q m r.3 in
+    let later = counted h c r.0 requests replies upto r.4 le own (omega (arith, r.2.sequenced)) in
+    record { most = omega (arith, r.2.sequenced, later.most); applies = (omega (arith, r.2.sequenced, later.most, says.0, says.1), later.applies) }
+counted h c from (q ∷ requests) (reply.Rows m table ∷ replies) upto r le own low =
+    let later = counted h c r.0 requests replies upto r.4 le own (omega (arith, r.2.sequenced)) in record { most = omega (arith, r.2.sequenced, later.most); applies = later.applies }
+counted h c from (q ∷ requests) (reply.Refused number place ∷ replies) upto r le own low =
+    let later = counted h c r.0 requests replies upto r.4 le own (omega (arith, r.2.sequenced)) in record { most = omega (arith, r.2.sequenced, later.most); applies = later.applies }
+counted h c from (q ∷ requests) (reply.QueryRefused m number place ∷ replies) upto r le own low =
+    let later = counted h c r.0 requests replies upto r.4 le own (omega (arith, r.2.sequenced)) in record { most = omega (arith, r.2.sequenced, later.most); applies = later.applies }
+counted h c from (q ∷ requests) (reply.Damaged file at ∷ replies) upto r le own low =
+    let later = counted h c r.0 requests replies upto r.4 le own (omega (arith, r.2.sequenced)) in record { most = omega (arith, r.2.sequenced, later.most); applies = later.applies }
+counted h c from (q ∷ requests) (reply.Bye ∷ replies) upto r le own low =
+    let later = counted h c r.0 requests replies upto r.4 le own (omega (arith, r.2.sequenced)) in record { most = omega (arith, r.2.sequenced, later.most); applies = later.applies }
 
--- in a legal session over its own history each apply gives the number of all transactions so far
-applies_all : (h : List Entry) (requests : List Request) (replies : List Reply) → Legal h 0 0 requests replies → IsOwn h replies → AppliesAll 0 replies
-applies_all h requests replies l own =
-    (counted h 0 0 0 requests replies l.sequenced l.applied l.run l.seen (own ∙ ap (λ (x : ℕ). range_with_len 1 x) (omega arith)) (omega arith)).applies
+-- each query is over the last apply
+answers-last : (h : Option (List Entry)) (from : Look) (requests : List Request) (replies : List Reply) (upto : Look) → LegalRun AllowedAlone h from requests replies upto → AnswersLast from.known replies
+answers-last h from [] [] upto r = tt
+answers-last h from [] (t ∷ replies) upto r = absurd r
+answers-last h from (q ∷ requests) [] upto r = absurd r
+answers-last h from (q ∷ requests) (reply.Applied m ∷ replies) upto r =
+    subst (λ (n : ℕ). AnswersLast n replies) r.3.1 (answers-last h r.0 requests replies upto r.4)
+answers-last h from (q ∷ requests) (reply.Rows m table ∷ replies) upto r =
+    (r.3.1.1, subst (λ (n : ℕ). AnswersLast n replies) r.3.1.0 (answers-last h r.0 requests replies upto r.4))
+answers-last h from (q ∷ requests) (reply.QueryRefused m number place ∷ replies) upto r =
+    (r.3.1.1, subst (λ (n : ℕ). AnswersLast n replies) r.3.1.0 (answers-last h r.0 requests replies upto r.4))
+answers-last h from (q ∷ requests) (reply.Done m ∷ replies) upto r = subst (λ (n : ℕ). AnswersLast n replies) r.3.1 (answers-last h r.0 requests replies upto r.4)
+answers-last h from (q ∷ requests) (reply.Refused number place ∷ replies) upto r = subst (λ (n : ℕ). AnswersLast n replies) r.3.1 (answers-last h r.0 requests replies upto r.4)
+answers-last h from (q ∷ requests) (reply.Damaged file at ∷ replies) upto r = subst (λ (n : ℕ). AnswersLast n replies) r.3.1 (answers-last h r.0 requests replies upto r.4)
+answers-last h from (q ∷ requests) (reply.Bye ∷ replies) upto r = subst (λ (n : ℕ). AnswersLast n replies) r.3.1 (answers-last h r.0 requests replies upto r.4)
 
-module _ (total : Total) (later : Frames) (h : List Entry) (input input' output output' : Option (List ℕ)) where
+-- what the rule of a list allows, that of the product does
+product-run : (h : Option (List Entry)) (from : Look) (requests : List Request) (replies : List Reply) (upto : Look) → LegalRun AllowedAlone h from requests replies upto → LegalRun Allowed h from requests replies upto
+product-run h from [] [] upto r = r
+product-run h from (q ∷ requests) (t ∷ replies) upto r = (r.0, r.1, r.2, r.3.0, product-run h r.0 requests replies upto r.4)
+product-run h from [] (t ∷ replies) upto r = absurd r
+product-run h from (q ∷ requests) [] upto r = absurd r
+
+-- a store as a list
+abbrev stored : Store → Listed
+stored s = record { history = s.history; applied = s.applied }
+
+-- the replies of a session alone over a store that began empty
+replied-from_legal : (after : Store) (requests : List Request) (replies : List Reply) → Legal AllowedAlone (Some after.history) (look_of no_store) (look_of after) requests replies → range_with_len 1 (length after.history) ≡ done_numbers replies → Replied no_store after requests replies
+replied-from_legal after requests replies l own =
+    let run = product-run (Some after.history) (look_of no_store) requests replies (look_of after) l.run in
+    let numbers : done_numbers replies ≡ range_with_len (0 + 1) (length after.history - 0) = sym own ∙ ap (λ (x : ℕ). range_with_len 1 x) (omega arith) in
+    record {
+      legal = record { run = run; seen = l.seen; end_is_last = l.end_is_last };
+      own = record { grows = (after.history, refl); numbers = numbers };
+      applies = (counted after.history 0 (look_of no_store) requests replies (look_of after) run l.seen numbers (omega arith)).applies;
+      answers = answers-last (Some after.history) (look_of no_store) requests replies (look_of after) l.run;
+    }
+
+module _ (total : Total) (later : Frames) (after : Store) (wire wire' : Stream) where
+  abbrev first_moment : Moment
+  first_moment = moment (frames_protocol new_frames) (listed_shown (stored no_store)) wire
+
+  abbrev last_moment : Moment
+  last_moment = moment (frames_protocol later) (listed_shown (stored after)) wire'
+
   -- a whole session is a run
-  abbrev run_of : (taken : List ℕ) → TakenFrom input input' taken → Dialogue (frames_spell new_frames) h 0 0 [] (range_with_len 1 (length h)) taken → Run input input'
-  run_of taken from d = record {
+  abbrev run_of : (taken : List ℕ) → TakenFrom wire.input wire'.input taken → length taken ≤ LAST_OFFSET → Dialogue AllowedAlone first_moment last_moment taken → Run no_store wire.input wire'.input
+  run_of taken from short d = record {
     taken = taken;
     requests = d.spelled.0;
     ending = d.script.ending;
     replies = d.replies;
-    history = h;
+    after = after;
     from = from;
+    short = short;
     spelled = d.spelled.2;
-    legal = subst (λ (rs : List Request). Legal h 0 0 rs d.replies) (ap requests_in d.spelled.1 ∙ requests_in-asked d.spelled.0) d.legal;
-    own = sym d.own;
-    applies = applies_all h d.spelled.0 d.replies (subst (λ (rs : List Request). Legal h 0 0 rs d.replies) (ap requests_in d.spelled.1 ∙ requests_in-asked d.spelled.0) d.legal) (sym d.own);
+    replied = replied-from_legal after d.spelled.0 d.replies
+        (subst (λ (rs : List Request). Legal AllowedAlone (Some after.history) (look_of no_store) (look_of after) rs d.replies) (ap requests_in d.spelled.1 ∙ requests_in-asked d.spelled.0) d.legal) d.own;
   }
 
-  written_is : (taken : List ℕ) (d : Dialogue (frames_spell new_frames) h 0 0 [] (range_with_len 1 (length h)) taken) → transcript d.script.turns d.replies ≡ printed d.replies
+  written_is : (taken : List ℕ) (d : Dialogue AllowedAlone first_moment last_moment taken) → transcript d.script.turns d.replies ≡ printed d.replies
   written_is taken d =
-      let legal : Legal h 0 0 d.spelled.0 d.replies = subst (λ (rs : List Request). Legal h 0 0 rs d.replies) (ap requests_in d.spelled.1 ∙ requests_in-asked d.spelled.0) d.legal in
-      ap (λ (ts : List Turn). transcript ts d.replies) d.spelled.1 ∙ transcript-asked d.spelled.0 d.replies (matches h 0 0 d.spelled.0 d.replies legal.sequenced legal.applied legal.run)
+      let legal : Legal AllowedAlone (Some after.history) (look_of no_store) (look_of after) d.spelled.0 d.replies =
+      subst (λ (rs : List Request). Legal AllowedAlone (Some after.history) (look_of no_store) (look_of after) rs d.replies) (ap requests_in d.spelled.1 ∙ requests_in-asked d.spelled.0) d.legal in
+      ap (λ (ts : List Turn). transcript ts d.replies) d.spelled.1 ∙ transcript-asked d.spelled.0 d.replies (matches (Some after.history) (look_of no_store) d.spelled.0 d.replies (look_of after) legal.run)
 
-  bad_of : (taken : List ℕ) (d : Dialogue (frames_spell new_frames) h 0 0 [] (range_with_len 1 (length h)) taken) (place : ℕ) (f : Reply → List ℕ) → IsBad input taken d.script.ending place f → f ≡ reply_bytes
-  bad_of taken d place f bad = bad_prints input taken d.script.ending place f (prints 0 taken d.spelled.0 d.script.ending d.spelled.2) bad
+  bad_of : (taken : List ℕ) (d : Dialogue AllowedAlone first_moment last_moment taken) (place : ℕ) (f : Reply → List ℕ) → IsBad wire.input taken d.script.ending place f → f ≡ reply_bytes
+  bad_of taken d place f bad = bad_prints wire.input taken d.script.ending place f (prints 0 taken d.spelled.0 d.script.ending d.spelled.2) bad
 
-  cut_of : (taken written : List ℕ) → TakenFrom input input' taken → PutTo output output' written
-      → IsCutShort (frames_spell new_frames) (frames_spell later) h 0 0 [] (range_with_len 1 (length h)) input taken written → CutRun input input' output output'
-  cut_of taken written from put (inl (b, missing, e)) =
+  cut_of : (taken written : List ℕ) → Moves wire wire' taken written → length taken ≤ LAST_OFFSET
+      → IsCutShort AllowedAlone first_moment last_moment taken written → CutRun no_store wire.input wire'.input wire.output wire'.output
+  cut_of taken written moved short (inl (b, missing, e)) =
       let t = total later.start (later.waiting ++ (b.unfed ++ [])) in
       let q = b.begins [] (record { turns = asked t.0; ending = t.1 }) (t.0, refl, t.2) in
       let s = split_asked b.turns (asked t.0) q.0 q.1 in
-      let legal : Legal h 0 0 s.front b.replies = subst (λ (rs : List Request). Legal h 0 0 rs b.replies) (ap requests_in s.turns_are ∙ requests_in-asked s.front) b.legal in
+      let legal : Legal AllowedAlone (Some after.history) (look_of no_store) (look_of after) s.front b.replies =
+      subst (λ (rs : List Request). Legal AllowedAlone (Some after.history) (look_of no_store) (look_of after) rs b.replies) (ap requests_in s.turns_are ∙ requests_in-asked s.front) b.legal in
       record {
         taken = taken;
         requests = s.front;
         later = s.later;
         ending = t.1;
         replies = b.replies;
-        history = h;
+        after = after;
         written = written;
         missing = missing;
-        from = from;
+        from = moved.from;
+        short = short;
         spelled = subst (λ (rs : List Request). Steps 0 taken rs t.1) s.whole (subst (λ (x : List ℕ). Steps 0 x q.0 t.1) (append-nil taken) q.2);
-        legal = legal;
-        own = sym b.own;
-        applies = applies_all h s.front b.replies legal (sym b.own);
-        put = put;
-        front = inl (sym (ap (λ (ts : List Turn). transcript ts b.replies) s.turns_are ∙ transcript-asked s.front b.replies (matches h 0 0 s.front b.replies legal.sequenced legal.applied legal.run)) ∙ e);
+        replied = replied-from_legal after s.front b.replies legal b.own;
+        put = moved.to;
+        front = inl (sym (ap (λ (ts : List Turn). transcript ts b.replies) s.turns_are ∙ transcript-asked s.front b.replies (matches (Some after.history) (look_of no_store) s.front b.replies (look_of after) legal.run)) ∙ e);
       }
-  cut_of taken written from put (inr (inl (d, missing, e))) =
-      let r = run_of taken from d in
+  cut_of taken written moved short (inr (inl (d, missing, e))) =
+      let r = run_of taken moved.from short d in
       record {
         taken = taken;
         requests = r.requests;
         later = [];
         ending = r.ending;
         replies = r.replies;
-        history = h;
+        after = after;
         written = written;
         missing = missing;
-        from = from;
+        from = moved.from;
+        short = short;
         spelled = subst (λ (rs : List Request). Steps 0 taken rs d.script.ending) (sym (append-nil r.requests)) r.spelled;
-        legal = r.legal;
-        own = r.own;
-        applies = r.applies;
-        put = put;
+        replied = r.replied;
+        put = moved.to;
         front = inl (sym (written_is taken d) ∙ e);
       }
-  cut_of taken written from put (inr (inr (d, place, f, missing, bad, e))) =
-      let r = run_of taken from d in
+  cut_of taken written moved short (inr (inr (d, place, f, missing, bad, e))) =
+      let r = run_of taken moved.from short d in
       let f_is = bad_of taken d place f bad in
       record {
         taken = taken;
@@ -229,47 +270,49 @@ module _ (total : Total) (later : Frames) (h : List Entry) (input input' output 
         later = [];
         ending = r.ending;
         replies = r.replies;
-        history = h;
+        after = after;
         written = written;
         missing = missing;
-        from = from;
+        from = moved.from;
+        short = short;
         spelled = subst (λ (rs : List Request). Steps 0 taken rs d.script.ending) (sym (append-nil r.requests)) r.spelled;
-        legal = r.legal;
-        own = r.own;
-        applies = r.applies;
-        put = put;
+        replied = r.replied;
+        put = moved.to;
         front = inr (
           refl,
           place,
-          subst (λ (x : Reply → List ℕ). IsBad input taken d.script.ending place x) f_is bad,
-          ap (λ (x : List ℕ). x ++ reply_bytes (reply.Refused 1 place)) (sym (written_is taken d)) ∙ ap (λ (x : Reply → List ℕ). transcript d.script.turns d.replies ++ x (reply.Refused 1 place)) (sym f_is) ∙ e,
+          subst (λ (x : Reply → List ℕ). IsBad wire.input taken d.script.ending place x) f_is bad,
+          ap (λ (x : List ℕ). x ++ reply_bytes (refusal place)) (sym (written_is taken d)) ∙ ap (λ (x : Reply → List ℕ). transcript d.script.turns d.replies ++ x (refusal place)) (sym f_is) ∙ e,
         );
       }
 
-  ran : (how : EndedBy) → Serves (frames_spell new_frames) (frames_spell later) h 0 0 [] (range_with_len 1 (length h)) input input' output output' how → Ran input input' output output' (status_of how)
-  ran ended.Finished (taken, written, from, put, (d, clean, e)) =
-      (run_of taken from d, clean, subst (λ (x : List ℕ). PutTo output output' x) (e ∙ written_is taken d) put)
-  ran ended.BadFrame (taken, written, from, put, (d, place, f, bad, e)) =
-      let f_is = bad_of taken d place f bad in (
-        run_of taken from d,
-        place,
-        subst (λ (x : Reply → List ℕ). IsBad input taken d.script.ending place x) f_is bad,
-        subst (λ (x : List ℕ). PutTo output output' x) (e ∙ ap (λ (x : Reply → List ℕ). transcript d.script.turns d.replies ++ x (reply.Refused 1 place)) f_is ∙ ap (λ (x : List ℕ). x ++ reply_bytes (reply.Refused 1 place)) (written_is taken d)) put,
+  ran : (how : EndedBy) → Serves AllowedAlone first_moment last_moment how → Ran no_store wire.input wire'.input wire.output wire'.output (status_of how)
+  ran ended.Finished s =
+      let c = s.concluded in
+      (run_of s.taken s.moved.from s.short c.0, c.1, subst (λ (x : List ℕ). PutTo wire.output wire'.output x) (c.2 ∙ written_is s.taken c.0) s.moved.to)
+  ran ended.BadFrame s =
+      let c = s.concluded in
+      let f_is = bad_of s.taken c.0 c.1 c.2 c.3 in (
+        run_of s.taken s.moved.from s.short c.0,
+        c.1,
+        subst (λ (x : Reply → List ℕ). IsBad wire.input s.taken c.0.script.ending c.1 x) f_is c.3,
+        subst (λ (x : List ℕ). PutTo wire.output wire'.output x) (c.4 ∙ ap (λ (x : Reply → List ℕ). transcript c.0.script.turns c.0.replies ++ x (refusal c.1)) f_is ∙ ap (λ (x : List ℕ). x ++ reply_bytes (refusal c.1)) (written_is s.taken c.0)) s.moved.to,
       )
-  ran ended.ReadFault (taken, written, from, put, (d, waits, e)) =
-      (run_of taken from d, waits, subst (λ (x : List ℕ). PutTo output output' x) (e ∙ written_is taken d) put)
-  ran ended.WriteFault (taken, written, from, put, cut) = cut_of taken written from put cut
-  ran ended.Memory (taken, written, from, put, cut) = cut_of taken written from put cut
+  ran ended.ReadFault s =
+      let c = s.concluded in
+      (run_of s.taken s.moved.from s.short c.0, c.1, subst (λ (x : List ℕ). PutTo wire.output wire'.output x) (c.2 ∙ written_is s.taken c.0) s.moved.to)
+  ran ended.WriteFault s = cut_of s.taken s.written s.moved s.short s.concluded
+  ran ended.Memory s = cut_of s.taken s.written s.moved s.short s.concluded
 
-  -- the same, where the front and the history are known to be new by equations
-  pub ran-from_serves : (f : Frames) (h₀ : List Entry) (n₀ : ℕ) (how : EndedBy) → f ≡ record { waiting = []; start = 0 } → h₀ ≡ [] → n₀ ≡ 0
-      → Serves (frames_spell f) (frames_spell later) h (length h₀) n₀ (range_with_len 1 (length h₀)) (range_with_len 1 (length h)) input input' output output' how
-      → Ran input input' output output' (status_of how)
-  ran-from_serves f h₀ n₀ how ef eh en s =
+  -- the same, where the front and the list are known to be new by equations
+  pub ran-from_serves : (f : Frames) (l : Listed) (how : EndedBy) → f ≡ new_frames → l.history ≡ [] → l.applied ≡ 0
+      → Serves AllowedAlone (moment (frames_protocol f) (listed_shown l) wire) last_moment how
+      → Ran no_store wire.input wire'.input wire.output wire'.output (status_of how)
+  ran-from_serves f l how ef eh en s =
       ran how
-      (subst (λ (x : List Entry). Serves (frames_spell new_frames) (frames_spell later) h (length x) 0 (range_with_len 1 (length x)) (range_with_len 1 (length h)) input input' output output' how) eh
-      (subst (λ (x : ℕ). Serves (frames_spell new_frames) (frames_spell later) h (length h₀) x (range_with_len 1 (length h₀)) (range_with_len 1 (length h)) input input' output output' how) en
-      (subst (λ (x : Frames). Serves (frames_spell x) (frames_spell later) h (length h₀) n₀ (range_with_len 1 (length h₀)) (range_with_len 1 (length h)) input input' output output' how) ef s)))
+      (subst (λ (x : List Entry). Serves AllowedAlone (moment (frames_protocol new_frames) (listed_shown (record { history = x; applied = 0 })) wire) last_moment how) eh
+      (subst (λ (x : ℕ). Serves AllowedAlone (moment (frames_protocol new_frames) (listed_shown (record { history = l.history; applied = x })) wire) last_moment how) en
+      (subst (λ (x : Frames). Serves AllowedAlone (moment (frames_protocol x) (listed_shown l) wire) last_moment how) ef s)))
 
 -- one word is `run`
 pub word_is_run : (words : List (List ℕ)) (only : List ℕ) (r : Bool) → 1 ≤ length words → length words < 2 → only ≡ get_or words 0 only → r ≡ pointwise nat_eq only (codes "run") → (IsTrue r → IsRun words) × (IsRun words → IsTrue r)
@@ -303,22 +346,36 @@ malformed_more at a b (request.Apply ∷ rs) place f s =
     (s.0 ++ b, s.1, ap (λ (x : List ℕ). x ++ b) s.2 ∙ append_assoc (frame request.Apply) s.0 b, malformed_more (at + length (frame request.Apply)) s.0 b rs place f s.3)
 
 -- an input of whole frames doesn't end badly
-not_bad : (bytes taken left : List ℕ) (rs : List Request) (e : Ending) (place : ℕ) → bytes ≡ taken ++ left → IsWellFramed (Some bytes) → Steps 0 taken rs e → IsBad (Some bytes) taken e place reply_bytes → ⊥
-not_bad bytes taken left rs Ended place whole well s bad = bad
-not_bad bytes taken left rs (Waiting rest at f) place whole well s (some, inl all, at_is, f_is) =
-    let clean = well.1 rs (Waiting rest at f) (subst (λ (x : List ℕ). Steps 0 x rs (Waiting rest at f)) (sym all) s) in
-    omega (arith, some, ap length clean.0)
-not_bad bytes taken left rs (Waiting rest at f) place whole well s (some, inr full, at_is, f_is) =
-    omega (arith, full, well.0, ap length whole, length-append taken left)
-not_bad bytes taken left rs (Malformed at f) place whole well s bad =
-    well.1 rs (Malformed at f) (subst (λ (x : List ℕ). Steps 0 x rs (Malformed at f)) (sym whole) (malformed_more 0 taken left rs at f s))
+module _ (bytes taken left : List ℕ) (rs : List Request) (place : ℕ) (whole : bytes ≡ taken ++ left) (short : length taken ≤ LAST_OFFSET) (well : IsWellFramed (Some bytes)) where
+  -- as far as offsets reach, the bytes begin with those taken
+  reached_is : reached bytes ≡ taken ++ take (LAST_OFFSET - length taken) left
+  reached_is =
+      let split : LAST_OFFSET ≡ length taken + (LAST_OFFSET - length taken) = omega (arith, short) in
+      ap (take LAST_OFFSET) whole ∙ ap (λ (n : ℕ). take n (taken ++ left)) split ∙ take-append-add taken left (LAST_OFFSET - length taken)
 
-not_refused : (input input' output output' : Option (List ℕ)) → IsWellFramed input → RefusedRun input input' output output' → ⊥
+  -- where the input has ended, the bytes taken are all that offsets reach
+  all_reached : (bytes ≡ taken) ⊎ (length taken ≡ LAST_OFFSET) → reached bytes ≡ taken
+  all_reached (inl all) = ap (take LAST_OFFSET) all ∙ take_all LAST_OFFSET taken short
+  all_reached (inr full) =
+      let none : LAST_OFFSET - length taken ≡ 0 = omega (arith, full) in
+      reached_is ∙ ap (λ (n : ℕ). taken ++ take n left) none ∙ append-nil taken
+
+  not_bad : (e : Ending) → Steps 0 taken rs e → IsBad (Some bytes) taken e place reply_bytes → ⊥
+  not_bad Ended s bad = bad
+  not_bad (Waiting rest at f) s (some, over, at_is, f_is) =
+      let all : reached bytes ≡ taken = all_reached over in
+      let clean = well rs (Waiting rest at f) (subst (λ (x : List ℕ). Steps 0 x rs (Waiting rest at f)) (sym all) s) in
+      omega (arith, some, ap length clean.0)
+  not_bad (Malformed at f) s bad =
+      well rs (Malformed at f) (subst (λ (x : List ℕ). Steps 0 x rs (Malformed at f)) (sym reached_is) (malformed_more 0 taken (take (LAST_OFFSET - length taken) left) rs at f s))
+
+not_refused : (input input' output output' : Option (List ℕ)) → IsWellFramed input → RefusedRun no_store input input' output output' → ⊥
 not_refused None input' output output' well r = well
-not_refused (Some bytes) input' output output' well (r, place, bad, put) = not_bad bytes r.taken r.from.0 r.requests r.ending place r.from.2 well r.spelled bad
+not_refused (Some bytes) input' output output' well (r, place, bad, put) = not_bad bytes r.taken r.from.0 r.requests place r.from.2 r.short well r.ending r.spelled bad
 
 module _ (input input' output output' : Option (List ℕ)) where
-  pub finished-from : (s : Status) → number_of s ≡ 0 → Ran input input' output output' s → FinishedRun input input' output output'
+  -- each number is that of one status alone
+  pub finished-from : (s : Status) → number_of s ≡ 0 → Ran no_store input input' output output' s → FinishedRun no_store input input' output output'
   finished-from status.Finished e r = r
   finished-from status.Usage e r = absurd (omega (arith, e))
   finished-from status.BadFrame e r = absurd (omega (arith, e))
@@ -326,7 +383,7 @@ module _ (input input' output output' : Option (List ℕ)) where
   finished-from status.WriteFault e r = absurd (omega (arith, e))
   finished-from status.NoMemory e r = absurd (omega (arith, e))
 
-  pub refused-from : (s : Status) → number_of s ≡ 2 → Ran input input' output output' s → RefusedRun input input' output output'
+  pub refused-from : (s : Status) → number_of s ≡ 2 → Ran no_store input input' output output' s → RefusedRun no_store input input' output output'
   refused-from status.BadFrame e r = r
   refused-from status.Finished e r = absurd (omega (arith, e))
   refused-from status.Usage e r = absurd (omega (arith, e))
@@ -334,7 +391,7 @@ module _ (input input' output output' : Option (List ℕ)) where
   refused-from status.WriteFault e r = absurd (omega (arith, e))
   refused-from status.NoMemory e r = absurd (omega (arith, e))
 
-  pub stopped-from : (s : Status) → number_of s ≡ 3 → Ran input input' output output' s → StoppedRun input input' output output'
+  pub stopped-from : (s : Status) → number_of s ≡ 3 → Ran no_store input input' output output' s → StoppedRun no_store input input' output output'
   stopped-from status.ReadFault e r = r
   stopped-from status.Finished e r = absurd (omega (arith, e))
   stopped-from status.Usage e r = absurd (omega (arith, e))
@@ -343,11 +400,60 @@ module _ (input input' output output' : Option (List ℕ)) where
   stopped-from status.NoMemory e r = absurd (omega (arith, e))
 
   -- over whole frames, and where no count rises, a run finishes or finds no memory
-  pub complete-from : (s : Status) (reads reads' writes writes' : ℕ) → Ran input input' output output' s → (s ≡ status.ReadFault → Rose reads reads') → (s ≡ status.WriteFault → Rose writes writes')
-      → IsWellFramed input → (Rose reads reads' → ⊥) → (Rose writes writes' → ⊥) → (number_of s ≡ 0) ⊎ (number_of s ≡ 7)
+  pub complete-from : (s : Status) (reads reads' writes writes' : ℕ) → Ran no_store input input' output output' s → CountsReads reads reads' s → CountsWrites writes writes' s
+      → IsWellFramed input → (HasRisen reads reads' → ⊥) → (HasRisen writes writes' → ⊥) → (number_of s ≡ 0) ⊎ (number_of s ≡ 7)
   complete-from status.Finished reads reads' writes writes' r read write well no_read no_write = inl refl
   complete-from status.Usage reads reads' writes writes' r read write well no_read no_write = absurd r
   complete-from status.BadFrame reads reads' writes writes' r read write well no_read no_write = absurd (not_refused input input' output output' well r)
-  complete-from status.ReadFault reads reads' writes writes' r read write well no_read no_write = absurd (no_read (read refl))
-  complete-from status.WriteFault reads reads' writes writes' r read write well no_read no_write = absurd (no_write (write refl))
+  complete-from status.ReadFault reads reads' writes writes' r read write well no_read no_write = absurd (no_read read.1)
+  complete-from status.WriteFault reads reads' writes writes' r read write well no_read no_write = absurd (no_write write.1)
   complete-from status.NoMemory reads reads' writes writes' r read write well no_read no_write = inr refl
+
+-- the counts of a session are those of its status
+pub reads-from_faults : (a b : Stream) (how : EndedBy) → Faults a b (Some how) → CountsReads a.reads_failed b.reads_failed (status_of how)
+reads-from_faults a b ended.Finished f = f.reads
+reads-from_faults a b ended.BadFrame f = f.reads
+reads-from_faults a b ended.ReadFault f = f.reads
+reads-from_faults a b ended.WriteFault f = f.reads
+reads-from_faults a b ended.Memory f = f.reads
+
+pub writes-from_faults : (a b : Stream) (how : EndedBy) → Faults a b (Some how) → CountsWrites a.writes_failed b.writes_failed (status_of how)
+writes-from_faults a b ended.Finished f = f.writes
+writes-from_faults a b ended.BadFrame f = f.writes
+writes-from_faults a b ended.ReadFault f = f.writes
+writes-from_faults a b ended.WriteFault f = f.writes
+writes-from_faults a b ended.Memory f = f.writes
+
+-- where the status has this number, the count has risen
+pub read-cause-from : (s : Status) (before now : ℕ) → number_of s ≡ 3 → CountsReads before now s → (before ≤ now) × HasRisen before now
+read-cause-from status.ReadFault before now e c = c
+read-cause-from status.Finished before now e c = absurd (omega (arith, e))
+read-cause-from status.Usage before now e c = absurd (omega (arith, e))
+read-cause-from status.BadFrame before now e c = absurd (omega (arith, e))
+read-cause-from status.WriteFault before now e c = absurd (omega (arith, e))
+read-cause-from status.NoMemory before now e c = absurd (omega (arith, e))
+
+-- and otherwise it stays
+pub reads-stay-from : (s : Status) (before now : ℕ) → (number_of s ≡ 3 → ⊥) → CountsReads before now s → now ≡ before
+reads-stay-from status.ReadFault before now e c = absurd (e refl)
+reads-stay-from status.Finished before now e c = c
+reads-stay-from status.Usage before now e c = c
+reads-stay-from status.BadFrame before now e c = c
+reads-stay-from status.WriteFault before now e c = c
+reads-stay-from status.NoMemory before now e c = c
+
+pub write-cause-from : (s : Status) (before now : ℕ) → number_of s ≡ 4 → CountsWrites before now s → (before ≤ now) × HasRisen before now
+write-cause-from status.WriteFault before now e c = c
+write-cause-from status.Finished before now e c = absurd (omega (arith, e))
+write-cause-from status.Usage before now e c = absurd (omega (arith, e))
+write-cause-from status.BadFrame before now e c = absurd (omega (arith, e))
+write-cause-from status.ReadFault before now e c = absurd (omega (arith, e))
+write-cause-from status.NoMemory before now e c = absurd (omega (arith, e))
+
+pub writes-stay-from : (s : Status) (before now : ℕ) → (number_of s ≡ 4 → ⊥) → (number_of s ≡ 1 → ⊥) → CountsWrites before now s → now ≡ before
+writes-stay-from status.WriteFault before now e u c = absurd (e refl)
+writes-stay-from status.Usage before now e u c = absurd (u refl)
+writes-stay-from status.Finished before now e u c = c
+writes-stay-from status.BadFrame before now e u c = c
+writes-stay-from status.ReadFault before now e u c = c
+writes-stay-from status.NoMemory before now e u c = c

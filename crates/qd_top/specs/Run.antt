@@ -1,15 +1,19 @@
 -- What a run of the program took and wrote, by its status.
-use Rattle.std.specs.Prelude.{◌≡◌, ℕ, ◌+◌, ◌<◌, ◌⊎◌, List, [], ◌∷◌, ◌++◌, codes, length, Option, Some, None}
+use Rattle.std.specs.Prelude.{◌≡◌, ℕ, ◌+◌, ◌-◌, ◌≤◌, ◌⊎◌, List, [], ◌∷◌, ◌++◌, codes, length, take, Option, Some, None}
 use Rattle.std.specs.List.{flat_map, range_with_len}
+use Rattle.qd_base.specs.declared.limits.TheConstants.{LAST_OFFSET}
 use Rattle.qd_base.specs.declared.op.Entry.{Entry}
 use Rattle.qd_base.specs.declared.request.Request.{Request}
 use Rattle.qd_base.specs.declared.request.Reply.{Reply}
 use Rattle.qd_base.specs.declared.request.Reply.TheVariants as reply
 use Rattle.qd_base.specs.Script.{Ending}
-use Rattle.qd_session.specs.Frames.{Steps}
+use Rattle.qd_io.specs.Ends.{HasRisen}
+use Rattle.qd_frames.specs.Frames.{Steps}
+use Rattle.qd_print.specs.Printed.{reply_bytes}
+use Rattle.qd_session.specs.Allowed.{Allowed}
 use Rattle.qd_session.specs.Legal.{Legal, done_numbers}
-use Rattle.qd_session.specs.Printed.{reply_bytes}
-use Rattle.qd_session.specs.Session.{IsBad, IsClean, IsWaiting, PutTo, TakenFrom}
+use Rattle.qd_session.specs.Looks.{Extends, Look}
+use Rattle.qd_session.specs.Session.{IsBad, IsClean, IsWaiting, PutTo, TakenFrom, refusal}
 use Rattle.qd_top.specs.declared.status.Status.{Status}
 use Rattle.qd_top.specs.declared.status.Status.TheVariants as status
 
@@ -25,86 +29,125 @@ usage = codes "usage: tsdb run [--dir D] | gen NUMBER LINES | serve PORT --dir D
 abbrev pub printed : List Reply → List ℕ
 printed replies = flat_map reply_bytes replies
 
--- each transaction of the history is that of one `K` reply, in order, and there is no other
-abbrev pub IsOwn : List Entry → List Reply → Type 0
-IsOwn history replies = done_numbers replies ≡ range_with_len 1 (length history)
+-- what a run begins with, and what it ends with: the transactions, and how many of them are applied
+pub record Store : Type 0 where
+  pub history : List Entry
+  pub applied : ℕ
+
+-- a run in memory begins with nothing
+abbrev pub no_store : Store
+no_store = record { history = []; applied = 0 }
+
+-- what a session knows of a store that no fault has met
+abbrev pub look_of : Store → Look
+look_of s = record { sequenced = length s.history; known = s.applied; clock_faults = 0; volume_faults = 0; pinned = [] }
+
+-- The history grew by the transactions of the `K` replies, in order, and by nothing else.
+pub record IsOwn (before after : Store) (replies : List Reply) : Type 0 where
+  pub grows : Extends (Some before.history) (Some after.history)
+  pub numbers : done_numbers replies ≡ range_with_len (length before.history + 1) (length after.history - length before.history)
 
 -- Each apply gives the number of all transactions that were acknowledged before it, of which n were before these replies.
 abbrev pub AppliesAll : ℕ → List Reply → Type 0
 AppliesAll n [] = Unit {0}
 AppliesAll n (reply.Done m ∷ replies) = AppliesAll (n + 1) replies
 AppliesAll n (reply.Applied m ∷ replies) = (m ≡ n) × AppliesAll n replies
-AppliesAll n (reply.Rows m table ∷ replies) = AppliesAll n replies
-AppliesAll n (reply.Refused code place ∷ replies) = AppliesAll n replies
-AppliesAll n (reply.QueryRefused m code place ∷ replies) = AppliesAll n replies
-AppliesAll n (reply.Damaged file at ∷ replies) = AppliesAll n replies
-AppliesAll n (reply.Bye ∷ replies) = AppliesAll n replies
+AppliesAll n (given ∷ replies) = AppliesAll n replies
 
--- A run over frames: the bytes taken from the input, the requests that they spell and how they end, the replies, one for
--- each request and legal over the history, and that history, which began empty.
-pub record Run (input input' : Option (List ℕ)) : Type 0 where
+-- Each query is answered over just what the last apply before it gave, which was n before these replies.
+abbrev pub AnswersLast : ℕ → List Reply → Type 0
+AnswersLast n [] = Unit {0}
+AnswersLast n (reply.Applied m ∷ replies) = AnswersLast m replies
+AnswersLast n (reply.Rows m table ∷ replies) = (m ≡ n) × AnswersLast n replies
+AnswersLast n (reply.QueryRefused m number place ∷ replies) = (m ≡ n) × AnswersLast n replies
+AnswersLast n (given ∷ replies) = AnswersLast n replies
+
+-- The replies of one session alone over a store: legal, and exact where nobody else applies.
+pub record Replied (before after : Store) (requests : List Request) (replies : List Reply) : Type 0 where
+  pub legal : Legal Allowed (Some after.history) (look_of before) (look_of after) requests replies
+  pub own : IsOwn before after replies
+  pub applies : AppliesAll (length before.history) replies
+  pub answers : AnswersLast before.applied replies
+
+-- A run over frames: the bytes taken from the input, the requests that they spell and how they end, and the replies, one
+-- for each request, from a store to the one that it left.
+pub record Run (before : Store) (input input' : Option (List ℕ)) : Type 0 where
   pub taken : List ℕ
   pub requests : List Request
   pub ending : Ending
   pub replies : List Reply
-  pub history : List Entry
+  pub after : Store
   pub from : TakenFrom input input' taken
+  pub short : length taken ≤ LAST_OFFSET
   pub spelled : Steps 0 taken requests ending
-  pub legal : Legal history 0 0 requests replies
-  pub own : IsOwn history replies
-  pub applies : AppliesAll 0 replies
+  pub replied : Replied before after requests replies
 
 -- Status 0: the bytes taken are whole frames up to the end of the input or to a request for the end, and the bytes
 -- written are the replies.
-abbrev pub FinishedRun : (input input' output output' : Option (List ℕ)) → Type 0
-FinishedRun input input' output output' =
-    (r : Run input input') × IsClean input r.taken r.ending × PutTo output output' (printed r.replies)
+abbrev pub FinishedRun : Store → (input input' output output' : Option (List ℕ)) → Type 0
+FinishedRun before input input' output output' =
+    (r : Run before input input') × IsClean input r.taken r.ending × PutTo output output' (printed r.replies)
 
 -- Status 2: the same up to the first bytes that are no frame, or to a frame inside which the input ended; its place is
 -- answered, and nothing after it.
-abbrev pub RefusedRun : (input input' output output' : Option (List ℕ)) → Type 0
-RefusedRun input input' output output' =
-    (r : Run input input') × (place : ℕ) × IsBad input r.taken r.ending place reply_bytes × PutTo output output' (printed r.replies ++ reply_bytes (reply.Refused 1 place))
+abbrev pub RefusedRun : Store → (input input' output output' : Option (List ℕ)) → Type 0
+RefusedRun before input input' output output' =
+    (r : Run before input input') × (place : ℕ) × IsBad input r.taken r.ending place reply_bytes × PutTo output output' (printed r.replies ++ reply_bytes (refusal place))
 
 -- Status 3: the bytes written are the replies to all requests of the bytes taken.
-abbrev pub StoppedRun : (input input' output output' : Option (List ℕ)) → Type 0
-StoppedRun input input' output output' =
-    (r : Run input input') × IsWaiting r.ending × PutTo output output' (printed r.replies)
+abbrev pub StoppedRun : Store → (input input' output output' : Option (List ℕ)) → Type 0
+StoppedRun before input input' output output' =
+    (r : Run before input input') × IsWaiting r.ending × PutTo output output' (printed r.replies)
 
--- Statuses 4 and 7: the bytes written are a front of such a transcript. The replies are those to the first requests of
+-- Statuses 4 and 7: the bytes written are a prefix of such a transcript. The replies are those to the first requests of
 -- the bytes taken; where there is no later one, the refusal of a bad frame may stand behind them.
-pub record CutRun (input input' output output' : Option (List ℕ)) : Type 0 where
+pub record CutRun (before : Store) (input input' output output' : Option (List ℕ)) : Type 0 where
   pub taken : List ℕ
   pub requests : List Request
   pub later : List Request
   pub ending : Ending
   pub replies : List Reply
-  pub history : List Entry
+  pub after : Store
   pub written : List ℕ
   pub missing : List ℕ
   pub from : TakenFrom input input' taken
+  pub short : length taken ≤ LAST_OFFSET
   pub spelled : Steps 0 taken (requests ++ later) ending
-  pub legal : Legal history 0 0 requests replies
-  pub own : IsOwn history replies
-  pub applies : AppliesAll 0 replies
+  pub replied : Replied before after requests replies
   pub put : PutTo output output' written
   pub front : (printed replies ≡ written ++ missing)
-      ⊎ ((later ≡ []) × (place : ℕ) × IsBad input taken ending place reply_bytes × (printed replies ++ reply_bytes (reply.Refused 1 place) ≡ written ++ missing))
+      ⊎ ((later ≡ []) × (place : ℕ) × IsBad input taken ending place reply_bytes × (printed replies ++ reply_bytes (refusal place) ≡ written ++ missing))
 
 -- a run that ended with a status
-abbrev pub Ran : (input input' output output' : Option (List ℕ)) → Status → Type 0
-Ran input input' output output' status.Finished = FinishedRun input input' output output'
-Ran input input' output output' status.Usage = ⊥
-Ran input input' output output' status.BadFrame = RefusedRun input input' output output'
-Ran input input' output output' status.ReadFault = StoppedRun input input' output output'
-Ran input input' output output' status.WriteFault = CutRun input input' output output'
-Ran input input' output output' status.NoMemory = CutRun input input' output output'
+abbrev pub Ran : Store → (input input' output output' : Option (List ℕ)) → Status → Type 0
+Ran before input input' output output' status.Finished = FinishedRun before input input' output output'
+Ran before input input' output output' status.Usage = ⊥
+Ran before input input' output output' status.BadFrame = RefusedRun before input input' output output'
+Ran before input input' output output' status.ReadFault = StoppedRun before input input' output output'
+Ran before input input' output output' status.WriteFault = CutRun before input input' output output'
+Ran before input input' output output' status.NoMemory = CutRun before input input' output output'
 
--- the usage line was written, or a front of it
+-- the usage line was written, or a prefix of it
 abbrev pub WroteUsage : (output output' : Option (List ℕ)) (missing : List ℕ) → Type 0
 WroteUsage output output' missing = (written : List ℕ) × PutTo output output' written × (usage ≡ written ++ missing)
 
--- a told input is whole frames, to its end or to a request for the end, and short of the last offset
+-- the part of an input that offsets reach
+abbrev pub reached : List ℕ → List ℕ
+reached bytes = take LAST_OFFSET bytes
+
+-- a told input is whole frames, to its end or to a request for the end, as far as offsets reach
 abbrev pub IsWellFramed : Option (List ℕ) → Type 0
 IsWellFramed None = ⊥
-IsWellFramed (Some bytes) = (length bytes < 18446744073709551615) × ((requests : List Request) (ending : Ending) → Steps 0 bytes requests ending → IsClean (Some bytes) bytes ending)
+IsWellFramed (Some bytes) = (requests : List Request) (ending : Ending) → Steps 0 (reached bytes) requests ending → IsClean (Some (reached bytes)) (reached bytes) ending
+
+-- The count of failed reads has risen exactly at the status of a failed read.
+abbrev pub CountsReads : ℕ → ℕ → Status → Type 0
+CountsReads before now status.ReadFault = (before ≤ now) × HasRisen before now
+CountsReads before now s = now ≡ before
+
+-- The count of failed writes has risen exactly at the status of a failed write; at that of other words, where the usage
+-- line could not be written.
+abbrev pub CountsWrites : ℕ → ℕ → Status → Type 0
+CountsWrites before now status.WriteFault = (before ≤ now) × HasRisen before now
+CountsWrites before now status.Usage = before ≤ now
+CountsWrites before now s = now ≡ before

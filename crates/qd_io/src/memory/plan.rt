@@ -1,4 +1,4 @@
-// When the calls of an end over memory fail, and how much each of them moves.
+//! When the calls of an end over memory fail, and how much each of them moves.
 ghost use Rattle.std.specs.Prelude.{◌≡◌, ◌≤◌, IfOk};
 
 use std::alloc::{AllocError, Global};
@@ -7,14 +7,14 @@ use std::marker::Model;
 /// The numbers of the calls that fail, the most bytes that a call moves, and two counts, which stand still
 /// at the greatest `u64`.
 #[derive(Drop)]
-pub struct Schedule {
+pub struct FailurePlan {
     piece: usize,
     calls: u64,
     fails: Vec<u64>,
     failed: u64,
 }
 
-impl Model for Schedule {
+impl Model for FailurePlan {
     ghost use Rattle.qd_io.specs.Memory.{Plan};
 
     ghost Value = { Plan };
@@ -22,14 +22,14 @@ impl Model for Schedule {
     ghost view = { λ s. record { piece = s.piece; calls = s.calls; fails = s.fails.items; failed = s.failed } };
 }
 
-impl Schedule {
+impl FailurePlan {
     ghost use Rattle.qd_io.specs.Memory.{after_failure, after_pass, fails_now};
 
     /// Copies the numbers. It is at its first call, of number 0.
-    pub fn new(alloc: Global, piece: usize, fails: &[u64]) -> Result<Schedule, AllocError>
+    pub fn new(alloc: Global, piece: usize, fails: &[u64]) -> Result<FailurePlan, AllocError>
         ensures { IfOk result (λ plan. plan ≡ record { piece = piece; calls = 0; fails = fails.now; failed = 0 }) }
     {
-        Ok(Schedule {
+        Ok(FailurePlan {
             piece,
             calls: 0,
             fails: Vec::from_slice(alloc, fails)?,

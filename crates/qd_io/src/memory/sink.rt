@@ -1,9 +1,9 @@
-// A sink over memory.
+//! A sink over memory.
 ghost use Rattle.std.specs.Prelude.{◌≡◌, ◌≤◌, ◌<◌, length, IfOk, []};
 ghost use Rattle.qd_io.specs.Ends.{Counts, Writes};
 ghost use Rattle.qd_io.specs.Memory.{MemWrites};
 
-use super::plan::Schedule;
+use super::plan::FailurePlan;
 use crate::Memory;
 use crate::fault::IoFault;
 use crate::traits::{Ends, Sink};
@@ -15,7 +15,7 @@ use std::marker::Model;
 #[derive(Drop)]
 pub struct MemSink {
     taken: Vec<u8>,
-    schedule: Schedule,
+    plan: FailurePlan,
 }
 
 impl Model for MemSink {
@@ -24,9 +24,9 @@ impl Model for MemSink {
 
     ghost Value = { Written };
 
-    ghost view = { λ s. record { taken = s.taken.items; plan = s.schedule } };
+    ghost view = { λ s. record { taken = s.taken.items; plan = s.plan } };
 
-    ghost invariant = { λ s. 1 ≤ s.schedule.piece };
+    ghost invariant = { λ s. 1 ≤ s.plan.piece };
 }
 
 impl MemSink {
@@ -41,7 +41,7 @@ impl MemSink {
     {
         Ok(MemSink {
             taken: Vec::new(alloc),
-            schedule: Schedule::new(alloc, piece, fails)?,
+            plan: FailurePlan::new(alloc, piece, fails)?,
         })
     }
 
@@ -78,13 +78,13 @@ impl Sink for MemSink {
         ensures told { Writes (Some self.old.taken) (Some self.new.taken) bytes.now result }
         ensures counted { Counts self.old.plan.failed self.new.plan.failed result }
     {
-        if self.schedule.fails_now() {
-            self.schedule.fail();
+        if self.plan.fails_now() {
+            self.plan.fail();
             return Err(IoFault::Failed);
         }
-        let n = self.schedule.piece().min(bytes.len());
+        let n = self.plan.piece().min(bytes.len());
         self.taken.extend_from_slice(&bytes[..n])?;
-        self.schedule.pass();
+        self.plan.pass();
         Ok(n)
     }
 }

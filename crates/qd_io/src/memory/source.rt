@@ -1,9 +1,9 @@
-// A source over memory.
+//! A source over memory.
 ghost use Rattle.std.specs.Prelude.{◌≡◌, ◌≤◌, length, IfOk};
 ghost use Rattle.qd_io.specs.Ends.{Counts, Reads};
 ghost use Rattle.qd_io.specs.Memory.{MemReads};
 
-use super::plan::Schedule;
+use super::plan::FailurePlan;
 use crate::Memory;
 use crate::fault::IoFault;
 use crate::traits::{Ends, Source};
@@ -16,7 +16,7 @@ use std::marker::Model;
 pub struct MemSource {
     bytes: Vec<u8>,
     at: usize,
-    schedule: Schedule,
+    plan: FailurePlan,
 }
 
 impl Model for MemSource {
@@ -25,9 +25,9 @@ impl Model for MemSource {
 
     ghost Value = { Unread };
 
-    ghost view = { λ s. record { left = drop s.at s.bytes.items; plan = s.schedule } };
+    ghost view = { λ s. record { left = drop s.at s.bytes.items; plan = s.plan } };
 
-    ghost invariant = { λ s. (s.at ≤ vec_len s.bytes) × (1 ≤ s.schedule.piece) };
+    ghost invariant = { λ s. (s.at ≤ vec_len s.bytes) × (1 ≤ s.plan.piece) };
 }
 
 impl MemSource {
@@ -46,11 +46,11 @@ impl MemSource {
         ensures plan { IfOk result (λ source. source.plan ≡ record { piece = piece; calls = 0; fails = fails.now; failed = 0 }) }
     {
         let bytes = Vec::from_slice(alloc, bytes)?;
-        let schedule = Schedule::new(alloc, piece, fails)?;
+        let plan = FailurePlan::new(alloc, piece, fails)?;
         Ok(MemSource {
             bytes,
             at: 0,
-            schedule,
+            plan,
         })
     }
 }
@@ -78,15 +78,15 @@ impl Source for MemSource {
         ensures told { Reads (Some self.old.left) (Some self.new.left) buf.new result }
         ensures counted { Counts self.old.plan.failed self.new.plan.failed result }
     {
-        if self.schedule.fails_now() {
-            self.schedule.fail();
+        if self.plan.fails_now() {
+            self.plan.fail();
             return Err(IoFault::Failed);
         }
         let left = self.bytes.len() - self.at;
-        let n = self.schedule.piece().min(buf.len()).min(left);
+        let n = self.plan.piece().min(buf.len()).min(left);
         buf[..n].copy_from_slice(&self.bytes[self.at..self.at + n]);
         self.at += n;
-        self.schedule.pass();
+        self.plan.pass();
         Ok(n)
     }
 }

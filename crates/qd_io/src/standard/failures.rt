@@ -1,4 +1,4 @@
-// What an error of std means to a caller of a device, and how many were failures.
+//! What an error of std means to a caller of a device, and how many were failures.
 ghost use Rattle.qd_io.specs.Ends.{Counts};
 ghost use Rattle.std.specs.IoError.{error_kind};
 ghost use Rattle.std.specs.Prelude.{◌≡◌, ◌↔◌, ℕ, IsNone, Some, Err};

@@ -1,4 +1,4 @@
-// A sink over a writer of std.
+//! A sink over a writer of std.
 ghost use Rattle.std.specs.Prelude.{◌≡◌};
 
 use super::failures::{Failures, fault_of};

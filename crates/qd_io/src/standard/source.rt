@@ -1,4 +1,4 @@
-// A source over a reader of std.
+//! A source over a reader of std.
 ghost use Rattle.std.specs.Prelude.{◌≡◌};
 
 use super::failures::{Failures, fault_of};

@@ -8,7 +8,8 @@ returns-in-Ok-clause-usage g c = λ e. ([], usage-from_writes_all _ _ _ refl c.i
 pub returns-in-Err-Failed-clause-usage : goal.returns-in-Err-Failed-clause-usage
 returns-in-Err-Failed-clause-usage g c =
     λ e. let t = usage-from_fault _ _ _ c.in-Err-Failed.field-0 refl c.in-Err-Failed.ensures.told in
-    (t.0, t.1, inr (c.in-Err-Failed.ensures.failed (ap Err c.in-Err-Failed.field-0-is)))
+    let counted = rw c.in-Err-Failed.field-0-is at c.in-Err-Failed.ensures.counted in
+    (t.0, t.1, inr counted.1)
 
 pub returns-in-Ok-clause-front : goal.returns-in-Ok-clause-front
 returns-in-Ok-clause-front g c = ([], usage-from_writes_all _ _ _ refl c.in-Ok.ensures.told)

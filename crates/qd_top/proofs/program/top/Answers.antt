@@ -1,5 +1,5 @@
 use Rattle.std.proofs.Common.{ℕ, ◌≡◌, ◌⊎◌, sym, subst, ◌∙◌}
-use Rattle.qd_top.proofs.RunLemmas.{complete-from, finished-from, refused-from, stopped-from}
+use Rattle.qd_top.proofs.RunLemmas.{complete-from, finished-from, read-cause-from, reads-stay-from, refused-from, stopped-from, write-cause-from, writes-stay-from}
 use Rattle.qd_top.proofs.program.top.Goals as goal
 
 pub returns-clause-finished : goal.returns-clause-finished
@@ -11,8 +11,20 @@ returns-clause-bad_frame g c = λ e. refused-from _ _ _ _ c.run.result (sym c.nu
 pub returns-clause-read_fault : goal.returns-clause-read_fault
 returns-clause-read_fault g c = λ e. stopped-from _ _ _ _ c.run.result (sym c.number-2.ensures.number ∙ e) c.run.ensures.ran
 
+pub returns-clause-read_cause : goal.returns-clause-read_cause
+returns-clause-read_cause g c = λ e. (read-cause-from c.run.result _ _ (sym c.number-2.ensures.number ∙ e) c.run.ensures.reads).1
+
+pub returns-clause-reads_stay : goal.returns-clause-reads_stay
+returns-clause-reads_stay g c = λ e. reads-stay-from c.run.result _ _ (λ is. e (c.number-2.ensures.number ∙ is)) c.run.ensures.reads
+
+pub returns-clause-write_cause : goal.returns-clause-write_cause
+returns-clause-write_cause g c = λ e. (write-cause-from c.run.result _ _ (sym c.number-2.ensures.number ∙ e) c.run.ensures.writes).1
+
+pub returns-clause-writes_stay : goal.returns-clause-writes_stay
+returns-clause-writes_stay g c = λ e u. writes-stay-from c.run.result _ _ (λ is. e (c.number-2.ensures.number ∙ is)) (λ is. u (c.number-2.ensures.number ∙ is)) c.run.ensures.writes
+
 pub returns-clause-complete : goal.returns-clause-complete
 returns-clause-complete g c =
     λ words well no_read no_write.
     subst (λ (n : ℕ). (n ≡ 0) ⊎ (n ≡ 7)) (sym c.number-2.ensures.number)
-    (complete-from (g.S.Ends.input c.args.input.now) _ (g.K.Ends.output c.args.output.now) _ c.run.result _ _ _ _ c.run.ensures.ran c.run.ensures.read_fault c.run.ensures.write_fault well no_read no_write)
+    (complete-from (g.S.Ends.stream c.args.input.now).input _ (g.K.Ends.stream c.args.output.now).output _ c.run.result _ _ _ _ c.run.ensures.ran c.run.ensures.reads c.run.ensures.writes well no_read no_write)

@@ -10,7 +10,7 @@ returns-in-Faulty-clause-ok c =
     let read = rw c.in-Faulty.is at c.in_ok-line.ensures.reading in
     let inside = c.self.inside in
     let known = known_letters inside.letters inside.batches _ inside.applied _ c.self.invariant c.self.view_is in
-    (refl, (let P : Option Letters → Type 0 = λ o. RefusesBatch o c.args.text.now c.in-Faulty.line in subst P known read), refl)
+    (c.number.ensures.number, (let P : Option Letters → Type 0 = λ o. RefusesBatch o c.args.text.now c.in-Faulty.line in subst P known read), refl)
 
 pub returns-in_ok-push-in-Lines-clause-ok : goal.returns-in_ok-push-in-Lines-clause-ok
 returns-in_ok-push-in-Lines-clause-ok c =

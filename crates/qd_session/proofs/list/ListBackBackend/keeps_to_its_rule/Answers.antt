@@ -1,0 +1,11 @@
+use Rattle.qd_session.proofs.RuleLemmas.{alone-ends, alone-lasts, alone-wants}
+use Rattle.qd_session.proofs.list.ListBackBackend.keeps_to_its_rule.Goals as goal
+
+pub returns-clause-bye : goal.returns-clause-bye
+returns-clause-bye c = alone-ends
+
+pub returns-clause-memory : goal.returns-clause-memory
+returns-clause-memory c = alone-wants
+
+pub returns-clause-lasting : goal.returns-clause-lasting
+returns-clause-lasting c = alone-lasts

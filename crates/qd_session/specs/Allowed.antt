@@ -1,0 +1,74 @@
+-- The rule of the product: which reply may come to which request.
+use Rattle.std.specs.Prelude.{◌≡◌, ℕ, ◌-◌, ◌<◌, ◌≤◌, ◌⊎◌, List, Option, Some, None, IfSome, option_map, slice_get, find, nat_eq}
+use Rattle.std.specs.Cmp.Lexicographic.{pointwise}
+use Rattle.qd_io.specs.Ends.{HasRisen}
+use Rattle.qd_base.specs.Codes.{number_of}
+use Rattle.qd_base.specs.declared.code.Code.TheVariants as code
+use Rattle.qd_base.specs.declared.op.Entry.{Entry}
+use Rattle.qd_base.specs.declared.schema.Schema.{Schema}
+use Rattle.qd_base.specs.declared.request.Table.{Table}
+use Rattle.qd_base.specs.declared.request.Request.{Request}
+use Rattle.qd_base.specs.declared.request.Request.TheVariants as request
+use Rattle.qd_base.specs.declared.request.Reply.{Reply}
+use Rattle.qd_base.specs.declared.request.Reply.TheVariants as reply
+use Rattle.qd_base.specs.Database.{Database, StoredTable, schemas_of}
+use Rattle.qd_base.specs.Replay.{first}
+use Rattle.qd_session.specs.LineForm.{Line, ReadsBatch, RefusesBatch, entry_of, letters_of}
+use Rattle.qd_session.specs.Looks.{Look}
+
+-- the transaction that a batch is, over the schemas before it
+pub record IsTransactionOf (schemas : List Schema) (text : List ℕ) (entry : Entry) : Type 0 where
+  pub lines : List Line
+  pub reads : ReadsBatch (letters_of schemas) text lines
+  pub says : entry ≡ entry_of (letters_of schemas) lines
+
+-- the answer to a statement that is exactly the name of a table: all of its rows
+abbrev pub answer : Database → List ℕ → Option Table
+answer db text = option_map (λ (t : StoredTable). record { cols = t.schema.cols; rows = t.rows }) (find (λ t. pointwise nat_eq t.schema.name text) db)
+
+-- transaction n of the history, counted from 1, has P
+abbrev pub HasTransaction : List Entry → ℕ → (Entry → Type 0) → Type 0
+HasTransaction history n P = (entry : Entry) × (slice_get history (n - 1) ≡ Some entry) × P entry
+
+-- want of memory is free
+abbrev pub IsWantOfMemory : ℕ → ℕ → Type 0
+IsWantOfMemory number place = (number ≡ number_of code.Memory) × (place ≡ 0)
+
+-- the volume failed in this request
+abbrev pub IsVolumeFault : Look → Look → ℕ → ℕ → Type 0
+IsVolumeFault before now number place = (number ≡ number_of code.Volume) × (place ≡ 0) × HasRisen before.volume_faults now.volume_faults
+
+-- a refusal that any request but that for the end may meet
+abbrev pub IsFault : Look → Look → ℕ → ℕ → Type 0
+IsFault before now number place = IsWantOfMemory number place ⊎ IsVolumeFault before now number place
+
+-- a batch of which some line is none of this version's form: the first such line is the place
+abbrev pub IsRefusedBatch : Option (List Entry) → (sequenced : ℕ) → List ℕ → ℕ → ℕ → Type 0
+IsRefusedBatch history sequenced text number place =
+    (number ≡ number_of code.UnbuiltLine) × IfSome history (λ h. RefusesBatch (letters_of (schemas_of (first h sequenced))) text place)
+
+-- a number that the answers between two looks may be over
+abbrev pub IsBetween : Look → Look → ℕ → Type 0
+IsBetween before now n = (before.known ≤ n) × (n ≤ now.known)
+
+-- What a reply to a request says, between the look before it and the look at it. What it says of transactions holds where
+-- the history is told.
+abbrev pub Allowed : Option (List Entry) → (before now : Look) → (time : ℕ) → Request → Reply → Type 0
+-- a batch becomes transaction n, the last one now, over the schemas of those before it
+Allowed history before now time (request.Write text) (reply.Done n) =
+    (n ≡ now.sequenced) × (before.sequenced < n) × IfSome history (λ h. HasTransaction h n (IsTransactionOf (schemas_of (first h (n - 1))) text))
+Allowed history before now time (request.Write text) (reply.Refused number place) =
+    IsRefusedBatch history now.sequenced text number place ⊎ IsFault before now number place
+-- a statement is answered over the first n transactions, or it is none that this version builds
+Allowed history before now time (request.Sql text) (reply.Rows n table) =
+    IsBetween before now n × (n ≤ now.sequenced) × IfSome history (λ h. answer (first h n) text ≡ Some table)
+Allowed history before now time (request.Sql text) (reply.Refused number place) =
+    ((number ≡ number_of code.NotBuilt) × (place ≡ 0)
+    × IfSome history (λ h. (n : ℕ) × IsBetween before now n × (n ≤ now.sequenced) × (answer (first h n) text ≡ None)))
+    ⊎ IsFault before now number place
+-- all that was sequenced at the look before is applied
+Allowed history before now time request.Apply (reply.Applied n) =
+    IsBetween before now n × (before.sequenced ≤ n) × (n ≤ now.sequenced)
+Allowed history before now time request.Apply (reply.Refused number place) = IsFault before now number place
+Allowed history before now time request.End reply.Bye = Unit {0}
+Allowed history before now time asked given = ⊥

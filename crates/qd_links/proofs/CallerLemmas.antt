@@ -39,7 +39,7 @@ pub list_at-other : (v : Lists) (k l : ℕ) (ys : List ℕ) → l ≢ k → list
 list_at-other v k l ys h = get_or-set_other v.lists k l ys [] h
 
 -- a node is in a list or in none
-pub cases_listed : (v : Lists) (node : ℕ) → IsListed v node ⊎ (IsListed v node → ⊥)
+pub cases_listed : (v : Lists) (node : ℕ) → IsListed v node ⊎ ¬ IsListed v node
 cases_listed v node = elim (cases_Bool (list_any (λ xs. list_any (eqb node) xs) v.lists)) [
   | inl some ↦
       let a = Any-from_list_any (λ xs. list_any (eqb node) xs) v.lists some in
@@ -132,7 +132,7 @@ module _ (v : Lists) (k i x : ℕ) (at : StandsAt v k i x) where
       subst (λ (ys : List ℕ). slice_get ys j ≡ Some node) (sym (list_at-same v k (remove (list_at v k) i) k_in)) (slice_get-get_or (remove (list_at v k) i) j 0 j_in ∙ ap (λ (n : ℕ). Some n) e)
 
   -- where a node stood that stands in a list now: in another place than the one removed
-  stood_at : (l j node : ℕ) → StandsAt (with_list v k (remove (list_at v k) i)) l j node → (m : ℕ) × StandsAt v l m node × ((l ≡ k) × (m ≡ i) → ⊥)
+  stood_at : (l j node : ℕ) → StandsAt (with_list v k (remove (list_at v k) i)) l j node → (m : ℕ) × StandsAt v l m node × ¬ ((l ≡ k) × (m ≡ i))
   stood_at l j node s = elim (cases_eq l k) [
     | inl same ↦
         let xs = list_at v k in

@@ -1,10 +1,10 @@
 pub mod CallerLemmas
-mod Slots
-mod Places
-mod Joining
-mod Inserting
-mod Removing
-mod Reading
-mod Growing
-mod Edits
-mod Neighbours
+mod EditLemmas
+mod GrowLemmas
+mod InsertLemmas
+mod JoinLemmas
+mod NeighbourLemmas
+mod PlaceLemmas
+mod ReadLemmas
+mod RemoveLemmas
+mod SlotLemmas

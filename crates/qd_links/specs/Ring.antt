@@ -2,8 +2,9 @@
 --
 -- The array has a slot for the head of each list, and then one for each node. The slots of a list
 -- form a ring: from its head through its nodes in order, and back to the head.
-use Rattle.std.specs.Prelude.{◌≡◌, ◌≢◌, ℕ, zero, suc, ◌+◌, ◌-◌, ◌<◌, ◌≤◌, List, [], ◌∷◌, length, map, slice_index_or, if◌then◌else◌, nat_lt}
+use Rattle.std.specs.Prelude.{◌≡◌, ◌≢◌, ℕ, zero, suc, ◌+◌, ◌-◌, ◌<◌, ◌≤◌, List, [], ◌∷◌, length, map, slice_index_or, if◌then◌else◌, nat_lt, Option}
 use Rattle.std.specs.List.{range_with_len}
+use Rattle.std.specs.Option.{SomeIff}
 use Rattle.qd_links.specs.Lists.{Lists, list_at, StandsAt, IsListed}
 use Rattle.qd_links.specs.declared.ring.Link.{Link}
 
@@ -46,6 +47,10 @@ pub record Removes (old new : List Link) (slot : ℕ) : Type 0 where
   pub prev : prev_slot new slot ≡ slot
   pub other_next : (s : ℕ) → s ≢ prev_slot old slot → s ≢ slot → next_slot new s ≡ next_slot old s
   pub other_prev : (s : ℕ) → s ≢ next_slot old slot → s ≢ slot → prev_slot new s ≡ prev_slot old s
+
+-- the node that the slot beside a slot is of: none where the slot is alone or where a head is beside it
+abbrev pub IsNodeBeside : Option ℕ → (heads slot beside : ℕ) → Type 0
+IsNodeBeside node heads slot beside = SomeIff node ((beside ≢ slot) × (heads ≤ beside)) (beside - heads)
 
 -- the nodes in a ring from this slot on up to the first head, but no more than `limit`
 unfoldable pub nodes_from : (ring : List Link) (heads limit slot : ℕ) → List ℕ

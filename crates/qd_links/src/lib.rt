@@ -13,7 +13,7 @@ mod ring;
 #[cfg(test)]
 mod tests;
 
-use ring::{Link, add_slots, insert_slot, remove_slot};
+use ring::{Link, add_slots, insert_slot, node_beside, remove_slot};
 pub use std::alloc::AllocError as Memory;
 use std::alloc::Global;
 use std::marker::Model;
@@ -149,7 +149,7 @@ impl Links {
         ensures in_range { IfSome result (λ node. node < self.now.nodes) }
         ensures once { StandOnce self.now }
     {
-        self.ring[list].next.checked_sub(self.heads)
+        node_beside(self.heads, list, self.ring[list].next)
     }
 
     /// The node behind a node in its list; none for the last node and for one that is in no list.
@@ -163,11 +163,7 @@ impl Links {
         ensures once { StandOnce self.now }
     {
         let slot = self.heads + node;
-        let next = self.ring[slot].next;
-        if next == slot {
-            return None;
-        }
-        next.checked_sub(self.heads)
+        node_beside(self.heads, slot, self.ring[slot].next)
     }
 
     /// The node before a node in its list; none for the first node and for one that is in no list.
@@ -182,11 +178,7 @@ impl Links {
         ensures once { StandOnce self.now }
     {
         let slot = self.heads + node;
-        let prev = self.ring[slot].prev;
-        if prev == slot {
-            return None;
-        }
-        prev.checked_sub(self.heads)
+        node_beside(self.heads, slot, self.ring[slot].prev)
     }
 
     /// Whether a node is in a list. Takes constant time and no memory.

@@ -1,7 +1,6 @@
 //! The array under a `Links`: slots that are linked into rings.
-
 ghost use Rattle.std.specs.Prelude.{◌≡◌, ◌≢◌, ◌+◌, ◌<◌, ◌++◌, length, OnOk, OnErr};
-ghost use Rattle.qd_links.specs.Ring.{next_slot, prev_slot, Joins, Inserts, Removes, lone_slots};
+ghost use Rattle.qd_links.specs.Ring.{next_slot, prev_slot, Joins, Inserts, Removes, IsNodeBeside, lone_slots};
 
 use std::alloc::AllocError;
 
@@ -10,16 +9,6 @@ use std::alloc::AllocError;
 pub struct Link {
     pub prev: usize,
     pub next: usize,
-}
-
-/// Lets the slot `to` follow the slot `from`.
-fn join(ring: &mut [Link], from: usize, to: usize)
-    requires from_in { from < length ring.old }
-    requires to_in { to < length ring.old }
-    ensures { Joins ring.old ring.new from to }
-{
-    ring[from].next = to;
-    ring[to].prev = from;
 }
 
 /// Puts the slot right before the slot `at`, into the ring of that one.
@@ -65,4 +54,24 @@ pub fn add_slots(ring: &mut Vec<Link>, count: usize) -> Result<(), AllocError>
         })?;
     }
     Ok(())
+}
+
+/// The node of the slot beside a slot. A slot that is alone has none beside it, and a head is no node.
+pub fn node_beside(heads: usize, slot: usize, beside: usize) -> Option<usize>
+    ensures { IsNodeBeside result heads slot beside }
+{
+    if beside == slot {
+        return None;
+    }
+    beside.checked_sub(heads)
+}
+
+/// Lets the slot `to` follow the slot `from`.
+fn join(ring: &mut [Link], from: usize, to: usize)
+    requires from_in { from < length ring.old }
+    requires to_in { to < length ring.old }
+    ensures { Joins ring.old ring.new from to }
+{
+    ring[from].next = to;
+    ring[to].prev = from;
 }

@@ -19,23 +19,6 @@ pub fn cells_equal(a: &Cell, b: &Cell) -> bool
     }
 }
 
-/// The cell in a column; a column that the row lacks holds `null`, which is to be NULL.
-fn cell_or<'a>(row: &'a Row, col: u32, null: &'a Cell) -> &'a Cell
-    requires { null.now ≡ cell.Null }
-    ensures cell { result.now ≡ cell_at row.now col }
-{
-    let col = col as usize;
-    if col < row.len() { row.get(col) } else { null }
-}
-
-/// Whether two rows are equal in one column.
-fn equal_at(a: &Row, b: &Row, col: u32) -> bool
-    ensures equal { result ≡ cell_eq (cell_at a.now col) (cell_at b.now col) }
-{
-    let null = Cell::Null;
-    cells_equal(cell_or(a, col, &null), cell_or(b, col, &null))
-}
-
 /// Whether two rows are equal on all of the keys. It costs time linear in the number of keys and in the texts there.
 pub fn equal_on(keys: &KeyList, a: &Row, b: &Row) -> bool
     ensures equal { result ≡ same_on keys.now a.now b.now }
@@ -53,4 +36,21 @@ pub fn time_of(row: &Row, time_col: u32) -> u64
         Cell::Time(time) => *time,
         _ => 0,
     }
+}
+
+/// Whether two rows are equal in one column.
+fn equal_at(a: &Row, b: &Row, col: u32) -> bool
+    ensures equal { result ≡ cell_eq (cell_at a.now col) (cell_at b.now col) }
+{
+    let null = Cell::Null;
+    cells_equal(cell_or(a, col, &null), cell_or(b, col, &null))
+}
+
+/// The cell in a column; a column that the row lacks holds `null`, which is to be NULL.
+fn cell_or<'a>(row: &'a Row, col: u32, null: &'a Cell) -> &'a Cell
+    requires { null.now ≡ cell.Null }
+    ensures cell { result.now ≡ cell_at row.now col }
+{
+    let col = col as usize;
+    if col < row.len() { row.get(col) } else { null }
 }

@@ -4,28 +4,28 @@ use Rattle.std.specs.Prelude.{◌≡◌, ⊤, ℕ, zero, suc, ◌+◌, ◌-◌, 
 use Rattle.std.specs.Int.{int_div_euclid}
 use Rattle.jiff_core.specs.Calendar.{days_in_month}
 use Rattle.qd_time.specs.Calendar.{CalendarDate, second_micros, minute_micros, hour_micros, day_micros, date_of_day, midnight}
-use Rattle.qd_time.specs.declared.TheConstants.{MAX_TIME}
+use Rattle.qd_base.specs.declared.limits.TheConstants.{MAX_TIME}
 use Rattle.qd_time.specs.declared.buckets.Align.{Align}
 use Rattle.qd_time.specs.declared.buckets.Align.TheVariants.{Calendar, First}
-use Rattle.qd_time.specs.declared.buckets.Step.{Step}
-use Rattle.qd_time.specs.declared.buckets.Step.TheVariants.{Micros, Months}
+use Rattle.qd_time.specs.declared.buckets.Period.{Period}
+use Rattle.qd_time.specs.declared.buckets.Period.TheVariants.{Micros, Months}
 use Rattle.qd_time.specs.declared.buckets.Stride.{Stride}
 use Rattle.qd_time.specs.declared.units.Unit.{Unit}
 use Rattle.qd_time.specs.declared.units.Unit.TheVariants.{Micro, Milli, Second, Minute, Hour, Day, Month, Year}
 
--- how far apart starts are, in microseconds or in months; a year is twelve months
-abbrev pub steps : ℕ → Unit → Step
-steps n Micro = Micros n
-steps n Milli = Micros (n * 1000)
-steps n Second = Micros (n * second_micros)
-steps n Minute = Micros (n * minute_micros)
-steps n Hour = Micros (n * hour_micros)
-steps n Day = Micros (n * day_micros)
-steps n Month = Months n
-steps n Year = Months (n * 12)
+-- how far apart starts are: so many units, in microseconds or in months; a year is twelve months
+abbrev pub as_period : ℕ → Unit → Period
+as_period n Micro = Micros n
+as_period n Milli = Micros (n * 1000)
+as_period n Second = Micros (n * second_micros)
+as_period n Minute = Micros (n * minute_micros)
+as_period n Hour = Micros (n * hour_micros)
+as_period n Day = Micros (n * day_micros)
+as_period n Month = Months n
+as_period n Year = Months (n * 12)
 
-abbrev pub step_of : Stride → Step
-step_of stride = steps stride.n stride.unit
+abbrev pub period_of : Stride → Period
+period_of stride = as_period stride.n stride.unit
 
 -- a start below 0 is 0
 abbrev pub clip : ℤ → ℕ
@@ -84,42 +84,42 @@ moved_end n t0 ts =
     if nat_lt ts t0 then t0 else moved t0 ((last_index (λ k. moved t0 (k * n)) ts (months_to ts) + 1) * n)
 
 -- the start of the bucket that contains the timestamp
-abbrev pub start_by : Step → Align → ℕ → ℕ
-start_by (Micros step) (Calendar minutes) ts =
+abbrev pub start_by : Period → Align → ℕ → ℕ
+start_by (Micros period) (Calendar minutes) ts =
     let offset = offset_micros minutes in
-    clip (offset +ℤ int_div_euclid (pos ts -ℤ offset) (pos step) *ℤ pos step)
-start_by (Micros step) (First t0) ts = t0 + (ts - t0) / step * step
+    clip (offset +ℤ int_div_euclid (pos ts -ℤ offset) (pos period) *ℤ pos period)
+start_by (Micros period) (First t0) ts = t0 + (ts - t0) / period * period
 start_by (Months n) (Calendar minutes) ts =
     let offset = offset_micros minutes in month_start n offset (pos ts -ℤ offset)
 start_by (Months n) (First t0) ts = moved t0 (last_index (λ k. moved t0 (k * n)) ts (months_to ts) * n)
 
 -- the start after it
-abbrev pub end_by : Step → Align → ℕ → ℕ
-end_by (Micros step) (Calendar minutes) ts =
+abbrev pub end_by : Period → Align → ℕ → ℕ
+end_by (Micros period) (Calendar minutes) ts =
     let offset = offset_micros minutes in
-    clip (offset +ℤ int_div_euclid (pos ts -ℤ offset) (pos step) *ℤ pos step +ℤ pos step)
-end_by (Micros step) (First t0) ts = if nat_lt ts t0 then t0 else t0 + ((ts - t0) / step + 1) * step
+    clip (offset +ℤ int_div_euclid (pos ts -ℤ offset) (pos period) *ℤ pos period +ℤ pos period)
+end_by (Micros period) (First t0) ts = if nat_lt ts t0 then t0 else t0 + ((ts - t0) / period + 1) * period
 end_by (Months n) (Calendar minutes) ts =
     let offset = offset_micros minutes in month_end n offset (pos ts -ℤ offset)
 end_by (Months n) (First t0) ts = moved_end n t0 ts
 
 abbrev pub bucket_start : Stride → Align → ℕ → ℕ
-bucket_start stride align ts = start_by (step_of stride) align ts
+bucket_start stride align ts = start_by (period_of stride) align ts
 
 abbrev pub bucket_end : Stride → Align → ℕ → ℕ
-bucket_end stride align ts = end_by (step_of stride) align ts
+bucket_end stride align ts = end_by (period_of stride) align ts
 
--- a bucket starts there: on the calendar at the offset and any number of steps, or of months, and
--- counted from t0 at t0 and any number of steps, or of months. What would start below 0 starts at 0
-abbrev pub StartsBy : Step → Align → ℕ → Type 0
-StartsBy (Micros step) (Calendar minutes) start = (k : ℤ) × (start ≡ clip (offset_micros minutes +ℤ k *ℤ pos step))
-StartsBy (Micros step) (First t0) start = (k : ℕ) × (start ≡ t0 + k * step)
+-- a bucket starts there: on the calendar at the offset and any number of periods, or of months, and
+-- counted from t0 at t0 and any number of periods, or of months. What would start below 0 starts at 0
+abbrev pub StartsBy : Period → Align → ℕ → Type 0
+StartsBy (Micros period) (Calendar minutes) start = (k : ℤ) × (start ≡ clip (offset_micros minutes +ℤ k *ℤ pos period))
+StartsBy (Micros period) (First t0) start = (k : ℕ) × (start ≡ t0 + k * period)
 StartsBy (Months n) (Calendar minutes) start =
     (start ≡ 0) ⊎ ((k : ℕ) × (start ≡ clip (pos (month_midnight (k * n)) +ℤ offset_micros minutes)))
 StartsBy (Months n) (First t0) start = (k : ℕ) × (start ≡ moved t0 (k * n))
 
 abbrev pub IsStart : Stride → Align → ℕ → Type 0
-IsStart stride align start = StartsBy (step_of stride) align start
+IsStart stride align start = StartsBy (period_of stride) align start
 
 -- what the calls ask of a stride and of an alignment
 abbrev pub IsStride : Stride → Type 0
@@ -134,20 +134,20 @@ abbrev pub IsReached : Align → ℕ → Type 0
 IsReached (Calendar minutes) ts = ⊤
 IsReached (First t0) ts = t0 ≤ ts
 
--- the ranges of steps
-abbrev pub IsStep : Step → Type 0
-IsStep (Micros step) = (1 ≤ step) × (step ≤ 86_400_000_000_000_000)
-IsStep (Months n) = (1 ≤ n) × (n ≤ 12_000_000)
+-- the ranges of periods
+abbrev pub IsPeriod : Period → Type 0
+IsPeriod (Micros period) = (1 ≤ period) × (period ≤ 86_400_000_000_000_000)
+IsPeriod (Months n) = (1 ≤ n) × (n ≤ 12_000_000)
 
 -- a timestamp less an offset
 abbrev pub IsAhead : ℤ → Type 0
-IsAhead ahead = ahead ≤ℤ pos 253_402_387_139_999_999
+IsAhead ahead = ahead ≤ℤ pos (MAX_TIME + 86_340_000_000)
 
 -- less than a day
 abbrev pub IsOffset : ℤ → Type 0
 IsOffset offset = (neg_ℤ (pos 86_340_000_000) ≤ℤ offset) × (offset ≤ℤ pos 86_340_000_000)
 
--- k steps after the offset are at most one step before the timestamp
+-- k periods after the offset are at most one period before the timestamp
 abbrev pub IsNear : ℕ → ℤ → ℕ → ℤ → Type 0
-IsNear ts offset step k =
-    ((offset +ℤ k *ℤ pos step) ≤ℤ pos ts) × (pos ts <ℤ (offset +ℤ k *ℤ pos step +ℤ pos step))
+IsNear ts offset period k =
+    ((offset +ℤ k *ℤ pos period) ≤ℤ pos ts) × (pos ts <ℤ (offset +ℤ k *ℤ pos period +ℤ pos period))

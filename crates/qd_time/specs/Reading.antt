@@ -5,12 +5,13 @@ use Rattle.qd_time.specs.Calendar.{Civil, second_micros, minute_micros, hour_mic
 use Rattle.std.specs.Prelude.{Result, Ok, Err}
 use Rattle.qd_time.specs.Fields.{civil_fields, TimestampOf}
 use Rattle.qd_time.specs.Units.{end_of}
-use Rattle.qd_time.specs.declared.TheConstants.{MAX_TIME}
+use Rattle.qd_base.specs.declared.limits.TheConstants.{MAX_TIME}
 use Rattle.qd_time.specs.declared.fault.TimeFault.{TimeFault}
 use Rattle.qd_time.specs.declared.fault.TimeFault.TheVariants.{Form, Range}
 use Rattle.qd_time.specs.declared.reading.Reading.{Reading}
 use Rattle.qd_time.specs.declared.units.Unit.{Unit}
 use Rattle.qd_time.specs.declared.units.Unit.TheVariants.{Micro, Milli, Second, Minute, Hour, Day, Month, Year}
+use Rattle.qd_time.specs.declared.suffix.TheConstants.{MAX_COUNT}
 
 infixl 10 ◌>>=◌
 abbrev pub ◌>>=◌ : {A B : Type 0} → Option A → (A → Option B) → Option B
@@ -143,7 +144,7 @@ Answers (Some r) result = IsAnswer r r.rest result
 
 -- a count so far and one more digit; no count above 1,000,001 is told apart
 abbrev pub next_count : ℕ → ℕ → ℕ
-next_count count b = min (10 * count + (b - 48)) 1_000_001
+next_count count b = min (10 * count + (b - 48)) (MAX_COUNT + 1)
 
 -- what a suffix's letter counts, in microseconds
 abbrev pub span_at : ℕ → Option ℕ
@@ -177,7 +178,7 @@ suffix_at (b ∷ rest) = if b == 59 then later_at rest else None
 abbrev pub interval_of : Unit → ℕ × ℕ → Result ℕ TimeFault → Result (ℕ × ℕ) TimeFault
 interval_of unit later (Err e) = Err e
 interval_of unit later (Ok first) =
-    if nat_lt 1_000_000 later.0 then Err Range
+    if nat_lt MAX_COUNT later.0 then Err Range
     else Ok (first, min (end_of unit first - 1 + later.0 * later.1) MAX_TIME)
 
 -- the answer to a text that is read so, with that suffix

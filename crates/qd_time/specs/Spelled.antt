@@ -1,12 +1,14 @@
 -- Which text spells which moment: the forms of ISO 8601's extended format, from a year to a
 -- microsecond, as QuestDB's documentation on timestamps and intervals has them.
-use Rattle.std.specs.Prelude.{◌≡◌, ⊤, ℕ, ◌+◌, ◌-◌, ◌*◌, ◌<◌, ◌≤◌, ◌⊎◌, min, List, [], ◌∷◌, ◌++◌, length, fold}
+use Rattle.std.specs.Prelude.{◌≡◌, ⊤, ℕ, ◌+◌, ◌-◌, ◌*◌, ◌<◌, ◌≤◌, ◌⊎◌, min, List, [], ◌∷◌, ◌++◌}
+use Rattle.std.specs.Str.Parse.{IsNumeral, digits_value}
 use Rattle.qd_time.specs.Calendar.{Civil, civil_of, month_days, second_micros, minute_micros, hour_micros, day_micros}
 use Rattle.qd_time.specs.Printed.{text_to}
 use Rattle.qd_time.specs.Units.{start_of, end_of}
-use Rattle.qd_time.specs.declared.TheConstants.{MAX_TIME}
+use Rattle.qd_base.specs.declared.limits.TheConstants.{MAX_TIME}
 use Rattle.qd_time.specs.declared.units.Unit.{Unit}
 use Rattle.qd_time.specs.declared.units.Unit.TheVariants.{Micro, Milli, Second, Minute, Hour, Day, Month, Year}
+use Rattle.qd_time.specs.declared.suffix.TheConstants.{MAX_COUNT}
 
 -- `T` or a blank stands between the date and the time of day
 abbrev pub IsMark : ℕ → Type 0
@@ -92,25 +94,17 @@ abbrev pub suffix_text : Suffix → List ℕ
 suffix_text none = []
 suffix_text (later number span) = 59 ∷ number ++ (letter span ∷ [])
 
-abbrev pub AreDigits : List ℕ → Type 0
-AreDigits [] = ⊤
-AreDigits (b ∷ bs) = (48 ≤ b) × (b ≤ 57) × AreDigits bs
-
 abbrev pub IsSuffix : Suffix → Type 0
 IsSuffix none = ⊤
-IsSuffix (later number span) = (1 ≤ length number) × AreDigits number
-
--- the value of decimal digits
-abbrev pub number_of : List ℕ → ℕ
-number_of number = fold (λ n b. 10 * n + (b - 48)) 0 number
+IsSuffix (later number span) = IsNumeral 10 number
 
 abbrev pub suffix_count : Suffix → ℕ
 suffix_count none = 0
-suffix_count (later number span) = number_of number
+suffix_count (later number span) = digits_value 10 number
 
 abbrev pub suffix_micros : Suffix → ℕ
 suffix_micros none = 0
-suffix_micros (later number span) = number_of number * span_micros span
+suffix_micros (later number span) = digits_value 10 number * span_micros span
 
 -- the text spells the interval from the first to the last microsecond of the unit that it names,
 -- moved later by its suffix, to the last timestamp at most
@@ -121,7 +115,7 @@ pub record SpellsInterval (text : List ℕ) (first last : ℕ) : Type 0 where
   pub text_is : text ≡ base ++ suffix_text suffix
   pub is_suffix : IsSuffix suffix
   pub spells : SpellsAs base unit first
-  pub count : suffix_count suffix ≤ 1_000_000
+  pub count : suffix_count suffix ≤ MAX_COUNT
   pub last_is : last ≡ min (end_of unit first - 1 + suffix_micros suffix) MAX_TIME
 
 -- the text is a moment's text of the calendar with or without a suffix, but of a year below 1970 or
@@ -131,7 +125,7 @@ pub record SpellsOutside (text : List ℕ) : Type 0 where
   pub suffix : Suffix
   pub text_is : text ≡ base ++ suffix_text suffix
   pub is_suffix : IsSuffix suffix
-  pub outside : SpellsEarly base ⊎ ((ts : ℕ) × SpellsTime base ts × (1_000_000 < suffix_count suffix))
+  pub outside : SpellsEarly base ⊎ ((ts : ℕ) × SpellsTime base ts × (MAX_COUNT < suffix_count suffix))
 
 -- the text spells no interval at all
 abbrev pub IsNoInterval : List ℕ → Type 0

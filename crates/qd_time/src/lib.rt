@@ -13,6 +13,8 @@ mod partition;
 mod print;
 mod reading;
 mod suffix;
+#[cfg(test)]
+mod tests;
 mod units;
 
 pub use buckets::{Align, Stride, bucket_of, next_bucket};
@@ -20,10 +22,5 @@ pub use fault::TimeFault;
 pub use parse::{parse_interval, parse_time};
 pub use partition::{floor_unit, next_unit, partition_name};
 pub use print::print_time;
+pub use qd_base::MAX_TIME;
 pub use units::Unit;
-
-/// The greatest timestamp: the last microsecond of the year 9999.
-pub const MAX_TIME: u64 = 253_402_300_799_999_999;
-
-#[cfg(test)]
-mod tests;

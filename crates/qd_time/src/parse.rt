@@ -4,12 +4,12 @@ ghost use Rattle.qd_time.specs.Printed.{time_text};
 ghost use Rattle.qd_time.specs.Reading.{Answers, AnswersInterval, interval_of, year_at};
 ghost use Rattle.qd_time.specs.Spelled.{SpellsTime, SpellsEarly, IsNoTime, SpellsInterval, SpellsOutside, IsNoInterval};
 
-use crate::MAX_TIME;
 use crate::calendar::DAY;
 use crate::fault::TimeFault;
 use crate::reading::{Reading, read_year};
 use crate::suffix::{MAX_COUNT, read_suffix};
 use crate::units::Unit;
+use qd_base::MAX_TIME;
 
 /// The first moment that the text names, in microseconds since 1970-01-01T00:00:00Z.
 ///
@@ -31,22 +31,6 @@ pub fn parse_time(text: &[u8]) -> Result<u64, TimeFault>
     read_whole(text)
 }
 
-/// The timestamp of a text that is read to its end.
-fn read_whole(text: &[u8]) -> Result<u64, TimeFault>
-    ensures { Answers (year_at text.now) result }
-{
-    match read_year(text) {
-        Some(
-            Reading {
-                fields,
-                rest: [],
-                ..
-            },
-        ) => fields.timestamp(),
-        _ => Err(TimeFault::Form),
-    }
-}
-
 /// The first and the last microsecond that the text names, both included.
 ///
 /// The text is one that [`parse_time`] reads, and may be followed by a suffix: `;`, one or more
@@ -63,6 +47,22 @@ pub fn parse_interval(text: &[u8]) -> Result<(u64, u64), TimeFault>
     ensures form { (result ≡ Err TimeFault.Form) ↔ IsNoInterval text.now }
 {
     read_interval(text)
+}
+
+/// The timestamp of a text that is read to its end.
+fn read_whole(text: &[u8]) -> Result<u64, TimeFault>
+    ensures { Answers (year_at text.now) result }
+{
+    match read_year(text) {
+        Some(
+            Reading {
+                fields,
+                rest: [],
+                ..
+            },
+        ) => fields.timestamp(),
+        _ => Err(TimeFault::Form),
+    }
 }
 
 /// The interval of a text that is read to its end.

@@ -3,10 +3,9 @@ ghost use Rattle.std.specs.Prelude.{◌≡◌, ℕ, ◌≤◌, ◌<◌, IfSome, 
 ghost use Rattle.std.specs.Option.{SomeIff};
 ghost use Rattle.qd_time.specs.Units.{unit_of, start_of, end_of, name_of};
 
-use crate::MAX_TIME;
 use crate::print::print_time;
 use crate::units::Unit;
-use qd_base::{Memory, PartUnit, Txt};
+use qd_base::{MAX_TIME, Memory, PartUnit, Txt};
 use std::alloc::Global;
 
 /// The first microsecond of the hour, day, month or year that contains the moment, in UTC.

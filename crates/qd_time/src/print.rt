@@ -2,8 +2,8 @@
 ghost use Rattle.std.specs.Prelude.{◌≡◌, ◌+◌, ◌%◌, ◌≤◌, ◌<◌, ◌^◌};
 ghost use Rattle.qd_time.specs.Printed.{digits, time_text};
 
-use crate::MAX_TIME;
 use crate::calendar::{DAY, HOUR, MINUTE, SECOND, date_of_day};
+use qd_base::MAX_TIME;
 
 /// The moment as text, as `2024-01-01T00:00:00.000000Z`: the extended format of ISO 8601 with six
 /// digits of a second, in UTC.
@@ -27,21 +27,7 @@ pub fn print_time(ts: u64) -> [u8; 27]
     ]
 }
 
-/// The last decimal digit of a number.
-fn digit(n: u32) -> u8
-    ensures { result ≡ 48 + n % 10 }
-{
-    b'0' + (n % 10) as u8
-}
-
-fn two_digits(n: u8) -> [u8; 2]
-    requires { n < 100 }
-    ensures { result ≡ digits 2 n }
-{
-    let n = n as u32;
-    [digit(n / 10), digit(n)]
-}
-
+/// The last four decimal digits of a number.
 fn four_digits(n: u16) -> [u8; 4]
     requires { n < 10 ^ 4 }
     ensures { result ≡ digits 4 n }
@@ -50,6 +36,16 @@ fn four_digits(n: u16) -> [u8; 4]
     [digit(n / 1000), digit(n / 100), digit(n / 10), digit(n)]
 }
 
+/// The last two decimal digits of a number.
+fn two_digits(n: u8) -> [u8; 2]
+    requires { n < 100 }
+    ensures { result ≡ digits 2 n }
+{
+    let n = n as u32;
+    [digit(n / 10), digit(n)]
+}
+
+/// The last six decimal digits of a number.
 fn six_digits(n: u32) -> [u8; 6]
     requires { n < 10 ^ 6 }
     ensures { result ≡ digits 6 n }
@@ -62,4 +58,11 @@ fn six_digits(n: u32) -> [u8; 6]
         digit(n / 10),
         digit(n),
     ]
+}
+
+/// The last decimal digit of a number.
+fn digit(n: u32) -> u8
+    ensures { result ≡ 48 + n % 10 }
+{
+    b'0' + (n % 10) as u8
 }

@@ -40,6 +40,19 @@ pub(crate) fn read_year(text: &[u8]) -> Option<Reading<'_>>
     }
 }
 
+/// One decimal digit, and the bytes after it.
+#[tactic(auto, unfolding(crate::specs::Reading::digit_at))]
+pub(crate) fn digit(text: &[u8]) -> Option<(u8, &[u8])>
+    ensures value { Gives seen_number result (digit_at text.now) }
+    ensures bound { IfSome result (λ x. x.0 < 10) }
+{
+    match text {
+        [byte @ b'0'..=b'9', rest @ ..] => Some((*byte - b'0', rest)),
+        _ => None,
+    }
+}
+
+/// A month, and what follows it.
 #[tactic(auto, unfolding(crate::specs::Reading::month_at))]
 fn read_month(fields: Fields, text: &[u8]) -> Option<Reading<'_>>
     ensures { Gives seen result (month_at (civil_fields fields) text.now) }
@@ -56,6 +69,7 @@ fn read_month(fields: Fields, text: &[u8]) -> Option<Reading<'_>>
     }
 }
 
+/// A day, and what follows it.
 #[tactic(auto, unfolding(crate::specs::Reading::day_at))]
 fn read_day(fields: Fields, text: &[u8]) -> Option<Reading<'_>>
     ensures { Gives seen result (day_at (civil_fields fields) text.now) }
@@ -72,6 +86,7 @@ fn read_day(fields: Fields, text: &[u8]) -> Option<Reading<'_>>
     }
 }
 
+/// An hour, and what follows it.
 #[tactic(auto, unfolding(crate::specs::Reading::hour_at))]
 fn read_hour(fields: Fields, text: &[u8]) -> Option<Reading<'_>>
     ensures { Gives seen result (hour_at (civil_fields fields) text.now) }
@@ -88,6 +103,7 @@ fn read_hour(fields: Fields, text: &[u8]) -> Option<Reading<'_>>
     }
 }
 
+/// A minute, and what follows it.
 #[tactic(auto, unfolding(crate::specs::Reading::minute_at))]
 fn read_minute(fields: Fields, text: &[u8]) -> Option<Reading<'_>>
     ensures { Gives seen result (minute_at (civil_fields fields) text.now) }
@@ -104,6 +120,7 @@ fn read_minute(fields: Fields, text: &[u8]) -> Option<Reading<'_>>
     }
 }
 
+/// A second, and what follows it.
 #[tactic(auto, unfolding(crate::specs::Reading::second_at))]
 fn read_second(fields: Fields, text: &[u8]) -> Option<Reading<'_>>
     ensures { Gives seen result (second_at (civil_fields fields) text.now) }
@@ -154,6 +171,7 @@ fn skip_zone(text: &[u8]) -> &[u8]
     }
 }
 
+/// A number of four digits, and the bytes after it.
 #[tactic(auto, unfolding(crate::specs::Reading::four_at))]
 fn four_digits(text: &[u8]) -> Option<(u16, &[u8])>
     ensures value { Gives seen_number result (four_at text.now) }
@@ -164,6 +182,7 @@ fn four_digits(text: &[u8]) -> Option<(u16, &[u8])>
     Some((100 * high as u16 + low as u16, rest))
 }
 
+/// A number of three digits, and the bytes after it.
 #[tactic(auto, unfolding(crate::specs::Reading::three_at))]
 fn three_digits(text: &[u8]) -> Option<(u16, &[u8])>
     ensures value { Gives seen_number result (three_at text.now) }
@@ -174,6 +193,7 @@ fn three_digits(text: &[u8]) -> Option<(u16, &[u8])>
     Some((100 * high as u16 + low as u16, rest))
 }
 
+/// A number of two digits, and the bytes after it.
 #[tactic(auto, unfolding(crate::specs::Reading::two_at))]
 fn two_digits(text: &[u8]) -> Option<(u8, &[u8])>
     ensures value { Gives seen_number result (two_at text.now) }
@@ -182,16 +202,4 @@ fn two_digits(text: &[u8]) -> Option<(u8, &[u8])>
     let (high, rest) = digit(text)?;
     let (low, rest) = digit(rest)?;
     Some((10 * high + low, rest))
-}
-
-#[tactic(auto, unfolding(crate::specs::Reading::digit_at))]
-/// One decimal digit, and the bytes after it.
-pub(crate) fn digit(text: &[u8]) -> Option<(u8, &[u8])>
-    ensures value { Gives seen_number result (digit_at text.now) }
-    ensures bound { IfSome result (λ x. x.0 < 10) }
-{
-    match text {
-        [byte @ b'0'..=b'9', rest @ ..] => Some((*byte - b'0', rest)),
-        _ => None,
-    }
 }

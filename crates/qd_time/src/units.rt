@@ -1,12 +1,11 @@
 //! Units of the calendar and of the clock, and where they begin.
 ghost use Rattle.std.specs.Prelude.{◌≡◌, ◌+◌, ◌≤◌};
 
-use crate::MAX_TIME;
 use crate::calendar::{
     DAY, HOUR, MILLI, MINUTE, SECOND, first_of_month, first_of_next_month, first_of_next_year,
     first_of_year,
 };
-use qd_base::PartUnit;
+use qd_base::{MAX_TIME, PartUnit};
 
 /// A unit of time. A month and a year are as long as the calendar has them.
 #[derive(Clone, Copy, Debug, PartialEq, Eq)]

@@ -1,8 +1,8 @@
 -- The array has grown by slots that are each alone, or is as before.
 use Rattle.std.proofs.Common.{refl}
-use Rattle.qd_links.proofs.Places.{StandOnce_of}
-use Rattle.qd_links.proofs.Edits.{held}
-use Rattle.qd_links.proofs.Growing.{Grown, grown}
+use Rattle.qd_links.proofs.PlaceLemmas.{StandOnce_of}
+use Rattle.qd_links.proofs.EditLemmas.{held}
+use Rattle.qd_links.proofs.GrowLemmas.{Grown, grown}
 use Rattle.qd_links.proofs.Links.grow.Goals as goal
 
 after : (c : goal.After-add_slots) → Grown c.add_slots.result c.add_slots.new.ring.items c.self.inside.heads c.args.self.now c.args.nodes

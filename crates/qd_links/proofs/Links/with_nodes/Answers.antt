@@ -2,9 +2,9 @@
 use Rattle.std.proofs.Common.{sym, subst, ◌∙◌, ap, ◌+◌, [], arith, replicate}
 use Rattle.qd_links.specs.Lists.{Lists, IsListed}
 use Rattle.qd_links.specs.Ring.{HoldsLists}
-use Rattle.qd_links.proofs.Places.{StandOnce_of}
-use Rattle.qd_links.proofs.Reading.{lists_of-held, holds_view}
-use Rattle.qd_links.proofs.Growing.{holds_made, none_listed}
+use Rattle.qd_links.proofs.PlaceLemmas.{StandOnce_of}
+use Rattle.qd_links.proofs.ReadLemmas.{lists_of-held, holds_view}
+use Rattle.qd_links.proofs.GrowLemmas.{holds_made, none_listed}
 use Rattle.qd_links.proofs.Links.with_nodes.Goals as goal
 
 made : (c : goal.In_ok-add_slots-2) → HoldsLists c.add_slots-2.new.ring.items c.args.lists (record { nodes = 0 + c.args.nodes; lists = replicate c.args.lists [] })
@@ -24,4 +24,4 @@ returns-clause-once c = StandOnce_of _ _ _ (holds_view _ _ _ (made c))
 
 pub returns-clause-unlisted : goal.returns-clause-unlisted
 returns-clause-unlisted c node =
-    subst (λ (v : Lists). IsListed v node → ⊥) (sym (lists_of-held _ _ _ (made c))) (none_listed c.args.lists (0 + c.args.nodes) node)
+    subst (λ (v : Lists). ¬ IsListed v node) (sym (lists_of-held _ _ _ (made c))) (none_listed c.args.lists (0 + c.args.nodes) node)

@@ -1,6 +1,6 @@
 -- There is room for each slot, so each push succeeds.
 use Rattle.std.proofs.Common.{◌≡◌, ◌∙◌, ◌-◌, arith, rules}
-use Rattle.qd_links.proofs.Growing.{added_none, added_more}
+use Rattle.qd_links.proofs.GrowLemmas.{added_none, added_more}
 use Rattle.qd_links.proofs.ring.add_slots.Goals as goal
 
 pub loop-slot-init : goal.loop-slot-init

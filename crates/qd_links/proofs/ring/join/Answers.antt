@@ -1,7 +1,7 @@
 -- The two writes join the slots.
 use Rattle.std.proofs.Common.{refl}
 use Rattle.qd_links.specs.Ring.{next_slot, prev_slot}
-use Rattle.qd_links.proofs.Joining.{joined}
+use Rattle.qd_links.proofs.JoinLemmas.{joined}
 use Rattle.qd_links.proofs.ring.join.Goals as goal
 
 pub returns : goal.returns

@@ -1,6 +1,6 @@
 use Rattle.std.proofs.Common.{arith}
 use Rattle.jiff_core.proofs.SignedLemmas.{signed_arith}
-use Rattle.qd_time.proofs.DateFacts.{IsDateOfDay-epoch_day}
+use Rattle.qd_time.proofs.DateLemmas.{IsDateOfDay-epoch_day}
 use Rattle.qd_time.proofs.calendar.date_of_day.Goals as goal
 
 pub returns : goal.returns

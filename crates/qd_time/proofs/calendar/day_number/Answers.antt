@@ -4,7 +4,7 @@ use Rattle.std.proofs.lemmas.Int.{ints}
 use Rattle.jiff_core.specs.Calendar.{days_in_month}
 use Rattle.jiff_core.specs.Date.{epoch_day}
 use Rattle.qd_time.specs.Calendar.{CalendarDate, day_number}
-use Rattle.qd_time.proofs.CivilFacts.{epoch_day-day_number, day_number-high}
+use Rattle.qd_time.proofs.CivilLemmas.{epoch_day-day_number, day_number-high}
 use Rattle.qd_time.proofs.calendar.day_number.Goals as goal
 
 -- jiff's day number of the date

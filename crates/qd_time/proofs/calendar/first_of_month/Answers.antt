@@ -1,5 +1,5 @@
 use Rattle.std.proofs.Common.{arith}
-use Rattle.qd_time.proofs.DateOrder.{month_first-number}
+use Rattle.qd_time.proofs.DateOrderLemmas.{month_first-number}
 use Rattle.qd_time.proofs.calendar.first_of_month.Goals as goal
 
 pub overflow_sub-result-2 : goal.overflow_sub-result-2

@@ -1,7 +1,7 @@
 use Rattle.std.proofs.Common.{arith, ◌∙◌, FitsSigned, w16}
 use Rattle.std.proofs.lemmas.Int.{to_z-of_z}
 use Rattle.jiff_core.proofs.SignedLemmas.{signed_arith}
-use Rattle.qd_time.proofs.DateOrder.{year_first-number, year_after-number, year_after_high, ordinal-is, year_days-is}
+use Rattle.qd_time.proofs.DateOrderLemmas.{year_first-number, year_after-number, year_after_high, ordinal-is, year_days-is}
 use Rattle.qd_time.proofs.calendar.first_of_next_year.Goals as goal
 
 pub overflow_sub-result-2 : goal.overflow_sub-result-2

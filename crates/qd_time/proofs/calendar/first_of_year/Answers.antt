@@ -1,5 +1,5 @@
 use Rattle.std.proofs.Common.{arith, ◌∙◌}
-use Rattle.qd_time.proofs.DateOrder.{year_first-number, ordinal-is}
+use Rattle.qd_time.proofs.DateOrderLemmas.{year_first-number, ordinal-is}
 use Rattle.qd_time.proofs.calendar.first_of_year.Goals as goal
 
 pub overflow_sub-result-2 : goal.overflow_sub-result-2

@@ -1,19 +1,16 @@
 use Rattle.std.proofs.Common.{subst, sym}
 use Rattle.qd_time.specs.Spelled.{SpellsTime}
-use Rattle.qd_time.proofs.ParseFacts.{answer_ok, ok_answer, answer_range, range_answer, answer_form, form_answer, printed_spells}
+use Rattle.qd_time.proofs.ParseLemmas.{answer_ok, is_ok, is_range, is_form, printed_spells}
 use Rattle.qd_time.proofs.parse.parse_time.Goals as goal
 
 pub returns-clause-ok : goal.returns-clause-ok
-returns-clause-ok c = λ ts.
-    (ok_answer c.args.text.now c.read_whole.result ts c.read_whole.ensures, answer_ok c.args.text.now c.read_whole.result ts c.read_whole.ensures)
+returns-clause-ok c = is_ok c.args.text.now c.read_whole.result c.read_whole.ensures
 
 pub returns-clause-range : goal.returns-clause-range
-returns-clause-range c =
-    (range_answer c.args.text.now c.read_whole.result c.read_whole.ensures, answer_range c.args.text.now c.read_whole.result c.read_whole.ensures)
+returns-clause-range c = is_range c.args.text.now c.read_whole.result c.read_whole.ensures
 
 pub returns-clause-form : goal.returns-clause-form
-returns-clause-form c =
-    (form_answer c.args.text.now c.read_whole.result c.read_whole.ensures, answer_form c.args.text.now c.read_whole.result c.read_whole.ensures)
+returns-clause-form c = is_form c.args.text.now c.read_whole.result c.read_whole.ensures
 
 pub returns-clause-printed : goal.returns-clause-printed
 returns-clause-printed c = λ ts high e.

@@ -1,5 +1,5 @@
 use Rattle.qd_time.specs.Reading.{seen}
-use Rattle.qd_time.proofs.ReadingFacts.{found_year}
+use Rattle.qd_time.proofs.ReadingLemmas.{found_year}
 use Rattle.qd_time.proofs.parse.read_whole.Goals as goal
 
 pub timestamp-requires-clause-year_high : goal.timestamp-requires-clause-year_high

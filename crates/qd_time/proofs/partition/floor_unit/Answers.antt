@@ -1,6 +1,6 @@
 use Rattle.std.proofs.Common.{arith, ◌∙◌, ◌≤◌, ◌≡◌, sym, ap}
 use Rattle.qd_time.specs.Units.{unit_of, start_of}
-use Rattle.qd_time.proofs.UnitFacts.{start_of-le, lt-end_of, start_of-within}
+use Rattle.qd_time.proofs.UnitLemmas.{in_unit, start_of-within}
 use Rattle.qd_time.proofs.partition.floor_unit.Goals as goal
 
 -- the start, by the partition's unit
@@ -9,10 +9,10 @@ starts c = c.start.ensures ∙ ap (λ u. start_of u c.args.ts) c.of_partition.en
 
 pub returns-clause-not_after : goal.returns-clause-not_after
 returns-clause-not_after c =
-    omega (arith, starts c, start_of-le (unit_of c.args.unit) c.args.ts)
+    omega (arith, starts c, (in_unit (unit_of c.args.unit) c.args.ts).0)
 
 pub returns-clause-before_end : goal.returns-clause-before_end
-returns-clause-before_end c = lt-end_of (unit_of c.args.unit) c.args.ts
+returns-clause-before_end c = (in_unit (unit_of c.args.unit) c.args.ts).1
 
 pub returns-clause-one_unit : goal.returns-clause-one_unit
 returns-clause-one_unit c = λ other low high.

@@ -1,7 +1,7 @@
 use Rattle.std.proofs.Common.{◌≡◌, ◌∙◌, IfOk, sym, ap, take}
 use Rattle.std.proofs.lemmas.Result.{IfOk-weaker}
 use Rattle.qd_time.specs.Units.{unit_of, name_of}
-use Rattle.qd_time.proofs.ParseFacts.{text_to-apart}
+use Rattle.qd_time.proofs.ParseLemmas.{text_to-apart}
 use Rattle.qd_time.proofs.partition.partition_name.Goals as goal
 use Rattle.qd_time.proofs.partition.partition_name.Goals.{in-Hour, in-Day, in-Month, in-Year}
 

@@ -1,7 +1,7 @@
 use Rattle.std.proofs.Common.{arith, ap, sym, ◌∙◌, length}
 use Rattle.qd_time.specs.Reading.{count_at}
-use Rattle.qd_time.proofs.DigitFacts.{digit_at-some}
-use Rattle.qd_time.proofs.SuffixFacts.{count_at-digit, count_at-none}
+use Rattle.qd_time.proofs.DigitLemmas.{digit_at-some}
+use Rattle.qd_time.proofs.SuffixLemmas.{count_at-digit, count_at-none}
 use Rattle.qd_time.proofs.suffix.read_count.Goals as goal
 
 pub loop-low-smaller : goal.loop-low-smaller

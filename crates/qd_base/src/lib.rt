@@ -5,6 +5,7 @@
 #![tactic(auto)]
 
 mod cell;
+mod dictionary;
 mod front;
 mod laws;
 mod limits;
@@ -20,6 +21,7 @@ mod tests;
 mod txt;
 
 pub use cell::{Cell, Row, RowList};
+pub use dictionary::Dictionary;
 pub use front::Front;
 pub use laws::{
     cells_are_compared, equal_times_keep_order, keys_are_unique, last_of_equal_keys_stays,

@@ -1,6 +1,6 @@
 -- Dictionaries: distinct texts, each known by its position.
-use Rattle.std.specs.Prelude.{ℕ, Bool, List, [], ◌∷◌, ◌++◌, Option, if◌then◌else◌, nat_eq, position}
-use Rattle.std.specs.List.{list_any, position_or_len, IsDistinct}
+use Rattle.std.specs.Prelude.{ℕ, Bool, List, [], ◌∷◌, ◌++◌, Option, if◌then◌else◌, nat_eq, nat_lt, length, position}
+use Rattle.std.specs.List.{position_or_len, IsDistinct}
 use Rattle.std.specs.Cmp.Lexicographic.{pointwise}
 
 -- whether two texts are one
@@ -17,7 +17,7 @@ id_for texts text = position_or_len (same_text text) texts
 
 -- the texts with one that they may lack, which then goes last
 abbrev pub with_text : List (List ℕ) → List ℕ → List (List ℕ)
-with_text texts text = if list_any (same_text text) texts then texts else texts ++ text ∷ []
+with_text texts text = if nat_lt (id_for texts text) (length texts) then texts else texts ++ text ∷ []
 
 -- no text stands twice
 abbrev pub AreDistinct : List (List ℕ) → Type 0

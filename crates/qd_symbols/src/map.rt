@@ -18,14 +18,13 @@ pub struct SymbolMap {
 
 impl Model for SymbolMap {
     ghost use Rattle.std.specs.Prelude.{ℕ, List};
-    ghost use Rattle.qd_base.specs.Dictionary.{AreDistinct};
-    ghost use Rattle.qd_symbols.specs.Keys.{texts_of_keys};
+    ghost use Rattle.qd_symbols.specs.Keys.{texts_of_keys, AreTexts};
 
     ghost Value = { List (List ℕ) };
 
     ghost view = { λ s. texts_of_keys s.texts.keys };
 
-    ghost invariant = { λ s. AreDistinct (texts_of_keys s.texts.keys) };
+    ghost invariant = { λ s. AreTexts (texts_of_keys s.texts.keys) };
 }
 
 impl SymbolMap {
@@ -90,7 +89,8 @@ impl SymbolMap {
         ensures err { OnErr result (self.new ≡ self.old) }
     {
         let key = Vec::from_slice(self.alloc, text)?;
-        let (id, _) = self.texts.insert_full(key)?;
+        let id = self.texts.len();
+        self.texts.insert(key)?;
         Ok(id as u64)
     }
 }

@@ -10,6 +10,7 @@ mod front;
 mod laws;
 mod limits;
 mod names;
+mod nulls;
 mod op;
 mod part;
 mod request;
@@ -30,6 +31,7 @@ pub use laws::{
 };
 pub use limits::{Limits, MAX_QUERY_BYTES, MAX_TIME, MAX_WRITE_BYTES};
 pub use names::{column_name_ok, same_name, table_name_ok};
+pub use nulls::{NULL_ID, NULL_LONG, NULL_TIME};
 pub use op::{Entry, Op, OpList};
 pub use part::{Part, PartList, RefList, WalRef};
 pub use request::{Reply, Request, Step, Table};

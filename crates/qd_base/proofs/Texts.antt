@@ -1,9 +1,9 @@
 -- Lists of distinct texts: where a text stands, and what one text more changes.
-use Rattle.std.proofs.Common.{◌≡◌, ℕ, ◌+◌, ◌<◌, ◌≤◌, ◌||◌, Bool, true, false, not, cond, eqb, ltb, zero, suc, List, [], ◌∷◌, ◌++◌, Option, Some, None, length, map, get_or, refl, sym, ap, ◌∙◌, arith, slice_get, length-append, nat_eq}
+use Rattle.std.proofs.Common.{◌≡◌, ℕ, ◌+◌, ◌<◌, ◌≤◌, ◌||◌, inl, inr, Bool, true, false, not, cond, eqb, ltb, zero, suc, List, [], ◌∷◌, ◌++◌, Option, Some, None, length, map, get_or, refl, sym, ap, ◌∙◌, arith, slice_get, length-append, nat_eq}
 use Rattle.std.specs.List.{list_any, position_or_len, position, IsDistinct, AllByRecursion}
-use Rattle.std.proofs.lemmas.Bool.{ltb-true, ltb-false, lt-ltb, le-ltb, false≢true, true≢false}
+use Rattle.std.proofs.lemmas.Bool.{ltb-true, ltb-false, lt-ltb, le-ltb, false≢true, cases_lt}
 use Rattle.std.proofs.lemmas.List.{get_or_push, get_or_append_left, length-map}
-use Rattle.std.proofs.lemmas.List.Sums.{passes_at_first}
+use Rattle.std.proofs.lemmas.List.Sums.{passes_at_first, fails_before_first}
 use Rattle.std.proofs.lemmas.Option.{slice_get-get_or}
 use Rattle.std.proofs.lemmas.Cmp.{nat_list_eq_equiv}
 use Rattle.std.proofs.lemmas.Map.Keys.{IsDistinct-push}
@@ -99,3 +99,10 @@ distinct-with_text texts text h = go (ltb (id_for texts text) (length texts)) re
     go : (b : Bool) → ltb (id_for texts text) (length texts) ≡ b → AreDistinct (cond b texts (texts ++ text ∷ []))
     go true e = h
     go false e = IsDistinct-push nat_list_eq_equiv texts text h (any_stands (same_text text) texts ∙ e)
+
+-- a text that stands in a list is no news to it
+pub text_stands : (texts : List (List ℕ)) (id : ℕ) (d : List ℕ) → id < length texts → id_for texts (get_or texts id d) < length texts
+text_stands texts id d h =
+    let text = get_or texts id d in
+    let itself : same_text text text ≡ true = nat_list_eq_equiv.refl text in
+    elim (cases_lt id (id_for texts text)) [ inl before ↦ absurd (false≢true (sym (fails_before_first (same_text text) texts id d before) ∙ itself)) | inr upto ↦ omega arith ]

@@ -1,5 +1,5 @@
 -- Columns of texts: one buffer of bytes, and for each row a mark, twice the place behind its bytes, and 1 more for NULL.
-use Rattle.std.specs.Prelude.{◌≡◌, ℕ, ◌+◌, ◌-◌, ◌/◌, ◌%◌, ◌≤◌, List, [], ◌∷◌, ◌==◌, if◌then◌else◌, length, slice_range}
+use Rattle.std.specs.Prelude.{◌≡◌, ℕ, zero, suc, ◌+◌, ◌/◌, ◌%◌, ◌≤◌, List, [], ◌∷◌, ◌==◌, if◌then◌else◌, length, slice_range, slice_index_or}
 use Rattle.qd_base.specs.declared.cell.Cell.{Cell}
 use Rattle.qd_base.specs.declared.cell.Cell.TheVariants as cell
 
@@ -17,7 +17,7 @@ abbrev pub Tile : ℕ → List ℕ → ℕ → Type 0
 Tile start [] end = start ≡ end
 Tile start (mark ∷ marks) end = (start ≤ mark / 2) × (mark / 2 ≤ start + 65535) × (mark % 2 ≡ 1 → mark / 2 ≡ start) × Tile (mark / 2) marks end
 
--- where the bytes of a row begin
-abbrev pub start_of : ℕ → List ℕ → ℕ → ℕ
-start_of start [] i = start
-start_of start (mark ∷ marks) i = if i == 0 then start else start_of (mark / 2) marks (i - 1)
+-- where the bytes of a row begin: behind those of the row before
+abbrev pub start_at : ℕ → List ℕ → ℕ → ℕ
+start_at start marks zero = start
+start_at start marks (suc i) = slice_index_or marks i 0 / 2

@@ -1,5 +1,5 @@
 //! How the cells of a column are read.
-ghost use Rattle.std.specs.Prelude.{◌≡◌, ℕ, ◌<◌, ◌⊎◌, Some, length, map, All, slice_get, option_map};
+ghost use Rattle.std.specs.Prelude.{◌≡◌, ℕ, ◌<◌, ◌≤◌, ◌⊎◌, Some, length, map, All, IfSome, slice_get, option_map};
 ghost use Rattle.qd_base.specs.declared.cell.Cell.TheVariants as cell;
 ghost use Rattle.qd_base.specs.declared.schema.ColType.TheVariants as kind;
 ghost use Rattle.qd_column.specs.Cells.{long_cell, time_cell, long_or_null, time_or_null, text_or_null};
@@ -115,6 +115,7 @@ impl<D: Dictionary> Column<D> {
         requires kind { (self.now.kind ≡ kind.Symbol) ⊎ (self.now.kind ≡ kind.Varchar) }
         requires row { i < length self.now.cells }
         ensures cell { slice_get self.now.cells i ≡ Some (text_or_null (option_map (λ t. t.now) result)) }
+        ensures short { IfSome result (λ t. length t.now ≤ 65535) }
     {
         match &self.data {
             Data::Symbols(symbols) => symbols.text(i),

@@ -1,7 +1,8 @@
 //! Columns of texts.
-ghost use Rattle.std.specs.Prelude.{◌≡◌, ℕ, ◌<◌, ◌≤◌, List, [], ◌∷◌, ◌++◌, Some, length, IfOk, OnOk, OnErr, slice_get, option_map};
+ghost use Rattle.std.specs.Prelude.{◌≡◌, ℕ, ◌<◌, ◌≤◌, List, [], ◌∷◌, ◌++◌, Some, length, map, All, IfOk, IfSome, OnOk, OnErr, slice_get, slice_range, slice_index_or, option_map};
 ghost use Rattle.qd_base.specs.declared.cell.Cell.TheVariants as cell;
 ghost use Rattle.qd_column.specs.Cells.{text_or_null};
+ghost use Rattle.qd_column.specs.Texts.{cells_from, start_at, Tile};
 
 use qd_base::Memory;
 use std::alloc::Global;
@@ -52,13 +53,9 @@ impl Texts {
     pub fn text(&self, i: usize) -> Option<&[u8]>
         requires { i < length self.now }
         ensures text { slice_get self.now i ≡ Some (text_or_null (option_map (λ t. t.now) result)) }
+        ensures short { IfSome result (λ t. length t.now ≤ 65535) }
     {
-        let mark = self.marks[i];
-        if mark % 2 == 1 {
-            return None;
-        }
-        let start = if i == 0 { 0 } else { self.marks[i - 1] / 2 };
-        Some(&self.bytes[start as usize..(mark / 2) as usize])
+        text_in(self.bytes.as_slice(), self.marks.as_slice(), i)
     }
 
     /// Adds a row with NULL. Where no memory is found, nothing is changed.
@@ -83,4 +80,66 @@ impl Texts {
         self.marks.push_reserved(2 * end);
         Ok(())
     }
+
+    /// Adds a row of another column. Where no memory is found, nothing is changed.
+    fn push_row(&mut self, other: &Texts, i: usize) -> Result<(), Memory>
+        requires { i < length other.now }
+        ensures ok { OnOk result (self.new ≡ self.old ++ slice_index_or other.now i cell.Null ∷ []) }
+        ensures err { OnErr result (self.new ≡ self.old) }
+    {
+        match other.text(i) {
+            None => self.push_null(),
+            Some(text) => self.push_text(text),
+        }
+    }
+
+    /// Copies the rows at some places, in the order of the places. It costs time and memory linear in their number and
+    /// their bytes.
+    pub fn gathered(&self, alloc: Global, places: &[usize]) -> Result<Texts, Memory>
+        requires { All (λ i. i < length self.now) places.now }
+        ensures cells { IfOk result (λ texts. texts ≡ map (λ i. slice_index_or self.now i cell.Null) places.now) }
+    {
+        let mut texts = Texts::new(alloc);
+        for place in places {
+            texts.push_row(self, *place)?;
+        }
+        Ok(texts)
+    }
+
+    /// Copies the rows from one up to another. It costs time and memory linear in their number and their bytes.
+    pub fn part(&self, alloc: Global, from: usize, to: usize) -> Result<Texts, Memory>
+        requires ordered { from ≤ to }
+        requires within { to ≤ length self.now }
+        ensures cells { IfOk result (λ texts. texts ≡ slice_range self.now from to) }
+    {
+        let mut texts = Texts::new(alloc);
+        for i in from..to {
+            texts.push_row(self, i)?;
+        }
+        Ok(texts)
+    }
+}
+
+/// The text of a row, by the marks of all rows.
+fn text_in<'a>(bytes: &'a [u8], marks: &[u64], i: usize) -> Option<&'a [u8]>
+    requires row { i < length marks.now }
+    requires tiled { Tile 0 marks.now (length bytes.now) }
+    ensures text { slice_get (cells_from bytes.now 0 marks.now) i ≡ Some (text_or_null (option_map (λ t. t.now) result)) }
+    ensures short { IfSome result (λ t. length t.now ≤ 65535) }
+{
+    let mark = marks[i];
+    if mark % 2 == 1 {
+        return None;
+    }
+    let start = start_of(marks, i) as usize;
+    let end = (mark / 2) as usize;
+    Some(&bytes[start..end])
+}
+
+/// Where the bytes of a row begin, by the marks of all rows.
+fn start_of(marks: &[u64], i: usize) -> u64
+    requires { i < length marks.now }
+    ensures start { result ≡ start_at 0 marks.now i }
+{
+    if i == 0 { 0 } else { marks[i - 1] / 2 }
 }

@@ -4,6 +4,7 @@
 #![tactic(auto)]
 
 mod column;
+mod copying;
 mod gather;
 mod reading;
 mod symbols;

@@ -1,0 +1,6 @@
+pub mod RowLemmas
+pub mod BuildLemmas
+
+pub mod OrderLemmas
+mod MomentLemmas
+pub mod BlockLemmas

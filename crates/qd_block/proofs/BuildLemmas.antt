@@ -103,13 +103,15 @@ row_ended n m filled time_col columns b is view whole next =
     let row : take filled (row_at columns n) ≡ row_at columns n = take_all filled (row_at columns n) (omega arith) in
     let rows : rows_of m columns ≡ rows_of n columns ++ take filled (row_at columns n) ∷ [] = ap (λ (k : ℕ). rows_of k columns) next ∙ rows_more n columns ∙ ap (λ (r : Row). rows_of n columns ++ r ∷ []) (sym row) in
     let there : time_col < length columns = omega (arith, got_there (kinds_of columns) time_col _ is.designated, length-map columns (λ (c : CellsOf). c.kind)) in
-    let timed : IsTimed time_col (take filled (row_at columns n)) = subst (IsTimed time_col) (sym row) (is.open_timed (omega arith)) in
-    (record {
-      begun = λ k d h. absurd (omega arith);
-      others = λ k d low h. is.begun k d (omega arith) ∙ sym next;
-      within = omega arith;
-      few = is.few;
-      designated = is.designated;
-      timed = subst (λ (rs : List Row). AllByRecursion (IsTimed time_col) rs) (sym rows) (each-append (IsTimed time_col) (rows_of n columns) (take filled (row_at columns n) ∷ []) is.timed (timed, tt));
-      open_timed = λ h. absurd (omega arith);
-    }, ap (λ (rs : List Row). record { kinds = kinds_of columns; time_col = time_col; rows = rs; open_row = [] }) rows ∙ ap (λ (x : Building). record x { rows = x.rows ++ x.open_row ∷ []; open_row = [] }) view)
+    let timed : IsTimed time_col (take filled (row_at columns n)) = subst (IsTimed time_col) (sym row) (is.open_timed (omega arith)) in (
+      record {
+        begun = λ k d h. absurd (omega arith);
+        others = λ k d low h. is.begun k d (omega arith) ∙ sym next;
+        within = omega arith;
+        few = is.few;
+        designated = is.designated;
+        timed = subst (λ (rs : List Row). AllByRecursion (IsTimed time_col) rs) (sym rows) (each-append (IsTimed time_col) (rows_of n columns) (take filled (row_at columns n) ∷ []) is.timed (timed, tt));
+        open_timed = λ h. absurd (omega arith);
+      },
+      ap (λ (rs : List Row). record { kinds = kinds_of columns; time_col = time_col; rows = rs; open_row = [] }) rows ∙ ap (λ (x : Building). record x { rows = x.rows ++ x.open_row ∷ []; open_row = [] }) view,
+    )

@@ -95,9 +95,9 @@ are_times n col columns times d there size cells timed =
     record {
       count = count;
       each = λ i low.
-      let at : cell_at (row_at columns i) col ≡ time_cell (get_or times i 0) = cell_at-row_at columns i col d there ∙ ap (λ (cs : List Cell). get_or cs i cell.Null) cells ∙ get_or-map time_cell times i 0 cell.Null (omega arith) in
-      let some : IsTimed col (row_at columns i) = subst (IsTimed col) (get_or-rows_of n i columns [] low) (each_row (IsTimed col) (rows_of n columns) timed i [] (omega (arith, length-rows_of n columns))) in
-      at ∙ time_shown (get_or times i 0) (λ null. some (at ∙ null));
+          let at : cell_at (row_at columns i) col ≡ time_cell (get_or times i 0) = cell_at-row_at columns i col d there ∙ ap (λ (cs : List Cell). get_or cs i cell.Null) cells ∙ get_or-map time_cell times i 0 cell.Null (omega arith) in
+          let some : IsTimed col (row_at columns i) = subst (IsTimed col) (get_or-rows_of n i columns [] low) (each_row (IsTimed col) (rows_of n columns) timed i [] (omega (arith, length-rows_of n columns))) in
+          at ∙ time_shown (get_or times i 0) (λ null. some (at ∙ null));
     }
 
 -- rows whose times rise are in order as they are

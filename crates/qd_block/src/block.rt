@@ -84,7 +84,12 @@ impl<D: Dictionary> Block<D> {
         requires within { to ≤ length self.now.rows }
         ensures rows { IfOk result (λ part. part ≡ record self.now { rows = slice_range self.now.rows from to }) }
     {
-        let columns = parts_of(self.alloc, self.columns.as_slice(), from as usize, to as usize)?;
+        let columns = parts_of(
+            self.alloc,
+            self.columns.as_slice(),
+            from as usize,
+            to as usize,
+        )?;
         Ok(Block {
             alloc: self.alloc,
             columns,
@@ -102,7 +107,12 @@ impl<D: Dictionary> Block<D> {
 }
 
 /// Copies the rows from one up to another of each column.
-fn parts_of<D: Dictionary>(alloc: Global, columns: &[Column<D>], from: usize, to: usize) -> Result<Vec<Column<D>>, Memory>
+fn parts_of<D: Dictionary>(
+    alloc: Global,
+    columns: &[Column<D>],
+    from: usize,
+    to: usize,
+) -> Result<Vec<Column<D>>, Memory>
     requires ordered { from ≤ to }
     requires within { All (λ c. to ≤ length c.cells) columns.now }
     ensures columns { IfOk result (λ v. v.items ≡ map (part_of_column from to) columns.now) }

@@ -1,5 +1,5 @@
 //! How blocks are made: cell by cell, in any order of time.
-ghost use Rattle.std.specs.Prelude.{◌≡◌, ◌≢◌, ◌<◌, ◌≤◌, ◌⊎◌, [], ◌∷◌, ◌++◌, Some, length, map, All, IfOk, OnOk, OnErr, slice_get, slice_index_or};
+ghost use Rattle.std.specs.Prelude.{◌≡◌, ◌≢◌, ◌<◌, ◌≤◌, ◌⊎◌, [], ◌∷◌, ◌++◌, Some, length, map, All, IfOk, IfNone, OnOk, OnErr, slice_get, slice_index_or};
 ghost use Rattle.qd_base.specs.declared.cell.Cell.TheVariants as cell;
 ghost use Rattle.qd_base.specs.declared.schema.ColType.TheVariants as kind;
 ghost use Rattle.qd_base.specs.declared.nulls.TheConstants.{NULL_LONG as least, NULL_TIME as last};
@@ -9,7 +9,7 @@ ghost use Rattle.qd_block.specs.Blocks.{kinds_in, with_open, in_time_order};
 
 use crate::block::Block;
 use crate::order::{places_in_order, rises};
-use qd_base::{ColList, Dictionary, Memory};
+use qd_base::{ColList, ColType, Dictionary, Memory};
 use qd_column::Column;
 use std::alloc::Global;
 use std::marker::Model;
@@ -70,6 +70,18 @@ impl<D: Dictionary> Builder<D> {
         ensures count { result ≡ length self.now.open_row }
     {
         self.filled as u32
+    }
+
+    /// Gives the kind of the column that the next cell goes into, or none where the row is whole, in constant time.
+    pub fn next_kind(&self) -> Option<ColType>
+        ensures kind { result ≡ slice_get self.now.kinds (length self.now.open_row) }
+        ensures whole { IfNone result (length self.now.open_row ≡ length self.now.kinds) }
+    {
+        if self.filled < self.columns.len() {
+            Some(self.columns[self.filled].kind())
+        } else {
+            None
+        }
     }
 
     /// Adds a number to a LONG column. Where no memory is found, nothing is changed.
@@ -174,7 +186,11 @@ impl<D: Dictionary> Builder<D> {
 }
 
 /// Copies the rows at some places of each column.
-fn gathered_columns<D: Dictionary>(alloc: Global, columns: &[Column<D>], places: &[usize]) -> Result<Vec<Column<D>>, Memory>
+fn gathered_columns<D: Dictionary>(
+    alloc: Global,
+    columns: &[Column<D>],
+    places: &[usize],
+) -> Result<Vec<Column<D>>, Memory>
     requires { All (λ c. All (λ i. i < length c.cells) places.now) columns.now }
     ensures columns { IfOk result (λ v. v.items ≡ map (λ c. cells_at c places.now) columns.now) }
 {

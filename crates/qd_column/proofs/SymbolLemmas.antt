@@ -65,12 +65,14 @@ text_interned texts ids text known short few =
     let id = id_for texts text in
     let cells : map (symbol_cell new) (ids ++ id ∷ []) ≡ map (symbol_cell texts) ids ++ cell.Text text ∷ [] =
     map-push (symbol_cell new) ids id ∙ ap (λ l. l ++ symbol_cell new id ∷ []) (map-same (IsIdOf texts) (symbol_cell new) (symbol_cell texts) (cell_kept texts text) ids known.each)
-    ∙ ap (λ x. map (symbol_cell texts) ids ++ x ∷ []) (given_cell texts text few) in
-    (cells, record {
-      each = All-append (IsIdOf new) ids (id ∷ []) (All-same (IsIdOf texts) (IsIdOf new) (id_kept texts text) ids known.each) (All-one (IsIdOf new) id (inr (text_given texts text []).0));
-      appeared = ap texts_in cells ∙ texts_in-push (map (symbol_cell texts) ids) (cell.Text text) ∙ ap (λ t. with_text t text) known.appeared;
-      short = short_with texts text short known.short;
-    })
+    ∙ ap (λ x. map (symbol_cell texts) ids ++ x ∷ []) (given_cell texts text few) in (
+      cells,
+      record {
+        each = All-append (IsIdOf new) ids (id ∷ []) (All-same (IsIdOf texts) (IsIdOf new) (id_kept texts text) ids known.each) (All-one (IsIdOf new) id (inr (text_given texts text []).0));
+        appeared = ap texts_in cells ∙ texts_in-push (map (symbol_cell texts) ids) (cell.Text text) ∙ ap (λ t. with_text t text) known.appeared;
+        short = short_with texts text short known.short;
+      },
+    )
 
 -- a row with the text of an id that is there
 pub id_repeated : (texts : List (List ℕ)) (ids : List ℕ) (id : ℕ) → AreSymbols texts ids → id < length texts → id ≢ NULL_ID → (map (symbol_cell texts) (ids ++ id ∷ []) ≡ map (symbol_cell texts) ids ++ symbol_cell texts id ∷ []) × AreSymbols texts (ids ++ id ∷ []) × (texts_in (map (symbol_cell texts) ids ++ symbol_cell texts id ∷ []) ≡ texts_in (map (symbol_cell texts) ids))
@@ -78,12 +80,15 @@ id_repeated texts ids id known within some =
     let cells : map (symbol_cell texts) (ids ++ id ∷ []) ≡ map (symbol_cell texts) ids ++ symbol_cell texts id ∷ [] = map-push (symbol_cell texts) ids id in
     let shown : symbol_cell texts id ≡ cell.Text (get_or texts id []) = rw (ne_eqb id NULL_ID some) refl in
     let kept : with_text_of texts (symbol_cell texts id) ≡ texts = ap (with_text_of texts) shown ∙ with_text-there texts (get_or texts id []) (text_stands texts id [] within) in
-    let more : texts_in (map (symbol_cell texts) ids ++ symbol_cell texts id ∷ []) ≡ texts = texts_in-push (map (symbol_cell texts) ids) (symbol_cell texts id) ∙ ap (λ t. with_text_of t (symbol_cell texts id)) known.appeared ∙ kept in
-    (cells, record {
-      each = All-append (IsIdOf texts) ids (id ∷ []) known.each (All-one (IsIdOf texts) id (inr within));
-      appeared = ap texts_in cells ∙ more;
-      short = known.short;
-    }, more ∙ sym known.appeared)
+    let more : texts_in (map (symbol_cell texts) ids ++ symbol_cell texts id ∷ []) ≡ texts = texts_in-push (map (symbol_cell texts) ids) (symbol_cell texts id) ∙ ap (λ t. with_text_of t (symbol_cell texts id)) known.appeared ∙ kept in (
+      cells,
+      record {
+        each = All-append (IsIdOf texts) ids (id ∷ []) known.each (All-one (IsIdOf texts) id (inr within));
+        appeared = ap texts_in cells ∙ more;
+        short = known.short;
+      },
+      more ∙ sym known.appeared,
+    )
 
 -- an empty table leads to nothing
 pub leads_nowhere : (from to : List (List ℕ)) (table : List ℕ) → ((k : ℕ) → k < length from → get_or table k NULL_ID ≡ NULL_ID) → LeadsTo from to table

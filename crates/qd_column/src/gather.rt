@@ -17,7 +17,12 @@ pub fn gathered<T: Copy>(alloc: Global, items: &[T], places: &[usize]) -> Result
 }
 
 /// Copies the items from one place up to another. It costs time and memory linear in their number.
-pub fn part_of<T: Copy>(alloc: Global, items: &[T], from: usize, to: usize) -> Result<Vec<T>, Memory>
+pub fn part_of<T: Copy>(
+    alloc: Global,
+    items: &[T],
+    from: usize,
+    to: usize,
+) -> Result<Vec<T>, Memory>
     requires ordered { from ≤ to }
     requires within { to ≤ length items.now }
     ensures items { IfOk result (λ v. v.items ≡ slice_range items.now from to) }

@@ -12,8 +12,10 @@ returns c =
     let old = c.args.places.now.items in
     let new = c.sort_by_key.new.self.items in
     let stable : IsStableByKey (λ (p : Placed). p.time) nat_cmp old new = c.sort_by_key.ensures.stable (λ (p : Placed). p.time) (answers_always _ _ _ (λ f a r g h. search rules)) in
-    record { ok = on_ok_weaker c.sort_by_key.result (λ sorted. record {
-      moved = c.sort_by_key.ensures.permutation;
-      in_order = IsNonDecreasingBy-from_sort_by_key (λ (p : Placed). p.time) new sorted (λ a r f' k. search rules);
-      stable = stable_moments old new stable;
-    }) c.sort_by_key.ensures.sorted }
+    record {
+      ok = on_ok_weaker c.sort_by_key.result (λ sorted. record {
+        moved = c.sort_by_key.ensures.permutation;
+        in_order = IsNonDecreasingBy-from_sort_by_key (λ (p : Placed). p.time) new sorted (λ a r f' k. search rules);
+        stable = stable_moments old new stable;
+      }) c.sort_by_key.ensures.sorted;
+    }

@@ -8,8 +8,6 @@ mod copying;
 mod gather;
 mod reading;
 mod symbols;
-#[cfg(test)]
-mod tests;
 mod texts;
 
 pub use column::Column;

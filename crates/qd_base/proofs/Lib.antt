@@ -3,3 +3,4 @@ pub mod Order
 pub mod Keys
 pub mod Tables
 pub mod Lawful
+pub mod Texts

@@ -8,3 +8,4 @@ pub mod Lawful
 pub mod Laws
 pub mod Examples
 pub mod Script
+pub mod Dictionary

@@ -7,6 +7,7 @@
 
 mod cell;
 mod code;
+mod dictionary;
 mod front;
 mod laws;
 mod limits;
@@ -23,6 +24,7 @@ mod txt;
 
 pub use cell::{Cell, Row, RowList};
 pub use code::Code;
+pub use dictionary::Dictionary;
 pub use front::Front;
 pub use laws::{
     cells_are_compared, equal_times_keep_order, keys_are_unique, last_of_equal_keys_stays,
@@ -32,7 +34,7 @@ pub use laws::{
 pub use limits::{
     LAST_OFFSET, Limits, MAX_BATCH_CELLS, MAX_COLUMNS, MAX_LONG, MAX_NAME_BYTES, MAX_QUERY_BYTES,
     MAX_RESULT_BYTES, MAX_SAMPLED_ROWS, MAX_TABLES, MAX_TEXT_BYTES, MAX_TIME, MAX_WRITE_BYTES,
-    NULL_LONG, NULL_TIME,
+    NULL_ID, NULL_LONG, NULL_TIME,
 };
 pub use names::{column_name_ok, same_name, table_name_ok};
 pub use op::{Entry, Op, OpList};

@@ -7,6 +7,9 @@ pub const MAX_TIME: u64 = 253_402_300_799_999_999;
 /// What stands for NULL among stored timestamps. It is no timestamp.
 pub const NULL_TIME: u64 = 18_446_744_073_709_551_615;
 
+/// What stands for NULL among the ids of symbols.
+pub const NULL_ID: u64 = 18_446_744_073_709_551_615;
+
 /// The greatest LONG.
 pub const MAX_LONG: i64 = 9_223_372_036_854_775_807;
 

@@ -1,0 +1,5 @@
+pub mod RowLemmas
+pub mod BuildLemmas
+pub mod OrderLemmas
+mod MomentLemmas
+pub mod BlockLemmas

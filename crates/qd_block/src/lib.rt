@@ -1,0 +1,11 @@
+//! Blocks: rows in order of time, kept by columns.
+#![tactic(auto)]
+
+mod block;
+mod builder;
+mod order;
+#[cfg(test)]
+mod tests;
+
+pub use block::{Block, ColumnView};
+pub use builder::Builder;

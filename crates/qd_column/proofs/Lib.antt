@@ -1,0 +1,4 @@
+pub mod ListLemmas
+mod TextLemmas
+pub mod SymbolLemmas
+mod ColumnLemmas

@@ -1,0 +1,4 @@
+pub mod Cells
+pub mod Symbols
+pub mod Texts
+pub mod Columns

@@ -1,0 +1,8 @@
+//! Dictionaries of symbols: the distinct texts of a SYMBOL column, each known by its position.
+#![tactic(auto)]
+
+mod map;
+#[cfg(test)]
+mod tests;
+
+pub use map::SymbolMap;

@@ -2,9 +2,8 @@
 ghost use Rattle.std.specs.Prelude.{◌≡◌, ◌+◌, ◌^◌, ◌<◌, ◌≤◌, length, OnOk};
 
 use crate::FrameFront;
-use qd_base::{Front, Memory, Reply, Step, Txt};
+use qd_base::{Front, Memory, Reply, Request, Step, Txt};
 use std::alloc::Global;
-use qd_base::Request;
 use std::test::Fail;
 
 const INPUT: &[u8] = b"W 27\nt v=1i 1704067200000000000\nA\nQ 1\ntX\n";

@@ -6,3 +6,4 @@
 
 mod cut;
 mod stop;
+mod value;

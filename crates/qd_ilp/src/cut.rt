@@ -1,8 +1,9 @@
 //! Where a part of a line ends, and the bytes that it stands for.
-ghost use Rattle.std.specs.Prelude.{◌≡◌, ◌+◌, ◌≤◌, ◌&&◌, ◌==◌, ◌++◌, [], ◌∷◌, not, false, take, drop, length, IfOk, IfErr, OnOk, if◌then◌else◌};
+ghost use Rattle.std.specs.Prelude.{◌≡◌, ◌+◌, ◌≤◌, ◌&&◌, ◌==◌, ◌++◌, [], ◌∷◌, not, false, take, drop, length, IfOk, OnOk, MatchOption, true, if◌then◌else◌};
 ghost use Rattle.qd_ilp.specs.Cut.{at_end, begins, is_special, is_quoted_special, is_plain, stops, ends_word, escapes, cut, fronted, word, closed_behind, Gives};
 
 use crate::stop::Stop;
+use qd_base::Memory;
 
 /// Whether a line ends here: at the end of the text, at LF, or at CR before LF.
 pub(crate) fn at_end(text: &[u8]) -> bool
@@ -21,6 +22,18 @@ pub(crate) fn begins_with(text: &[u8], byte: u8) -> bool
     match text {
         [] => false,
         [first, ..] => *first == byte,
+    }
+}
+
+/// The text behind a byte, where it begins with it.
+pub(crate) fn after(text: &[u8], byte: u8) -> Option<&[u8]>
+    ensures after { MatchOption result (begins byte text.now ≡ false)
+        (λ rest. (begins byte text.now ≡ true) × (rest.now ≡ drop 1 text.now) × (length rest.now + 1 ≡ length text.now)) }
+{
+    if begins_with(text, byte) {
+        Some(behind(text, 1))
+    } else {
+        None
     }
 }
 
@@ -54,7 +67,7 @@ fn is_plain(byte: u8) -> bool
 
 /// Puts the bytes of a name or a tag's value at the end of `bytes`, and gives the text from its end on. It costs time
 /// linear in what it goes over.
-pub(crate) fn push_cut<'a>(bytes: &mut Vec<u8>, text: &'a [u8]) -> Result<&'a [u8], Stop>
+pub(crate) fn push_cut<'a>(bytes: &mut Vec<u8>, text: &'a [u8]) -> Result<&'a [u8], Memory>
     ensures cut { IfOk result (λ rest. fronted bytes.old.items (cut false text.now) ≡ (bytes.new.items, rest.now)) }
     ensures shorter { IfOk result (λ rest. length rest.now ≤ length text.now) }
 {
@@ -65,7 +78,7 @@ pub(crate) fn push_cut<'a>(bytes: &mut Vec<u8>, text: &'a [u8]) -> Result<&'a [u
 }
 
 /// The same, byte by byte.
-fn push_escaped<'a>(bytes: &mut Vec<u8>, text: &'a [u8]) -> Result<&'a [u8], Stop>
+fn push_escaped<'a>(bytes: &mut Vec<u8>, text: &'a [u8]) -> Result<&'a [u8], Memory>
     ensures cut { IfOk result (λ rest. fronted bytes.old.items (cut false text.now) ≡ (bytes.new.items, rest.now)) }
     ensures shorter { IfOk result (λ rest. length rest.now ≤ length text.now) }
 {
@@ -106,9 +119,8 @@ fn escapes(plain: bool, text: &[u8]) -> bool
 }
 
 /// Puts a byte at the end, unless it is left out.
-fn push_unless(left_out: bool, bytes: &mut Vec<u8>, byte: u8) -> Result<(), Stop>
+fn push_unless(left_out: bool, bytes: &mut Vec<u8>, byte: u8) -> Result<(), Memory>
     ensures pushed { OnOk result (bytes.new.items ≡ bytes.old.items ++ (if left_out then [] else byte ∷ [])) }
-    ensures memory { IfErr result (λ e. e ≡ Stop.Memory) }
 {
     if !left_out {
         bytes.push(byte)?;

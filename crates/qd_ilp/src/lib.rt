@@ -5,5 +5,6 @@
 #![tactic(auto)]
 
 mod cut;
+mod item;
 mod stop;
 mod value;

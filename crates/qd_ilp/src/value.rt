@@ -4,7 +4,7 @@ ghost use Rattle.std.specs.List.{list_all};
 ghost use Rattle.std.specs.Str.{bytes_eq};
 ghost use Rattle.qd_ilp.specs.Cut.{begins};
 ghost use Rattle.qd_ilp.specs.Value.{is_true, is_false, is_digit, are_digits, number_of, unsigned, long_digits, is_long, long_of, bare, is_stamp, moment_of, stamp};
-ghost use Rattle.qd_ilp.specs.Kept.{value_in, moment_in};
+ghost use Rattle.qd_ilp.specs.Kept.{value_in, moment_in, ValueFits};
 
 use crate::cut::{begins_with, behind};
 use qd_base::MAX_TIME;
@@ -52,6 +52,7 @@ const CAP: u64 = 10_000_000_000_000_000_000;
 #[tactic(auto, unfolding(crate::specs::Value::bare))]
 pub(crate) fn bare(word: &[u8]) -> Kept
     ensures value { (bytes : List ℕ) → value_in bytes result ≡ bare word.now }
+    ensures fits { (len : ℕ) → ValueFits len result }
 {
     if is_true(word) {
         return Kept::Truth(true);
@@ -154,6 +155,7 @@ fn with_digit(number: u64, digit: u8) -> u64
 
 fn long(negative: bool, number: u64) -> Kept
     ensures long { (bytes : List ℕ) → value_in bytes result ≡ long_of negative number }
+    ensures fits { (len : ℕ) → ValueFits len result }
 {
     if number > i64::MAX as u64 {
         return Kept::Huge;

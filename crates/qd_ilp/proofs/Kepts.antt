@@ -87,3 +87,8 @@ puts_more a b c p q is pair puts grows fits =
       are = map-append (item_in c) puts.more (pair ∷ []) ∙ ap (λ (l : List Item). l ++ item_in c pair ∷ []) (grown.0 ∙ puts.are);
       fit = each_append (PairFits (length c)) puts.more (pair ∷ []) grown.1 (fits, tt);
     }
+
+pub puts_more_at : (a b c : List ℕ) (p q q' : List Pair) (is : List Item) (pair : Pair) → PutsItems a b p q is → Grows b c → PairFits (length c) pair → q' ≡ q ++ pair ∷ [] → PutsItems a c p q' (is ++ item_in c pair ∷ [])
+puts_more_at a b c p q q' is pair puts grows fits pushed =
+    let more = puts_more a b c p q is pair puts grows fits in
+    record { grows = more.grows; more = more.more; pushed = pushed ∙ more.pushed; are = more.are; fit = more.fit }

@@ -80,3 +80,49 @@ pub item_is : (tag : Bool) (name name' text more rest : List ℕ) (v : Value) �
 item_is tag name name' text more rest v goes value same =
     goes ∙ ap (λ (o : Option (Value × List ℕ)). o >>= λ v. Some (let p : Item × List ℕ = (record { name = name; value = v.0 }, v.1) in p)) value
     ∙ ap (λ (n : List ℕ). let o : Option (Item × List ℕ) = Some (record { name = n; value = v }, rest) in o) (sym same)
+
+-- items that were read before those that are read now
+abbrev pub with_items : List Item → Option (List Item × List ℕ) → Option (List Item × List ℕ)
+with_items front read = read >>= λ r. Some (front ++ r.0, r.1)
+
+items_regroup : (front : List Item) (i : Item) (read : Option (List Item × List ℕ)) → with_items front (read >>= λ r. Some (i ∷ r.0, r.1)) ≡ with_items (front ++ i ∷ []) read
+items_regroup front i (Some r) = ap (λ (l : List Item). let o : Option (List Item × List ℕ) = Some (l, r.1) in o) (sym (append_assoc front (i ∷ []) r.0))
+items_regroup front i None = refl
+
+front_none : (read : Option (List Item × List ℕ)) → with_items [] read ≡ read
+front_none (Some r) = refl
+front_none None = refl
+
+pub items_none : (text : List ℕ) (tag : Bool) → with_items [] (items_at tag (length text) text) ≡ items_at tag (length text) text
+items_none text tag = front_none (items_at tag (length text) text)
+
+pub items_goes_on : (tag : Bool) (front : List Item) (most k : ℕ) (text behind more : List ℕ) (i : Item) (total : Option (List Item × List ℕ)) → k < most → item_at tag text ≡ Some (i, behind) → begins 44 behind ≡ true → more ≡ drop 1 behind
+    → with_items front (items_at tag (most - k) text) ≡ total → with_items (front ++ i ∷ []) (items_at tag (most - (k + 1)) more) ≡ total
+unfolding items_at
+items_goes_on tag front most k text behind more i total lt item comma here so_far =
+    let n : most - k ≡ suc (most - (k + 1)) = omega arith in
+    let one : with_items front (items_at tag (most - k) text) ≡ with_items (front ++ i ∷ []) (items_at tag (most - (k + 1)) more) = rw (n, item, comma, ← here) (items_regroup front i (items_at tag (most - (k + 1)) more)) in
+    sym one ∙ so_far
+
+pub items_end : (tag : Bool) (front : List Item) (most k : ℕ) (text behind : List ℕ) (i : Item) (total : Option (List Item × List ℕ)) → k < most → item_at tag text ≡ Some (i, behind) → begins 44 behind ≡ false
+    → with_items front (items_at tag (most - k) text) ≡ total → total ≡ Some (front ++ i ∷ [], behind)
+unfolding items_at
+items_end tag front most k text behind i total lt item comma so_far =
+    let n : most - k ≡ suc (most - (k + 1)) = omega arith in
+    let one : with_items front (items_at tag (most - k) text) ≡ Some (front ++ i ∷ [], behind) = rw (n, item, comma) refl in
+    sym so_far ∙ one
+
+pub items_fault : (tag : Bool) (front : List Item) (most k : ℕ) (text : List ℕ) (e : Stop) (total : Option (List Item × List ℕ)) → k < most → Fails e (item_at tag text) → with_items front (items_at tag (most - k) text) ≡ total → Fails e total
+unfolding items_at
+items_fault tag front most k text stop.Memory total lt fails so_far = tt
+items_fault tag front most k text stop.Syntax total lt fails so_far =
+    let n : most - k ≡ suc (most - (k + 1)) = omega arith in
+    let one : with_items front (items_at tag (most - k) text) ≡ None = rw (n, fails) refl in
+    sym so_far ∙ one
+
+pub items_over : (tag : Bool) (front : List Item) (most k : ℕ) (text : List ℕ) (total : Option (List Item × List ℕ)) → most ≤ k → with_items front (items_at tag (most - k) text) ≡ total → total ≡ None
+unfolding items_at
+items_over tag front most k text total le so_far =
+    let n : most - k ≡ 0 = omega arith in
+    let one : with_items front (items_at tag (most - k) text) ≡ None = rw n refl in
+    sym so_far ∙ one

@@ -1,8 +1,8 @@
 //! Tags and fields.
 ghost use Rattle.std.specs.Prelude.{◌≡◌, ℕ, ◌+◌, ◌<◌, ◌≤◌, List, length, false, IfOk, IfErr, Some, true};
 ghost use Rattle.qd_ilp.specs.Cut.{cut, closed, Gives, Fails};
-ghost use Rattle.qd_ilp.specs.Line.{value_at, item_at};
-ghost use Rattle.qd_ilp.specs.Kept.{Puts, Grows, ValueFits, PairFits, value_in, item_in};
+ghost use Rattle.qd_ilp.specs.Line.{Item, value_at, item_at, items_at};
+ghost use Rattle.qd_ilp.specs.Kept.{Puts, Grows, ValueFits, PairFits, PutsItems, value_in, item_in};
 
 use crate::cut::{after, push_closed, push_cut, split_word};
 use crate::stop::Stop;
@@ -106,4 +106,23 @@ fn push_item<'a>(bytes: &mut Vec<u8>, is_tag: bool, text: &'a [u8]) -> Result<(P
             Ok((Pair { name, value }, rest))
         }
     }
+}
+
+/// Puts tags, or fields, into a batch, and gives the text behind them. It costs time linear in what it goes over.
+pub(crate) fn push_items<'a>(bytes: &mut Vec<u8>, pairs: &mut Vec<Pair>, is_tag: bool, text: &'a [u8]) -> Result<&'a [u8], Stop>
+    ensures items { IfOk result (λ rest. (items : List Item) × (items_at is_tag (length text.now) text.now ≡ Some (items, rest.now))
+        × PutsItems bytes.old.items bytes.new.items pairs.old.items pairs.new.items items) }
+    ensures fault { IfErr result (λ e. Fails e (items_at is_tag (length text.now) text.now)) }
+    ensures shorter { IfOk result (λ rest. length rest.now ≤ length text.now) }
+{
+    let mut rest = text;
+    for _ in 0..text.len() {
+        let (pair, behind) = push_item(bytes, is_tag, rest)?;
+        pairs.push(pair)?;
+        match after(behind, b',') {
+            None => return Ok(behind),
+            Some(more) => rest = more,
+        }
+    }
+    Err(Stop::Syntax)
 }

@@ -7,4 +7,5 @@
 mod cut;
 mod item;
 mod stop;
+mod tail;
 mod value;

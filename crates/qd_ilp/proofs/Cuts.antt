@@ -1,5 +1,5 @@
 -- Cutting byte by byte, as loops do.
-use Rattle.std.proofs.Common.{◌≡◌, ℕ, ◌+◌, ◌<◌, ◌≤◌, Bool, true, false, cond, List, [], ◌∷◌, ◌++◌, length, get_or, take, drop, refl, sym, ap, ◌∙◌, append_assoc, Option, Some, None, arith}
+use Rattle.std.proofs.Common.{◌≡◌, ℕ, ◌+◌, ◌<◌, ◌≤◌, Bool, true, false, cond, List, [], ◌∷◌, ◌++◌, length, length-append, get_or, take, drop, refl, sym, ap, ◌∙◌, append_assoc, Option, Some, None, arith}
 use Rattle.std.specs.Prelude.{not, ◌&&◌, ◌==◌, ◌||◌, if◌then◌else◌}
 use Rattle.std.proofs.lemmas.List.{drop_more, take_more, drop_all, take_all, append-nil}
 use Rattle.qd_ilp.specs.Cut.{◌>>=◌, at_end, is_special, is_quoted_special, is_plain, is_separator, stops, escapes, ends_word, fronted, cut, word, closed, closed_behind}
@@ -137,3 +137,11 @@ closed_done plain i text rest bytes total h here quote so_far =
 
 pub closed_over : (plain : Bool) (i : ℕ) (text bytes : List ℕ) (total : Option (List ℕ × List ℕ)) → length text ≤ i → closed_behind bytes plain (drop i text) ≡ total → total ≡ None
 closed_over plain i text bytes total h so_far = sym so_far ∙ ap (closed_behind bytes plain) (drop_all i text h) ∙ closed_none plain bytes
+
+pub few_more : (before bytes : List ℕ) (e : Bool) (i b : ℕ) (bytes' : List ℕ) → bytes' ≡ bytes ++ (if e then [] else b ∷ []) → length bytes ≤ length before + i → length bytes' ≤ length before + (i + 1)
+few_more before bytes true i b bytes' pushed few =
+    let size : length bytes' ≡ length bytes + 0 = ap length pushed ∙ length-append bytes [] in
+    omega (arith, size, few)
+few_more before bytes false i b bytes' pushed few =
+    let size : length bytes' ≡ length bytes + 1 = ap length pushed ∙ length-append bytes (b ∷ []) in
+    omega (arith, size, few)

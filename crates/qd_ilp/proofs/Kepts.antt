@@ -8,7 +8,9 @@ use Rattle.qd_ilp.specs.declared.value.Kept.TheVariants as kept
 use Rattle.qd_ilp.specs.declared.item.Pair.{Pair}
 use Rattle.qd_ilp.specs.Value.{Value, Tag, Text, Long, Huge, Truth, Other, is_empty}
 use Rattle.qd_ilp.specs.Line.{Item}
-use Rattle.qd_ilp.specs.Kept.{bytes_in, SpanFits, value_in, ValueFits, Puts, item_in, PairFits, Grows, PutsItems}
+use Rattle.qd_ilp.specs.Kept.{bytes_in, SpanFits, value_in, ValueFits, Puts, item_in, PairFits, PutsItems}
+use Rattle.qd_ilp.specs.Cut.{Grows}
+use Rattle.qd_ilp.proofs.Growing.{grows_twice}
 
 pub puts_in : (before now text : List ℕ) (span : Span) → Puts before now span text → bytes_in now span ≡ text
 puts_in before now text span puts =
@@ -70,9 +72,6 @@ grow_pairs before now (p ∷ ps) grows fits =
 pub each_append : {T : Type 0} (P : T → Type 0) (xs ys : List T) → AllByRecursion P xs → AllByRecursion P ys → AllByRecursion P (xs ++ ys)
 each_append P [] ys all more = more
 each_append P (x ∷ xs) ys all more = (all.0, each_append P xs ys all.1 more)
-
-pub grows_twice : (a b c : List ℕ) → Grows a b → Grows b c → Grows a c
-grows_twice a b c ab bc = record { more = ab.more ++ bc.more; whole = bc.whole ∙ ap (λ (l : List ℕ). l ++ bc.more) ab.whole ∙ append_assoc a ab.more bc.more }
 
 pub puts_none : (bytes : List ℕ) (pairs : List Pair) → PutsItems bytes bytes pairs pairs []
 puts_none bytes pairs = record { grows = record { more = []; whole = sym (append-nil bytes) }; more = []; pushed = sym (append-nil pairs); are = refl; fit = tt }

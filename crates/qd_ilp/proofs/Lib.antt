@@ -1,4 +1,6 @@
+pub mod Growing
 pub mod Cuts
 pub mod Numbers
 pub mod Kepts
 pub mod Lines
+pub mod Tails

@@ -90,3 +90,8 @@ closed plain (b ∷ bs) =
 -- the same, behind bytes that are there
 abbrev pub closed_behind : List ℕ → Bool → List ℕ → Option (List ℕ × List ℕ)
 closed_behind front plain text = closed plain text >>= λ c. Some (fronted front c)
+
+-- things were put at the end of a list
+pub record Grows {T : Type 0} (before now : List T) : Type 0 where
+  pub more : List T
+  pub whole : now ≡ before ++ more

@@ -8,6 +8,7 @@ use Rattle.qd_ilp.specs.declared.item.Pair.{Pair}
 use Rattle.qd_ilp.specs.declared.value.When.{When}
 use Rattle.qd_ilp.specs.declared.value.When.TheVariants as when
 use Rattle.qd_ilp.specs.Value.{Value, Tag, Text, Long, Huge, Truth, Other, Moment, At, Outside}
+use Rattle.qd_ilp.specs.Cut.{Grows}
 use Rattle.qd_ilp.specs.Line.{Item}
 
 -- the bytes of a span
@@ -46,11 +47,6 @@ item_in bytes pair = record { name = bytes_in bytes pair.name; value = value_in 
 
 abbrev pub PairFits : ℕ → Pair → Type 0
 PairFits len pair = SpanFits len pair.name × ValueFits len pair.value
-
--- bytes were put at the end
-pub record Grows (before now : List ℕ) : Type 0 where
-  pub more : List ℕ
-  pub whole : now ≡ before ++ more
 
 -- these items were put at the end
 pub record PutsItems (before now : List ℕ) (pairs pairs' : List Pair) (items : List Item) : Type 0 where

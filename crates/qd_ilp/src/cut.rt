@@ -1,6 +1,6 @@
 //! Where a part of a line ends, and the bytes that it stands for.
-ghost use Rattle.std.specs.Prelude.{◌≡◌, ◌+◌, ◌≤◌, ◌&&◌, ◌==◌, ◌++◌, [], ◌∷◌, not, false, take, drop, length, IfOk, OnOk, MatchOption, true, if◌then◌else◌};
-ghost use Rattle.qd_ilp.specs.Cut.{at_end, begins, is_special, is_quoted_special, is_plain, stops, ends_word, escapes, cut, fronted, word, closed_behind, Gives};
+ghost use Rattle.std.specs.Prelude.{◌≡◌, ◌+◌, ◌≤◌, ◌&&◌, ◌==◌, ◌++◌, [], ◌∷◌, not, false, take, drop, length, IfOk, OnOk, OnErr, MatchOption, true, if◌then◌else◌};
+ghost use Rattle.qd_ilp.specs.Cut.{at_end, begins, is_special, is_quoted_special, is_plain, stops, ends_word, escapes, cut, fronted, word, closed_behind, Gives, Grows};
 
 use crate::stop::Stop;
 use qd_base::Memory;
@@ -67,9 +67,11 @@ fn is_plain(byte: u8) -> bool
 
 /// Puts the bytes of a name or a tag's value at the end of `bytes`, and gives the text from its end on. It costs time
 /// linear in what it goes over.
+#[tactic(auto, using(crate::proofs::Growing::grows_not, crate::proofs::Growing::grows_by, crate::proofs::Growing::grows_twice))]
 pub(crate) fn push_cut<'a>(bytes: &mut Vec<u8>, text: &'a [u8]) -> Result<&'a [u8], Memory>
     ensures cut { IfOk result (λ rest. fronted bytes.old.items (cut false text.now) ≡ (bytes.new.items, rest.now)) }
-    ensures shorter { IfOk result (λ rest. length rest.now ≤ length text.now) }
+    ensures shorter { IfOk result (λ rest. length bytes.new.items + length rest.now ≤ length bytes.old.items + length text.now) }
+    ensures grows { Grows bytes.old.items bytes.new.items }
 {
     let count = plain_bytes(text);
     let (front, rest) = text.split_at(count);
@@ -78,9 +80,11 @@ pub(crate) fn push_cut<'a>(bytes: &mut Vec<u8>, text: &'a [u8]) -> Result<&'a [u
 }
 
 /// The same, byte by byte.
+#[tactic(auto, using(crate::proofs::Growing::grows_not, crate::proofs::Growing::grows_by, crate::proofs::Growing::grows_twice))]
 fn push_escaped<'a>(bytes: &mut Vec<u8>, text: &'a [u8]) -> Result<&'a [u8], Memory>
     ensures cut { IfOk result (λ rest. fronted bytes.old.items (cut false text.now) ≡ (bytes.new.items, rest.now)) }
-    ensures shorter { IfOk result (λ rest. length rest.now ≤ length text.now) }
+    ensures shorter { IfOk result (λ rest. length bytes.new.items + length rest.now ≤ length bytes.old.items + length text.now) }
+    ensures grows { Grows bytes.old.items bytes.new.items }
 {
     let mut plain = false;
     for (i, byte) in text.iter().enumerate() {
@@ -121,6 +125,7 @@ fn escapes(plain: bool, text: &[u8]) -> bool
 /// Puts a byte at the end, unless it is left out.
 fn push_unless(left_out: bool, bytes: &mut Vec<u8>, byte: u8) -> Result<(), Memory>
     ensures pushed { OnOk result (bytes.new.items ≡ bytes.old.items ++ (if left_out then [] else byte ∷ [])) }
+    ensures err { OnErr result (bytes.new.items ≡ bytes.old.items) }
 {
     if !left_out {
         bytes.push(byte)?;
@@ -153,9 +158,11 @@ fn ends_word(text: &[u8]) -> bool
 
 /// Puts the bytes of a quoted text at the end of `bytes`, from behind its opening quote, and gives the text from
 /// behind its closing quote on. It costs time linear in what it goes over.
+#[tactic(auto, using(crate::proofs::Growing::grows_not, crate::proofs::Growing::grows_by, crate::proofs::Growing::grows_twice))]
 pub(crate) fn push_closed<'a>(bytes: &mut Vec<u8>, text: &'a [u8]) -> Result<&'a [u8], Stop>
     ensures closed { Gives (λ rest. (bytes.new.items, rest.now)) result (closed_behind bytes.old.items false text.now) }
     ensures shorter { IfOk result (λ rest. length rest.now ≤ length text.now) }
+    ensures grows { Grows bytes.old.items bytes.new.items }
 {
     let mut plain = false;
     for (i, byte) in text.iter().enumerate() {

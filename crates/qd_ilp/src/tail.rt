@@ -1,6 +1,6 @@
 //! What stands behind the tags and fields of a line.
 ghost use Rattle.std.specs.Prelude.{◌≡◌, ◌≤◌, ◌+◌, ◌<◌, length, None, Some, IfSome, IfNone, MatchOption, option_map};
-ghost use Rattle.qd_ilp.specs.Line.{after_spaces, behind_end, stamp_at, tail_at};
+ghost use Rattle.qd_ilp.specs.Line.{after_spaces, behind_end, stamp_at, tail_at, to_end};
 ghost use Rattle.qd_ilp.specs.Kept.{moment_in};
 
 use crate::cut::{after, at_end, begins_with, behind, split_word};
@@ -73,4 +73,18 @@ pub(crate) fn tail_at(text: &[u8]) -> Option<Tail<'_>>
     } else {
         None
     }
+}
+
+/// The text from the end of this line on. It costs time linear in what it goes over.
+pub(crate) fn to_end(text: &[u8]) -> &[u8]
+    ensures rest { result.now ≡ to_end text.now }
+    ensures shorter { length result.now ≤ length text.now }
+{
+    for i in 0..text.len() {
+        let rest = behind(text, i);
+        if at_end(rest) {
+            return rest;
+        }
+    }
+    behind(text, text.len())
 }

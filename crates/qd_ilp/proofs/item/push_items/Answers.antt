@@ -1,6 +1,7 @@
 use Rattle.std.proofs.Common.{◌≡◌, ◌+◌, ◌++◌, ◌∷◌, [], ◌∙◌, ap, arith}
 use Rattle.std.proofs.lemmas.Result.{err_from_is_err_and}
 use Rattle.qd_ilp.specs.Kept.{item_in}
+use Rattle.qd_ilp.proofs.Growing.{grows_by, grows_twice}
 use Rattle.qd_ilp.proofs.Kepts.{puts_more_at}
 use Rattle.qd_ilp.proofs.Lines.{items_goes_on, items_end, items_fault, items_over}
 use Rattle.qd_ilp.proofs.item.push_items.Goals as goal
@@ -22,6 +23,8 @@ loop-preserved c = record {
   items = c.loop.invariant.items ++ item_in c.push_item.new.bytes.items c.in_ok-pair.pair ∷ [];
   puts = puts_more_at _ _ _ _ _ _ _ c.in_ok-pair.pair c.loop.invariant.puts c.in_ok-pair.ensures.grows c.in_ok-pair.ensures.fits c.in_ok-push.ensures.items;
   so_far = items_goes_on c.args.is_tag c.loop.invariant.items _ c.loop.counter c.loop.rest.now c.in_ok-pair.behind.now c.in-Some.more.now _ _ c.loop-test.true c.in_ok-pair.ensures.item c.in-Some.ensures.after.0 c.in-Some.ensures.after.1 c.loop.invariant.so_far;
+  grows = grows_twice _ _ _ c.loop.invariant.grows c.in_ok-pair.ensures.grows;
+  pairs_grow = grows_twice _ _ _ c.loop.invariant.pairs_grow (grows_by _ _ _ c.in_ok-push.ensures.items);
   shorter = omega (arith, c.in-Some.ensures.after, c.in_ok-pair.ensures.shorter, c.loop.invariant.shorter);
 }
 

@@ -4,3 +4,4 @@ pub mod Numbers
 pub mod Kepts
 pub mod Lines
 pub mod Tails
+pub mod Rows

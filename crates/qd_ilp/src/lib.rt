@@ -6,6 +6,7 @@
 
 mod cut;
 mod item;
+mod row;
 mod stop;
 mod tail;
 mod value;

@@ -1,0 +1,49 @@
+-- What a batch keeps of lines, as the definitions have them, and what a whole text is.
+use Rattle.std.specs.Prelude.{◌≡◌, ℕ, ◌+◌, ◌-◌, ◌<◌, ◌≤◌, Bool, true, false, List, [], ◌∷◌, ◌++◌, take, drop, length, map, Option, Some, None, option_map}
+use Rattle.std.specs.List.{AllByRecursion}
+use Rattle.qd_ilp.specs.declared.item.Pair.{Pair}
+use Rattle.qd_ilp.specs.declared.row.Head.{Head}
+use Rattle.qd_ilp.specs.declared.row.KeptLine.{KeptLine}
+use Rattle.qd_ilp.specs.declared.row.KeptLine.TheVariants as kept
+use Rattle.qd_ilp.specs.Line.{Line, Row, Item, Blank, Gives, read_line}
+use Rattle.qd_ilp.specs.Kept.{bytes_in, item_in, moment_in, SpanFits, PairFits}
+
+-- the pairs of a row
+abbrev pub pairs_in : List Pair → Head → List Pair
+pairs_in pairs head = take (head.end - head.first) (drop head.first pairs)
+
+abbrev pub row_in : List ℕ → List Pair → Head → Row
+row_in bytes pairs head = record { table = bytes_in bytes head.table; items = map (item_in bytes) (pairs_in pairs head); moment = option_map moment_in head.when }
+
+abbrev pub line_in : List ℕ → List Pair → KeptLine → Line
+line_in bytes pairs kept.Blank = Blank
+line_in bytes pairs (kept.Row head) = Gives (row_in bytes pairs head)
+
+-- what is kept of a row lies within the buffers
+pub record HeadFits (bytes : List ℕ) (pairs : List Pair) (head : Head) : Type 0 where
+  pub table : SpanFits (length bytes) head.table
+  pub order : head.first ≤ head.end
+  pub within : head.end ≤ length pairs
+  pub each : AllByRecursion (PairFits (length bytes)) (pairs_in pairs head)
+
+abbrev pub LineFits : List ℕ → List Pair → KeptLine → Type 0
+LineFits bytes pairs kept.Blank = Unit {0}
+LineFits bytes pairs (kept.Row head) = HeadFits bytes pairs head
+
+-- the text is these lines, each with its end, and then the rest
+abbrev pub BeginsWith : List ℕ → List Line → List ℕ → Type 0
+BeginsWith text [] rest = text ≡ rest
+BeginsWith text (line ∷ lines) rest = (0 < length text) × (behind : List ℕ) × (read_line text ≡ Some (line, behind)) × BeginsWith behind lines rest
+
+-- The lines of a text up to its end, or up to the first that is no line.
+pub record Reading : Type 0 where
+  pub lines : List Line
+  pub whole : Bool
+
+-- all of the text was read; or what is left begins with no line
+abbrev pub EndsSo : Bool → List ℕ → Type 0
+EndsSo true rest = rest ≡ []
+EndsSo false rest = (0 < length rest) × (read_line rest ≡ None)
+
+abbrev pub IsReading : List ℕ → Reading → Type 0
+IsReading text reading = (rest : List ℕ) × BeginsWith text reading.lines rest × EndsSo reading.whole rest

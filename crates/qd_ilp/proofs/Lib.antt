@@ -5,3 +5,4 @@ pub mod Kepts
 pub mod Lines
 pub mod Tails
 pub mod Rows
+pub mod Texts

@@ -95,11 +95,11 @@ unfoldable pub to_end : List ℕ → List ℕ
 to_end [] = []
 to_end (b ∷ bs) = if at_end (b ∷ bs) then b ∷ bs else to_end bs
 
--- a line and the text behind its end
+-- a line and the text behind its end: a comment, nothing but spaces, or a line that gives a row
 unfoldable pub line_at : List ℕ → Option (Line × List ℕ)
 line_at text =
-    if begins 35 text then behind_end (to_end text) >>= (λ rest. Some (Blank, rest))
-    else if at_end (after_spaces text) then behind_end (after_spaces text) >>= (λ rest. Some (Blank, rest))
+    let blank = if begins 35 text then to_end text else after_spaces text in
+    if at_end blank then behind_end blank >>= (λ rest. Some (Blank, rest))
     else row_at text >>= (λ r. Some (Gives r.0, r.1))
 
 -- The bytes of a line are UTF-8.

@@ -1,5 +1,6 @@
 //! One line.
 ghost use Rattle.std.specs.Prelude.{◌≡◌, ◌≤◌, ◌+◌, ◌<◌, List, length, None, Some, IfOk, IfErr, option_map};
+ghost use Rattle.std.specs.Str.{is_utf8};
 ghost use Rattle.qd_ilp.specs.Cut.{Fails, Gives, Grows};
 ghost use Rattle.qd_ilp.specs.Line.{Item, tags_at, fields_at, rest_at, row_at, line_at, read_line};
 ghost use Rattle.qd_ilp.specs.Kept.{PutsItems, moment_in};
@@ -115,4 +116,53 @@ fn push_row<'a>(bytes: &mut Vec<u8>, pairs: &mut Vec<Pair>, text: &'a [u8]) -> R
         },
         tail.rest,
     ))
+}
+
+/// Puts a line into a batch, and gives what is kept of it and the text behind its end.
+#[tactic(auto, unfolding(crate::specs::Line::line_at), using(crate::proofs::Growing::grows_not))]
+fn push_line<'a>(bytes: &mut Vec<u8>, pairs: &mut Vec<Pair>, text: &'a [u8]) -> Result<(KeptLine, &'a [u8]), Stop>
+    requires some { 0 < length text.now }
+    ensures line { Gives (λ x. (line_in bytes.new.items pairs.new.items x.0, x.1.now)) result (line_at text.now) }
+    ensures fits { IfOk result (λ x. LineFits bytes.new.items pairs.new.items x.0) }
+    ensures grows { Grows bytes.old.items bytes.new.items }
+    ensures pairs { Grows pairs.old.items pairs.new.items }
+    ensures shorter { IfOk result (λ x. length x.1.now < length text.now) }
+{
+    let blank = if begins_with(text, b'#') { to_end(text) } else { after_spaces(text) };
+    if at_end(blank) {
+        return match behind_end(blank) {
+            Some(rest) => Ok((KeptLine::Blank, rest)),
+            None => Err(Stop::Syntax),
+        };
+    }
+    let (head, rest) = push_row(bytes, pairs, text)?;
+    Ok((KeptLine::Row(head), rest))
+}
+
+/// Puts the next line into a batch, and gives what is kept of it and the text behind its end. Its bytes are UTF-8.
+#[tactic(auto, unfolding(crate::specs::Line::read_line))]
+pub(crate) fn push_next<'a>(bytes: &mut Vec<u8>, pairs: &mut Vec<Pair>, text: &'a [u8]) -> Result<(KeptLine, &'a [u8]), Stop>
+    requires some { 0 < length text.now }
+    ensures line { Gives (λ x. (line_in bytes.new.items pairs.new.items x.0, x.1.now)) result (read_line text.now) }
+    ensures fits { IfOk result (λ x. LineFits bytes.new.items pairs.new.items x.0) }
+    ensures grows { Grows bytes.old.items bytes.new.items }
+    ensures pairs { Grows pairs.old.items pairs.new.items }
+    ensures shorter { IfOk result (λ x. length x.1.now < length text.now) }
+{
+    let (line, rest) = push_line(bytes, pairs, text)?;
+    if !is_text(text.split_at(text.len() - rest.len()).0) {
+        return Err(Stop::Syntax);
+    }
+    Ok((line, rest))
+}
+
+/// Whether bytes are UTF-8.
+#[tactic(auto, using(crate::proofs::Texts::utf8_ok, crate::proofs::Texts::utf8_bad))]
+fn is_text(bytes: &[u8]) -> bool
+    ensures text { result ≡ is_utf8 bytes.now }
+{
+    match std::str::from_utf8(bytes) {
+        Ok(_) => true,
+        Err(_) => false,
+    }
 }

@@ -11,6 +11,7 @@ use Rattle.qd_base.specs.declared.schema.Schema.{Schema}
 use Rattle.qd_base.specs.declared.op.Op.{Op}
 use Rattle.qd_base.specs.declared.op.Op.TheVariants as op
 use Rattle.qd_base.specs.declared.op.Entry.{Entry}
+use Rattle.qd_base.specs.declared.limits.TheConstants.{MAX_COLUMNS, MAX_TABLES}
 use Rattle.qd_base.specs.Names.{IsColumnName}
 use Rattle.qd_base.specs.Rows.{Row, cell_at, cell_eq, same_on, time_of, without_equals, put}
 use Rattle.qd_base.specs.Schemas.{same_name, column_at, at_name, with_column, schema_of, schemas_step, schemas_from, Fits}
@@ -41,12 +42,12 @@ both P Q (Some x) h k = (h, k)
 
 -- a column that is new, of an allowed name
 module _ (col : Col) (named : IsColumnName col.name) where
-  IsSchema-wider : (s : Schema) → IsSchema s → IsNone (column_at s.cols col.name) × (length s.cols < 256) → IsSchema (with_column col s)
+  IsSchema-wider : (s : Schema) → IsSchema s → IsNone (column_at s.cols col.name) × (length s.cols < MAX_COLUMNS) → IsSchema (with_column col s)
   IsSchema-wider s h new =
       let grown : length (s.cols ++ col ∷ []) ≡ length s.cols + 1 = length-push s.cols col in
       record {
         name = h.name;
-        few = let below : length s.cols < 256 = new.1 in omega arith;
+        few = let below : length s.cols < MAX_COLUMNS = new.1 in omega arith;
         names = All-push (λ (c : Col). IsColumnName c.name) s.cols col h.names named;
         distinct = IsDistinct-push (λ (a : Col) (b : Col). same_name a.name b.name) s.cols col h.distinct (position-none (λ (c : Col). same_name c.name col.name) s.cols new.0);
         designated = get-grown (λ (c : Col). c.kind ≡ kind.Time) s.cols (col ∷ []) s.time_col h.designated;
@@ -71,16 +72,16 @@ distinct-kept col table schemas d =
 AreSchemas-step : (schemas : List Schema) (o : Op) → AreSchemas schemas → Fits schemas o → IsSound schemas o → AreSchemas (schemas_step schemas o)
 AreSchemas-step schemas (op.Create schema) h fits sound =
     record {
-      few = let grown = length-push schemas schema in let below : length schemas < 1024 = sound.0 in omega arith;
+      few = let grown = length-push schemas schema in let below : length schemas < MAX_TABLES = sound.0 in omega arith;
       each = All-push IsSchema schemas schema h.each sound.1;
       distinct = IsDistinct-push (λ (a : Schema) (b : Schema). same_name a.name b.name) schemas schema h.distinct (position-none (λ (s : Schema). same_name s.name schema.name) schemas fits);
     }
 AreSchemas-step schemas (op.AddColumn table col) h fits sound =
     record {
-      few = let same = length-at_name col table schemas in let few : length schemas ≤ 1024 = h.few in omega arith;
+      few = let same = length-at_name col table schemas in let few : length schemas ≤ MAX_TABLES = h.few in omega arith;
       each = All-from_recursion IsSchema (at_name (λ (s : Schema). s.name) (with_column col) table schemas)
-          (each-at_found (λ (s : Schema). s.name) (with_column col) table IsSchema (λ s. IsNone (column_at s.cols col.name) × (length s.cols < 256)) (IsSchema-wider col sound.0) schemas
-          (both (λ s. IsNone (column_at s.cols col.name)) (λ s. length s.cols < 256) (schema_of schemas table) fits sound.1)
+          (each-at_found (λ (s : Schema). s.name) (with_column col) table IsSchema (λ s. IsNone (column_at s.cols col.name) × (length s.cols < MAX_COLUMNS)) (IsSchema-wider col sound.0) schemas
+          (both (λ s. IsNone (column_at s.cols col.name)) (λ s. length s.cols < MAX_COLUMNS) (schema_of schemas table) fits sound.1)
           (recursion_from_All IsSchema schemas h.each));
       distinct = distinct-kept col table schemas h.distinct;
     }

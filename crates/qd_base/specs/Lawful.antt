@@ -1,5 +1,5 @@
--- Which histories are lawful. The numbers are the limits of the product.
-use Rattle.std.specs.Prelude.{◌≡◌, ℕ, ◌<◌, ◌≤◌, ◌<ℤ◌, List, [], ◌∷◌, ◌⊎◌, length, All, Contains, fold, sum_by, negsuc, nat_eq, IfSome, IsSomeAnd, slice_get}
+-- Which histories are lawful.
+use Rattle.std.specs.Prelude.{◌≡◌, ℕ, ◌<◌, ◌≤◌, ◌<ℤ◌, ◌≤ℤ◌, List, [], ◌∷◌, ◌⊎◌, length, All, Contains, fold, sum_by, nat_eq, IfSome, IsSomeAnd, slice_get}
 use Rattle.std.specs.List.{AllZip, IsDistinct}
 use Rattle.qd_base.specs.declared.cell.Cell.{Cell}
 use Rattle.qd_base.specs.declared.cell.Cell.TheVariants as cell
@@ -10,22 +10,28 @@ use Rattle.qd_base.specs.declared.schema.Schema.{Schema}
 use Rattle.qd_base.specs.declared.op.Op.{Op}
 use Rattle.qd_base.specs.declared.op.Op.TheVariants as op
 use Rattle.qd_base.specs.declared.op.Entry.{Entry}
+use Rattle.qd_base.specs.declared.limits.TheConstants.{MAX_BATCH_CELLS, MAX_COLUMNS, MAX_LONG, MAX_TABLES, MAX_TEXT_BYTES, MAX_TIME, NULL_LONG}
 use Rattle.qd_base.specs.Names.{IsColumnName, IsTableName}
 use Rattle.qd_base.specs.Rows.{Row, cell_at}
 use Rattle.qd_base.specs.Schemas.{same_name, schema_of, schemas_step, Fits}
 
--- The kind of cell that a column takes. A BOOLEAN column takes no NULL; a LONG isn't the least 64-bit number; a text
--- has at most 65,535 bytes; a time is at most 9999-12-31T23:59:59.999999Z.
+-- a text that can be stored: bytes, and not too many
+pub record IsText (text : List ℕ) : Type 0 where
+  pub short : length text ≤ MAX_TEXT_BYTES
+  pub bytes : All (λ b. b < 256) text
+
+-- The kind of cell that a column takes. A BOOLEAN column takes no NULL; a LONG is a 64-bit number, and not the one that
+-- stands for NULL; a time is at most the greatest timestamp.
 abbrev pub Takes : ColType → Cell → Type 0
 Takes kind.Long cell.Null = Unit {0}
-Takes kind.Long (cell.Long x) = negsuc 9223372036854775807 <ℤ x
+Takes kind.Long (cell.Long x) = (NULL_LONG <ℤ x) × (x ≤ℤ MAX_LONG)
 Takes kind.Bool (cell.Bool b) = Unit {0}
 Takes kind.Symbol cell.Null = Unit {0}
-Takes kind.Symbol (cell.Text t) = length t ≤ 65535
+Takes kind.Symbol (cell.Text t) = IsText t
 Takes kind.Varchar cell.Null = Unit {0}
-Takes kind.Varchar (cell.Text t) = length t ≤ 65535
+Takes kind.Varchar (cell.Text t) = IsText t
 Takes kind.Time cell.Null = Unit {0}
-Takes kind.Time (cell.Time t) = t ≤ 253402300799999999
+Takes kind.Time (cell.Time t) = t ≤ MAX_TIME
 Takes _ _ = ⊥
 
 -- one cell for each column, of its kind
@@ -40,7 +46,7 @@ pub record IsRowOf (s : Schema) (row : Row) : Type 0 where
 -- what a table may look like
 pub record IsSchema (s : Schema) : Type 0 where
   pub name : IsTableName s.name
-  pub few : length s.cols ≤ 256
+  pub few : length s.cols ≤ MAX_COLUMNS
   pub names : All (λ (c : Col). IsColumnName c.name) s.cols
   pub distinct : IsDistinct (λ (a : Col) (b : Col). same_name a.name b.name) s.cols
   -- the designated column is there, and a TIMESTAMP
@@ -50,8 +56,8 @@ pub record IsSchema (s : Schema) : Type 0 where
 
 -- a change is of good form over the schemas before it
 abbrev pub IsSound : List Schema → Op → Type 0
-IsSound schemas (op.Create schema) = (length schemas < 1024) × IsSchema schema
-IsSound schemas (op.AddColumn table col) = IsColumnName col.name × IfSome (schema_of schemas table) (λ s. length s.cols < 256)
+IsSound schemas (op.Create schema) = (length schemas < MAX_TABLES) × IsSchema schema
+IsSound schemas (op.AddColumn table col) = IsColumnName col.name × IfSome (schema_of schemas table) (λ s. length s.cols < MAX_COLUMNS)
 IsSound schemas (op.Insert table rows) = IfSome (schema_of schemas table) (λ s. All (IsRowOf s) rows)
 
 -- each change fits where it stands, and is of good form there
@@ -71,7 +77,7 @@ cells_of entry = sum_by cells_in entry.ops
 -- each transaction is lawful over the schemas that the ones before it leave
 abbrev pub LawfulFrom : List Schema → List Entry → Type 0
 LawfulFrom schemas [] = Unit {0}
-LawfulFrom schemas (e ∷ es) = AreLawful schemas e.ops × (cells_of e ≤ 4194304) × LawfulFrom (fold schemas_step schemas e.ops) es
+LawfulFrom schemas (e ∷ es) = AreLawful schemas e.ops × (cells_of e ≤ MAX_BATCH_CELLS) × LawfulFrom (fold schemas_step schemas e.ops) es
 
 -- a lawful history
 abbrev pub Lawful : List Entry → Type 0
@@ -79,6 +85,6 @@ Lawful history = LawfulFrom [] history
 
 -- what the schemas of a lawful history's database are
 pub record AreSchemas (schemas : List Schema) : Type 0 where
-  pub few : length schemas ≤ 1024
+  pub few : length schemas ≤ MAX_TABLES
   pub each : All IsSchema schemas
   pub distinct : IsDistinct (λ (a : Schema) (b : Schema). same_name a.name b.name) schemas

@@ -1,9 +1,10 @@
 -- The laws of `put` and of replay, in words of their own.
-use Rattle.std.specs.Prelude.{◌≡◌, ℕ, ◌≤◌, false, List, [], ◌∷◌, ◌++◌, ◌==◌, filter, fold, length, All, Contains, ◌⊎◌, ◌↔◌, IsTrue}
+use Rattle.std.specs.Prelude.{◌≡◌, ℕ, ◌+◌, ◌*◌, ◌^◌, ◌+ℤ◌, pos, ◌≤◌, false, List, [], ◌∷◌, ◌++◌, ◌==◌, filter, fold, length, All, Contains, ◌⊎◌, ◌↔◌, IsTrue}
 use Rattle.std.specs.List.{IsDistinct, AllByRecursion}
 use Rattle.qd_base.specs.declared.cell.Cell.{Cell}
 use Rattle.qd_base.specs.declared.op.Entry.{Entry}
 use Rattle.qd_base.specs.declared.op.Op.{Op}
+use Rattle.qd_base.specs.declared.limits.TheConstants.{LAST_OFFSET, MAX_BATCH_CELLS, MAX_COLUMNS, MAX_LONG, MAX_NAME_BYTES, MAX_QUERY_BYTES, MAX_RESULT_BYTES, MAX_SAMPLED_ROWS, MAX_TABLES, MAX_TEXT_BYTES, MAX_TIME, MAX_WRITE_BYTES, NULL_LONG, NULL_TIME}
 use Rattle.qd_base.specs.Rows.{Row, cell_eq, time_of, same_on, without_equals, put}
 use Rattle.qd_base.specs.Schemas.{schemas_step, schemas_from}
 use Rattle.qd_base.specs.Database.{Database, StoredTable, step, schemas_of}
@@ -67,3 +68,22 @@ LawfulRows = (history : List Entry) → Lawful history → AllByRecursion (λ (t
 -- Two cells are equal exactly where they are one value; so NULL is equal to NULL alone.
 abbrev pub CellsAreCompared : Type 0
 CellsAreCompared = (a b : Cell) → IsTrue (cell_eq a b) ↔ (a ≡ b)
+
+-- The greatest timestamp is the last microsecond of the year 9999, and the limits of payloads, names and texts are these.
+pub record LimitsAreThese : Type 0 where
+  -- days from 1970 to 10000, of which 1,947 are of leap years; each of 86,400 seconds
+  pub time : MAX_TIME + 1 ≡ ((8030 * 365 + 1947) * 86400) * 1000000
+  pub write : MAX_WRITE_BYTES ≡ 2 ^ 24
+  pub query : MAX_QUERY_BYTES ≡ 2 ^ 16
+  pub result : MAX_RESULT_BYTES ≡ 2 ^ 26
+  pub text : MAX_TEXT_BYTES + 1 ≡ 2 ^ 16
+  pub name : MAX_NAME_BYTES + 1 ≡ 2 ^ 7
+  pub tables : MAX_TABLES ≡ 2 ^ 10
+  pub columns : MAX_COLUMNS ≡ 2 ^ 8
+  pub cells : MAX_BATCH_CELLS ≡ 2 ^ 22
+  pub sampled : MAX_SAMPLED_ROWS ≡ 10 ^ 6
+  pub offset : LAST_OFFSET + 1 ≡ 2 ^ 64
+  -- numbers of 64 bits: the one below all that a LONG may be stands for NULL
+  pub null : NULL_LONG +ℤ pos (2 ^ 63) ≡ pos 0
+  pub long : MAX_LONG +ℤ pos 1 ≡ pos (2 ^ 63)
+  pub null_time : NULL_TIME + 1 ≡ 2 ^ 64

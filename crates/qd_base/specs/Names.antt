@@ -3,6 +3,7 @@
 use Rattle.std.specs.Prelude.{◌≡◌, ◌≢◌, ℕ, ◌-◌, ◌<◌, ◌≤◌, Bool, not, ◌||◌, ◌&&◌, List, [], ◌∷◌, ◌==◌, nat_lt, length, IsTrue, All, slice_index}
 use Rattle.std.specs.List.{list_any}
 use Rattle.std.specs.Str.{IsUtf8}
+use Rattle.qd_base.specs.declared.limits.TheConstants.{MAX_NAME_BYTES}
 
 -- no control character, and none of  ? , ' " \ / : ( ) + * % ~
 abbrev pub is_table_byte : ℕ → Bool
@@ -20,14 +21,14 @@ pub record IsApart (name : List ℕ) : Type 0 where
 -- what a column may be called
 pub record IsColumnName (name : List ℕ) : Type 0 where
   pub some : 1 ≤ length name
-  pub short : length name ≤ 127
+  pub short : length name ≤ MAX_NAME_BYTES
   pub text : IsUtf8 name
   pub bytes : All (λ b. IsTrue (is_column_byte b)) name
 
 -- what a table may be called
 pub record IsTableName (name : List ℕ) : Type 0 where
   pub some : 1 ≤ length name
-  pub short : length name ≤ 127
+  pub short : length name ≤ MAX_NAME_BYTES
   pub text : IsUtf8 name
   pub bytes : All (λ b. IsTrue (is_table_byte b)) name
   pub dots : IsApart name

@@ -1,6 +1,6 @@
 //! Laws of the definitions: each holds for all tables, rows and histories, and is the contract of a function that
 //! does nothing.
-ghost use Rattle.qd_base.specs.Laws.{CellsAreCompared, EqualTimesKeepOrder, KeysAreUnique, LastOfEqualKeysStays, LawfulRows, LawfulSchemas, PrefixStandsAlone, ReplayOfMore, RowsStayInOrder, SchemasFollow};
+ghost use Rattle.qd_base.specs.Laws.{CellsAreCompared, EqualTimesKeepOrder, KeysAreUnique, LastOfEqualKeysStays, LawfulRows, LawfulSchemas, LimitsAreThese, PrefixStandsAlone, ReplayOfMore, RowsStayInOrder, SchemasFollow};
 ghost use Rattle.qd_base.specs.Examples.{WorkedExamples};
 
 /// In each database of a replay, each table's rows stand in order of time.
@@ -56,4 +56,9 @@ pub fn cells_are_compared()
 /// The definitions give what is wanted at some short histories: late rows, equal times, keys, added columns.
 pub fn worked_examples()
     ensures law { WorkedExamples }
+{}
+
+/// The greatest timestamp and the limits of payloads, names, texts and results.
+pub fn limits_are_these()
+    ensures law { LimitsAreThese }
 {}

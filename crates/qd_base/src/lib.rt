@@ -1,10 +1,12 @@
 //! Plain data of the database, and what it means: tables, rows, transactions and their replay.
 //!
 //! The definitions stand in `specs/`: `Rows` (a row's time and keys, `put`), `Names`, `Schemas`,
-//! `Database` (tables and `step`), `Replay` (`after`, `first`), `Lawful`, `Laws` and `Script` (what a front reads).
+//! `Database` (tables and `step`), `Replay` (`after`, `first`), `Lawful`, `Laws`, `Codes` (the numbers of refusals) and
+//! `Script` (what a front reads).
 #![tactic(auto)]
 
 mod cell;
+mod code;
 mod front;
 mod laws;
 mod limits;
@@ -20,13 +22,18 @@ mod tests;
 mod txt;
 
 pub use cell::{Cell, Row, RowList};
+pub use code::Code;
 pub use front::Front;
 pub use laws::{
     cells_are_compared, equal_times_keep_order, keys_are_unique, last_of_equal_keys_stays,
-    lawful_rows, lawful_schemas, prefix_stands_alone, replay_of_more, rows_stay_in_order,
-    schemas_follow, worked_examples,
+    lawful_rows, lawful_schemas, limits_are_these, prefix_stands_alone, replay_of_more,
+    rows_stay_in_order, schemas_follow, worked_examples,
 };
-pub use limits::{Limits, MAX_QUERY_BYTES, MAX_TIME, MAX_WRITE_BYTES};
+pub use limits::{
+    LAST_OFFSET, Limits, MAX_BATCH_CELLS, MAX_COLUMNS, MAX_LONG, MAX_NAME_BYTES, MAX_QUERY_BYTES,
+    MAX_RESULT_BYTES, MAX_SAMPLED_ROWS, MAX_TABLES, MAX_TEXT_BYTES, MAX_TIME, MAX_WRITE_BYTES,
+    NULL_LONG, NULL_TIME,
+};
 pub use names::{column_name_ok, same_name, table_name_ok};
 pub use op::{Entry, Op, OpList};
 pub use part::{Part, PartList, RefList, WalRef};

@@ -4,11 +4,44 @@ ghost use Rattle.std.specs.Prelude.{◌≡◌};
 /// The greatest timestamp, 9999-12-31T23:59:59.999999Z, in microseconds since 1970-01-01T00:00Z.
 pub const MAX_TIME: u64 = 253_402_300_799_999_999;
 
+/// What stands for NULL among stored timestamps. It is no timestamp.
+pub const NULL_TIME: u64 = 18_446_744_073_709_551_615;
+
+/// The greatest LONG.
+pub const MAX_LONG: i64 = 9_223_372_036_854_775_807;
+
+/// What stands for NULL among stored numbers: the least 64-bit number, which no LONG is.
+pub const NULL_LONG: i64 = -9_223_372_036_854_775_808;
+
 /// The greatest number of bytes of one batch of lines.
 pub const MAX_WRITE_BYTES: u64 = 16_777_216;
 
 /// The greatest number of bytes of one statement.
 pub const MAX_QUERY_BYTES: u64 = 65_536;
+
+/// The greatest number of bytes of a name of a table or a column.
+pub const MAX_NAME_BYTES: usize = 127;
+
+/// The greatest number of bytes of a text in a cell.
+pub const MAX_TEXT_BYTES: usize = 65_535;
+
+/// The greatest number of tables.
+pub const MAX_TABLES: usize = 1_024;
+
+/// The greatest number of columns of a table.
+pub const MAX_COLUMNS: usize = 256;
+
+/// The greatest number of cells that one transaction inserts.
+pub const MAX_BATCH_CELLS: u64 = 4_194_304;
+
+/// The greatest number of rows of a sampled result.
+pub const MAX_SAMPLED_ROWS: u64 = 1_000_000;
+
+/// The greatest number of bytes of a result.
+pub const MAX_RESULT_BYTES: u64 = 67_108_864;
+
+/// The last offset in an input, at which it is taken as ended: 2^64 - 1.
+pub const LAST_OFFSET: u64 = 18_446_744_073_709_551_615;
 
 /// What a store keeps to. Wherever limits are taken, `max_txns` is at most 4,194,304, `seg_bytes` is at most
 /// 2^62, and all but `max_txns` are at least 1.

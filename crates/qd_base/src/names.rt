@@ -3,8 +3,7 @@ ghost use Rattle.std.specs.Prelude.{◌≡◌, ◌<◌, ◌≤◌, ◌↔◌, le
 ghost use Rattle.std.specs.Str.{str_eq_ignore_ascii_case, IsUtf8};
 ghost use Rattle.qd_base.specs.Names.{is_column_byte, is_table_byte, IsApart, IsColumnName, IsTableName};
 
-/// The longest name, in bytes.
-const MAX_NAME: usize = 127;
+use crate::limits::MAX_NAME_BYTES;
 
 /// Says whether two names are one: ASCII case is ignored. It costs time linear in the shorter name.
 pub fn same_name(a: &[u8], b: &[u8]) -> bool
@@ -31,9 +30,9 @@ pub fn table_name_ok(name: &[u8]) -> bool
 }
 
 fn is_text_of_name_length(name: &[u8]) -> bool
-    ensures ok { IsTrue result ↔ ((1 ≤ length name.now) × (length name.now ≤ MAX_NAME) × IsUtf8 name.now) }
+    ensures ok { IsTrue result ↔ ((1 ≤ length name.now) × (length name.now ≤ MAX_NAME_BYTES) × IsUtf8 name.now) }
 {
-    1 <= name.len() && name.len() <= MAX_NAME && std::str::from_utf8(name).is_ok()
+    1 <= name.len() && name.len() <= MAX_NAME_BYTES && std::str::from_utf8(name).is_ok()
 }
 
 /// Neither a control character nor a sign that no name has.

@@ -108,6 +108,17 @@ impl Schemas {
         }
     }
 
+    /// Gives equal schemas with memory of their own, in time and memory linear in their size.
+    pub fn copy(&self) -> Result<Schemas, Memory>
+        ensures same { IfOk result (λ other. other ≡ self.now) }
+    {
+        let mut list = Vec::with_capacity(*self.list.allocator(), self.list.len())?;
+        for schema in &self.list {
+            list.push(schema.copy()?)?;
+        }
+        Ok(Schemas { list })
+    }
+
     fn add_column(&mut self, table: &[u8], col: &Col) -> Result<(), Memory>
         requires { IsSome (table_at self.old table.now) }
         ensures ok { OnOk result (self.new ≡ at_name (λ s. s.name) (with_column col.now) table.now self.old) }
@@ -123,10 +134,6 @@ impl Schemas {
 
 impl Duplicate for Schemas {
     fn copy(&self) -> Result<Schemas, Memory> {
-        let mut list = Vec::with_capacity(*self.list.allocator(), self.list.len())?;
-        for schema in &self.list {
-            list.push(schema.copy()?)?;
-        }
-        Ok(Schemas { list })
+        self.copy()
     }
 }

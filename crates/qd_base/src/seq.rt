@@ -100,12 +100,21 @@ impl<T: Drop> Seq<T> {
     }
 }
 
-impl<T: Duplicate + Drop> Duplicate for Seq<T> {
-    fn copy(&self) -> Result<Seq<T>, Memory> {
+impl<T: Duplicate + Drop> Seq<T> {
+    /// Gives an equal list of copied items, in time and memory linear in their size.
+    pub fn copy(&self) -> Result<Seq<T>, Memory>
+        ensures same { IfOk result (λ other. other ≡ self.now) }
+    {
         let mut items = Vec::with_capacity(*self.items.allocator(), self.items.len())?;
         for item in &self.items {
             items.push(item.copy()?)?;
         }
         Ok(Seq { items })
+    }
+}
+
+impl<T: Duplicate + Drop> Duplicate for Seq<T> {
+    fn copy(&self) -> Result<Seq<T>, Memory> {
+        self.copy()
     }
 }

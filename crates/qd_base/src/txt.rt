@@ -39,11 +39,18 @@ impl Txt {
     {
         self.bytes.as_slice()
     }
+
+    /// Gives an equal text with memory of its own. It costs time and memory linear in the bytes.
+    pub fn copy(&self) -> Result<Txt, Memory>
+        ensures same { IfOk result (λ other. other ≡ self.now) }
+    {
+        let bytes = self.bytes.clone()?;
+        Ok(Txt { bytes })
+    }
 }
 
 impl Duplicate for Txt {
     fn copy(&self) -> Result<Txt, Memory> {
-        let bytes = self.bytes.clone()?;
-        Ok(Txt { bytes })
+        self.copy()
     }
 }

@@ -5,14 +5,51 @@
 -- takes a prefix of the bytes that it is given, and says how many.
 use Rattle.std.specs.Prelude.{◌≡◌, ℕ, ◌<◌, ◌≤◌, ◌⊎◌, List, [], ◌++◌, length, take, drop}
 use Rattle.std.specs.Prelude.{Option, None, Some, Result, Ok, Err}
+use Rattle.std.specs.Borrow.{GName}
+use Rattle.qd_io.specs.declared.fault.IoFault.{IoFault}
+use Rattle.qd_io.specs.declared.fault.IoFault.TheVariants as fault
+
+-- What an object that reads or writes bytes shows at a moment.
+pub record Stream : Type 0 where
+  -- the bytes that reads may still give, where the object tells them
+  pub input : Option (List ℕ)
+  -- the bytes that writes have taken so far, where it tells them
+  pub output : Option (List ℕ)
+  -- how many reads, and how many writes, have failed
+  pub reads_failed : ℕ
+  pub writes_failed : ℕ
+  -- the borrows through which each end is reached, from the outermost
+  pub input_lent : List GName
+  pub output_lent : List GName
+
+-- a read leaves all but the input and the count of failed reads as it was
+pub record OutputStays (old new : Stream) : Type 0 where
+  pub output : new.output ≡ old.output
+  pub writes_failed : new.writes_failed ≡ old.writes_failed
+  pub input_lent : new.input_lent ≡ old.input_lent
+  pub output_lent : new.output_lent ≡ old.output_lent
+
+-- a write leaves all but the output and the count of failed writes as it was
+pub record InputStays (old new : Stream) : Type 0 where
+  pub input : new.input ≡ old.input
+  pub reads_failed : new.reads_failed ≡ old.reads_failed
+  pub input_lent : new.input_lent ≡ old.input_lent
+  pub output_lent : new.output_lent ≡ old.output_lent
 
 -- the greatest number that a count of failures can show; there it stands still
 abbrev pub last_count : ℕ
 last_count = 18446744073709551615
 
 -- the count is greater now than it was before, or it stands at its greatest number
-abbrev pub Rose : ℕ → ℕ → Type 0
-Rose before now = (before < now) ⊎ (last_count ≤ now)
+abbrev pub HasRisen : ℕ → ℕ → Type 0
+HasRisen before now = (before < now) ⊎ (last_count ≤ now)
+
+-- A call answers `Failed` exactly where it raises the count of failures: it has risen then, and is what it was after every
+-- other answer, want of memory among them.
+abbrev pub Counts : {T : Type 0} → ℕ → ℕ → Result T IoFault → Type 0
+Counts before now (Ok answer) = now ≡ before
+Counts before now (Err fault.Failed) = (before ≤ now) × HasRisen before now
+Counts before now (Err fault.Memory) = now ≡ before
 
 -- a read of n of the bytes
 pub record TakesFront (bytes : List ℕ) (now : Option (List ℕ)) (buffer : List ℕ) (n : ℕ) : Type 0 where

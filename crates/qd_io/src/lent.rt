@@ -5,17 +5,10 @@ use super::fault::IoFault;
 use super::traits::{Ends, Sink, Source};
 
 impl<E: Ends> Ends for &mut E {
-    ghost input = { λ borrow. E.input borrow.now };
-
-    ghost output = { λ borrow. E.output borrow.now };
-
-    ghost reads_failed = { λ borrow. E.reads_failed borrow.now };
-
-    ghost writes_failed = { λ borrow. E.writes_failed borrow.now };
-
-    ghost input_lent = { λ borrow. borrow.ghost_name ∷ E.input_lent borrow.now };
-
-    ghost output_lent = { λ borrow. borrow.ghost_name ∷ E.output_lent borrow.now };
+    ghost stream = { λ borrow. let held = E.stream borrow.now in record held {
+      input_lent = borrow.ghost_name ∷ held.input_lent;
+      output_lent = borrow.ghost_name ∷ held.output_lent;
+    } };
 }
 
 impl<S: Source> Source for &mut S {

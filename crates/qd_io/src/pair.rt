@@ -29,17 +29,14 @@ impl<S, K> Both<S, K> {
 }
 
 impl<S: Source, K: Sink> Ends for Both<S, K> {
-    ghost input = { λ both. S.input both.source };
-
-    ghost output = { λ both. K.output both.sink };
-
-    ghost reads_failed = { λ both. S.reads_failed both.source };
-
-    ghost writes_failed = { λ both. K.writes_failed both.sink };
-
-    ghost input_lent = { λ both. S.input_lent both.source };
-
-    ghost output_lent = { λ both. K.output_lent both.sink };
+    ghost stream = { λ both. record {
+      input = (S.stream both.source).input;
+      output = (K.stream both.sink).output;
+      reads_failed = (S.stream both.source).reads_failed;
+      writes_failed = (K.stream both.sink).writes_failed;
+      input_lent = (S.stream both.source).input_lent;
+      output_lent = (K.stream both.sink).output_lent;
+    } };
 }
 
 impl<S: Source, K: Sink> Source for Both<S, K> {

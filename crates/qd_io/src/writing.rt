@@ -1,6 +1,5 @@
 // Writing the whole of a piece, in as many writes as the sink needs.
-ghost use Rattle.qd_io.specs.Ends.{Rose, WritesAll};
-ghost use Rattle.std.specs.Prelude.{◌≡◌, ◌≤◌, IsErrOf};
+ghost use Rattle.qd_io.specs.Ends.{Counts, InputStays, WritesAll};
 
 use super::fault::IoFault;
 use super::traits::Sink;
@@ -10,17 +9,13 @@ use super::traits::Sink;
 ///
 /// It stops at the first write that fails: a prefix of `bytes` is then in the output.
 pub fn write_all<K: Sink>(sink: &mut K, bytes: &[u8]) -> Result<(), IoFault>
-    ensures told { WritesAll (K.output sink.old) (K.output sink.new) bytes.now result }
+    ensures told { WritesAll (K.stream sink.old).output (K.stream sink.new).output bytes.now result }
 
-    // `Failed` comes only where the count of failed writes rises, and that count never falls.
-    ensures failed { IsErrOf result IoFault.Failed → Rose (K.writes_failed sink.old) (K.writes_failed sink.new) }
-    ensures never_falls { K.writes_failed sink.old ≤ K.writes_failed sink.new }
+    // The count of failed writes rises exactly where `Failed` is answered.
+    ensures counted { Counts (K.stream sink.old).writes_failed (K.stream sink.new).writes_failed result }
 
     // The other end, and the borrows through which both are reached, stay as they were.
-    ensures input_stays { K.input sink.new ≡ K.input sink.old }
-    ensures reads_failed_stays { K.reads_failed sink.new ≡ K.reads_failed sink.old }
-    ensures input_lent_stays { K.input_lent sink.new ≡ K.input_lent sink.old }
-    ensures output_lent_stays { K.output_lent sink.new ≡ K.output_lent sink.old }
+    ensures rest { InputStays (K.stream sink.old) (K.stream sink.new) }
 {
     let mut done = 0;
     while done < bytes.len() {

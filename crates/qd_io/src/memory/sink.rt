@@ -1,6 +1,6 @@
 // A sink over memory.
-ghost use Rattle.std.specs.Prelude.{◌≡◌, ◌≤◌, ◌<◌, length, IfOk, IsErrOf, []};
-ghost use Rattle.qd_io.specs.Ends.{Writes, Rose};
+ghost use Rattle.std.specs.Prelude.{◌≡◌, ◌≤◌, ◌<◌, length, IfOk, []};
+ghost use Rattle.qd_io.specs.Ends.{Counts, Writes};
 ghost use Rattle.qd_io.specs.Memory.{MemWrites};
 
 use super::plan::Schedule;
@@ -56,17 +56,14 @@ impl MemSink {
 impl Ends for MemSink {
     ghost use Rattle.std.specs.Prelude.{Some, None, []};
 
-    ghost input = { λ _. None };
-
-    ghost output = { λ sink. Some sink.taken };
-
-    ghost reads_failed = { λ _. 0 };
-
-    ghost writes_failed = { λ sink. sink.plan.failed };
-
-    ghost input_lent = { λ _. [] };
-
-    ghost output_lent = { λ _. [] };
+    ghost stream = { λ sink. record {
+      input = None;
+      output = Some sink.taken;
+      reads_failed = 0;
+      writes_failed = sink.plan.failed;
+      input_lent = [];
+      output_lent = [];
+    } };
 }
 
 impl Sink for MemSink {
@@ -79,8 +76,7 @@ impl Sink for MemSink {
         ensures within { IfOk result (λ n. n ≤ length bytes.now) }
         ensures some { IfOk result (λ n. 0 < length bytes.now → 0 < n) }
         ensures told { Writes (Some self.old.taken) (Some self.new.taken) bytes.now result }
-        ensures failed { IsErrOf result IoFault.Failed → Rose self.old.plan.failed self.new.plan.failed }
-        ensures never_falls { self.old.plan.failed ≤ self.new.plan.failed }
+        ensures counted { Counts self.old.plan.failed self.new.plan.failed result }
     {
         if self.schedule.fails_now() {
             self.schedule.fail();

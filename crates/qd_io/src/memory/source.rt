@@ -1,6 +1,6 @@
 // A source over memory.
-ghost use Rattle.std.specs.Prelude.{◌≡◌, ◌≤◌, length, IfOk, IsErrOf};
-ghost use Rattle.qd_io.specs.Ends.{Reads, Rose};
+ghost use Rattle.std.specs.Prelude.{◌≡◌, ◌≤◌, length, IfOk};
+ghost use Rattle.qd_io.specs.Ends.{Counts, Reads};
 ghost use Rattle.qd_io.specs.Memory.{MemReads};
 
 use super::plan::Schedule;
@@ -58,17 +58,14 @@ impl MemSource {
 impl Ends for MemSource {
     ghost use Rattle.std.specs.Prelude.{Some, None, []};
 
-    ghost input = { λ source. Some source.left };
-
-    ghost output = { λ _. None };
-
-    ghost reads_failed = { λ source. source.plan.failed };
-
-    ghost writes_failed = { λ _. 0 };
-
-    ghost input_lent = { λ _. [] };
-
-    ghost output_lent = { λ _. [] };
+    ghost stream = { λ source. record {
+      input = Some source.left;
+      output = None;
+      reads_failed = source.plan.failed;
+      writes_failed = 0;
+      input_lent = [];
+      output_lent = [];
+    } };
 }
 
 impl Source for MemSource {
@@ -79,8 +76,7 @@ impl Source for MemSource {
         ensures exact { MemReads self.old self.new buf.old buf.new result }
         ensures within { IfOk result (λ n. n ≤ length buf.old) }
         ensures told { Reads (Some self.old.left) (Some self.new.left) buf.new result }
-        ensures failed { IsErrOf result IoFault.Failed → Rose self.old.plan.failed self.new.plan.failed }
-        ensures never_falls { self.old.plan.failed ≤ self.new.plan.failed }
+        ensures counted { Counts self.old.plan.failed self.new.plan.failed result }
     {
         if self.schedule.fails_now() {
             self.schedule.fail();

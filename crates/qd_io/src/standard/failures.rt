@@ -1,7 +1,7 @@
 // What an error of std means to a caller of a device, and how many were failures.
-ghost use Rattle.qd_io.specs.Ends.{Rose};
+ghost use Rattle.qd_io.specs.Ends.{Counts};
 ghost use Rattle.std.specs.IoError.{error_kind};
-ghost use Rattle.std.specs.Prelude.{◌≡◌, ◌≤◌, ◌↔◌, IsNone, Some};
+ghost use Rattle.std.specs.Prelude.{◌≡◌, ◌↔◌, ℕ, IsNone, Some, Err};
 
 use crate::fault::IoFault;
 use std::io::{Error, ErrorKind};
@@ -29,9 +29,7 @@ impl Failures {
     /// Counts the fault where it is a failure of the device, and gives it back.
     pub fn counted(&mut self, fault: IoFault) -> IoFault
         ensures same { result ≡ fault }
-        ensures failed { fault ≡ IoFault.Failed → Rose self.old.count self.new.count }
-        ensures memory { fault ≡ IoFault.Memory → self.new.count ≡ self.old.count }
-        ensures never_falls { self.old.count ≤ self.new.count }
+        ensures counts { Counts {T = ℕ} self.old.count self.new.count (Err fault) }
     {
         if fault == IoFault::Failed {
             self.count = self.count.saturating_add(1);

@@ -19,8 +19,8 @@ pub struct StdSink<W> {
 impl<W: Write> StdSink<W> {
     /// A sink with no failures so far. It writes nothing yet and takes no memory.
     pub fn new(writer: W) -> StdSink<W>
-        ensures told { ⟦<StdSink<W> as Ends>⟧.output result ≡ W.contents writer }
-        ensures none_failed { ⟦<StdSink<W> as Ends>⟧.writes_failed result ≡ 0 }
+        ensures told { (⟦<StdSink<W> as Ends>⟧.stream result).output ≡ W.contents writer }
+        ensures none_failed { (⟦<StdSink<W> as Ends>⟧.stream result).writes_failed ≡ 0 }
     {
         StdSink {
             writer,
@@ -32,17 +32,14 @@ impl<W: Write> StdSink<W> {
 impl<W: Write> Ends for StdSink<W> {
     ghost use Rattle.std.specs.Prelude.{None, []};
 
-    ghost input = { λ _. None };
-
-    ghost output = { λ sink. W.contents sink.writer };
-
-    ghost reads_failed = { λ _. 0 };
-
-    ghost writes_failed = { λ sink. sink.failures.count };
-
-    ghost input_lent = { λ _. [] };
-
-    ghost output_lent = { λ _. [] };
+    ghost stream = { λ sink. record {
+      input = None;
+      output = W.contents sink.writer;
+      reads_failed = 0;
+      writes_failed = sink.failures.count;
+      input_lent = [];
+      output_lent = [];
+    } };
 }
 
 impl<W: Write> Sink for StdSink<W> {

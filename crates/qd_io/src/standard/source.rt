@@ -18,8 +18,8 @@ pub struct StdSource<R> {
 impl<R: Read> StdSource<R> {
     /// A source with no failures so far. It reads nothing yet and takes no memory.
     pub fn new(reader: R) -> StdSource<R>
-        ensures told { ⟦<StdSource<R> as Ends>⟧.input result ≡ R.remaining reader }
-        ensures none_failed { ⟦<StdSource<R> as Ends>⟧.reads_failed result ≡ 0 }
+        ensures told { (⟦<StdSource<R> as Ends>⟧.stream result).input ≡ R.remaining reader }
+        ensures none_failed { (⟦<StdSource<R> as Ends>⟧.stream result).reads_failed ≡ 0 }
     {
         StdSource {
             reader,
@@ -31,17 +31,14 @@ impl<R: Read> StdSource<R> {
 impl<R: Read> Ends for StdSource<R> {
     ghost use Rattle.std.specs.Prelude.{None, []};
 
-    ghost input = { λ source. R.remaining source.reader };
-
-    ghost output = { λ _. None };
-
-    ghost reads_failed = { λ source. source.failures.count };
-
-    ghost writes_failed = { λ _. 0 };
-
-    ghost input_lent = { λ _. [] };
-
-    ghost output_lent = { λ _. [] };
+    ghost stream = { λ source. record {
+      input = R.remaining source.reader;
+      output = None;
+      reads_failed = source.failures.count;
+      writes_failed = 0;
+      input_lent = [];
+      output_lent = [];
+    } };
 }
 
 impl<R: Read> Source for StdSource<R> {

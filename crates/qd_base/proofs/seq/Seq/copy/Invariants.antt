@@ -1,5 +1,5 @@
 use Rattle.std.proofs.Common.{◌≡◌, take}
-use Rattle.qd_base.proofs.seq.SeqDuplicate.copy.Given as goal
+use Rattle.qd_base.proofs.seq.Seq.copy.Given as goal
 
 -- the items so far are copied
 abbrev pub invariant-loop-item : goal.invariant-loop-item

@@ -1,5 +1,5 @@
 use Rattle.std.proofs.Common.{◌≡◌, take}
-use Rattle.qd_base.proofs.schemas.SchemasDuplicate.copy.Given as goal
+use Rattle.qd_base.proofs.schemas.Schemas.copy.Given as goal
 
 -- the schemas so far are copied
 abbrev pub invariant-loop-schema : goal.invariant-loop-schema

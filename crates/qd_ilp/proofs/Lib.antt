@@ -6,3 +6,4 @@ pub mod Lines
 pub mod Tails
 pub mod Rows
 pub mod Texts
+pub mod Wholes

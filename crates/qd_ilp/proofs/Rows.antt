@@ -113,7 +113,7 @@ row_finished text table behind tags r goes found = goes ∙ ap (λ (o : Option R
 pub row_empty : (text table : List ℕ) (tags : List Item) (r : Rest) → row_at text ≡ finished table tags r → is_empty (tags ++ r.fields) ≡ true → row_at text ≡ None
 row_empty text table tags r goes empty = goes ∙ (rw empty refl)
 
-row_is : (t u : List ℕ) (is js : List Item) (m : Option Moment) → t ≡ u → is ≡ js → (let r : Row = record { table = t; items = is; moment = m } in r) ≡ record { table = u; items = js; moment = m }
+pub row_is : (t u : List ℕ) (is js : List Item) (m : Option Moment) → t ≡ u → is ≡ js → (let r : Row = record { table = t; items = is; moment = m } in r) ≡ record { table = u; items = js; moment = m }
 row_is t u is js m table items = ap (λ (x : List ℕ). let r : Row = record { table = x; items = is; moment = m } in r) table ∙ ap (λ (x : List Item). let r : Row = record { table = u; items = x; moment = m } in r) items
 
 pub row_done : (text table after bytes : List ℕ) (pairs : List Pair) (head : Head) (tags fields : List Item) → row_at text ≡ finished table tags (rest_of fields (option_map moment_in head.when) after) → is_empty (tags ++ fields) ≡ false

@@ -1,6 +1,6 @@
 -- What a batch keeps of lines, as the definitions have them, and what a whole text is.
-use Rattle.std.specs.Prelude.{◌≡◌, ℕ, ◌+◌, ◌-◌, ◌<◌, ◌≤◌, Bool, true, false, List, [], ◌∷◌, ◌++◌, take, drop, length, map, Option, Some, None, option_map}
-use Rattle.std.specs.List.{AllByRecursion}
+use Rattle.std.specs.Prelude.{◌≡◌, ℕ, ◌+◌, ◌-◌, ◌<◌, ◌≤◌, Bool, true, false, List, [], ◌∷◌, ◌++◌, take, drop, length, map, Option, Some, None, option_map, is_none, ◌&&◌}
+use Rattle.std.specs.List.{AllByRecursion, list_any}
 use Rattle.qd_ilp.specs.declared.item.Pair.{Pair}
 use Rattle.qd_ilp.specs.declared.row.Head.{Head}
 use Rattle.qd_ilp.specs.declared.row.KeptLine.{KeptLine}
@@ -47,3 +47,17 @@ EndsSo false rest = (0 < length rest) × (read_line rest ≡ None)
 
 abbrev pub IsReading : List ℕ → Reading → Type 0
 IsReading text reading = (rest : List ℕ) × BeginsWith text reading.lines rest × EndsSo reading.whole rest
+
+-- a line that gives a row and has no stamp
+abbrev pub is_timeless : Line → Bool
+is_timeless Blank = false
+is_timeless (Gives row) = is_none row.moment
+
+-- all lines are of the grammar, and one of them gives a row and has no stamp
+abbrev pub lacks_time : Reading → Bool
+lacks_time reading = reading.whole && list_any is_timeless reading.lines
+
+-- the same of what is kept of a line
+abbrev pub is_timeless_kept : KeptLine → Bool
+is_timeless_kept kept.Blank = false
+is_timeless_kept (kept.Row head) = is_none head.when

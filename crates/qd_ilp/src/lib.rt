@@ -4,9 +4,12 @@
 //! (what a line is) and `Batch` (what a whole text is).
 #![tactic(auto)]
 
+mod batch;
 mod cut;
 mod item;
 mod row;
 mod stop;
 mod tail;
 mod value;
+
+pub use batch::{Batch, lacks_time, parse_batch};

@@ -1,5 +1,5 @@
 -- What a batch keeps of lines, as the definitions have them, and what a whole text is.
-use Rattle.std.specs.Prelude.{◌≡◌, ℕ, ◌+◌, ◌-◌, ◌<◌, ◌≤◌, Bool, true, false, List, [], ◌∷◌, ◌++◌, take, drop, length, map, Option, Some, None, option_map, is_none, ◌&&◌}
+use Rattle.std.specs.Prelude.{◌≡◌, ℕ, ◌+◌, ◌-◌, ◌<◌, ◌≤◌, Bool, true, false, List, [], ◌∷◌, ◌++◌, take, drop, length, map, Option, Some, None, option_map, is_none, ◌&&◌, if◌then◌else◌}
 use Rattle.std.specs.List.{AllByRecursion, list_any}
 use Rattle.qd_ilp.specs.declared.item.Pair.{Pair}
 use Rattle.qd_ilp.specs.declared.row.Head.{Head}
@@ -61,3 +61,7 @@ lacks_time reading = reading.whole && list_any is_timeless reading.lines
 abbrev pub is_timeless_kept : KeptLine → Bool
 is_timeless_kept kept.Blank = false
 is_timeless_kept (kept.Row head) = is_none head.when
+
+-- the number of the first line that is none, counted from 1
+abbrev pub faulty_line : Reading → Option ℕ
+faulty_line reading = if reading.whole then None else Some (length reading.lines + 1)

@@ -33,6 +33,22 @@ impl Model for Batch {
     ghost invariant = { λ b. AllByRecursion (LineFits b.bytes.items b.pairs.items) b.lines.items };
 }
 
+impl Batch {
+    ghost use Rattle.qd_ilp.specs.Whole.{faulty_line};
+
+    /// Gives the number of the first line that is outside the grammar, counted from 1, where there is one. It takes
+    /// constant time.
+    pub fn faulty_line(&self) -> Option<u64>
+        ensures line { result ≡ faulty_line self.now }
+    {
+        if self.whole {
+            None
+        } else {
+            Some(self.lines.len() as u64 + 1)
+        }
+    }
+}
+
 /// Reads a batch of lines of InfluxDB's line protocol, in one pass and in time linear in its bytes. It takes memory for
 /// the bytes that names and texts stand for, and for each line, tag and field.
 ///

@@ -10,6 +10,8 @@ mod item;
 mod row;
 mod stop;
 mod tail;
+#[cfg(test)]
+mod tests;
 mod value;
 
 pub use batch::{Batch, lacks_time, parse_batch};

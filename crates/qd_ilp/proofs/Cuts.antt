@@ -12,7 +12,7 @@ unfolding cut
 cut_stops plain [] h = refl
 cut_stops plain (b ∷ bs) h = rw h refl
 
-cut_goes : (plain e : Bool) (b : ℕ) (bs bytes : List ℕ) → (not plain && stops (b ∷ bs)) ≡ false → e ≡ (not plain && escapes is_special (b ∷ bs)) → fronted bytes (cut plain (b ∷ bs)) ≡ fronted (bytes ++ (if e then [] else b ∷ [])) (cut e bs)
+pub cut_goes : (plain e : Bool) (b : ℕ) (bs bytes : List ℕ) → (not plain && stops (b ∷ bs)) ≡ false → e ≡ (not plain && escapes is_special (b ∷ bs)) → fronted bytes (cut plain (b ∷ bs)) ≡ fronted (bytes ++ (if e then [] else b ∷ [])) (cut e bs)
 unfolding cut
 cut_goes plain true b bs bytes stop esc = rw (stop, ← esc) (ap (λ (l : List ℕ). fronted l (cut true bs)) (sym (append-nil bytes)))
 cut_goes plain false b bs bytes stop esc = rw (stop, ← esc) (fronted_twice bytes (b ∷ []) (cut false bs))
@@ -27,7 +27,7 @@ cut_more plain e i text rest bytes bytes' total h here stop esc pushed so_far =
     ∙ ap (λ (l : List ℕ). fronted bytes (cut plain l)) (sym (drop_more text i 0 h)) ∙ so_far
 
 -- a byte that stands for itself
-or_false : (p q : Bool) → (p || q) ≡ false → (p ≡ false) × (q ≡ false)
+pub or_false : (p q : Bool) → (p || q) ≡ false → (p ≡ false) × (q ≡ false)
 or_false false q h = (refl, h)
 or_false true q h = absurd cc
 
@@ -60,7 +60,7 @@ unfolding word
 word_ends [] h = refl
 word_ends (b ∷ bs) h = rw h refl
 
-word_goes : (b : ℕ) (bs : List ℕ) → ends_word (b ∷ bs) ≡ false → word (b ∷ bs) ≡ fronted (b ∷ []) (word bs)
+pub word_goes : (b : ℕ) (bs : List ℕ) → ends_word (b ∷ bs) ≡ false → word (b ∷ bs) ≡ fronted (b ∷ []) (word bs)
 unfolding word
 word_goes b bs h = rw h refl
 
@@ -71,7 +71,7 @@ word_more i text rest h here ends =
     ap (λ (l : List ℕ). fronted (take i text) (word l)) at ∙ ap (fronted (take i text)) (word_goes (get_or text i 0) (drop (i + 1) text) ends')
     ∙ fronted_twice (take i text) (get_or text i 0 ∷ []) (word (drop (i + 1) text)) ∙ ap (λ (l : List ℕ). fronted l (word (drop (i + 1) text))) (sym (take_more text i 0 h))
 
-closed_here : (plain : Bool) (b : ℕ) (bs bytes : List ℕ) → (not plain && b == 34) ≡ true → closed_behind bytes plain (b ∷ bs) ≡ Some (bytes, bs)
+pub closed_here : (plain : Bool) (b : ℕ) (bs bytes : List ℕ) → (not plain && b == 34) ≡ true → closed_behind bytes plain (b ∷ bs) ≡ Some (bytes, bs)
 unfolding closed
 closed_here plain b bs bytes h = rw h (ap (λ (l : List ℕ). let o : Option (List ℕ × List ℕ) = Some (l, bs) in o) (append-nil bytes))
 
@@ -82,7 +82,7 @@ behind_twice : (a b : List ℕ) (o : Option (List ℕ × List ℕ)) → ((o >>= 
 behind_twice a b (Some c) = ap (λ (p : List ℕ × List ℕ). let o : Option (List ℕ × List ℕ) = Some p in o) (fronted_twice a b c)
 behind_twice a b None = refl
 
-closed_goes : (plain e : Bool) (b : ℕ) (bs bytes : List ℕ) → (not plain && b == 34) ≡ false → e ≡ (not plain && escapes is_quoted_special (b ∷ bs)) → closed_behind bytes plain (b ∷ bs) ≡ closed_behind (bytes ++ (if e then [] else b ∷ [])) e bs
+pub closed_goes : (plain e : Bool) (b : ℕ) (bs bytes : List ℕ) → (not plain && b == 34) ≡ false → e ≡ (not plain && escapes is_quoted_special (b ∷ bs)) → closed_behind bytes plain (b ∷ bs) ≡ closed_behind (bytes ++ (if e then [] else b ∷ [])) e bs
 unfolding closed
 closed_goes plain true b bs bytes quote esc = rw (quote, ← esc) (ap (λ (l : List ℕ). closed_behind l true bs) (sym (append-nil bytes)))
 closed_goes plain false b bs bytes quote esc = rw (quote, ← esc) (behind_twice bytes (b ∷ []) (closed false bs))

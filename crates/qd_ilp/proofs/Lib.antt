@@ -7,3 +7,5 @@ pub mod Tails
 pub mod Rows
 pub mod Texts
 pub mod Wholes
+pub mod Grammars
+pub mod Parts

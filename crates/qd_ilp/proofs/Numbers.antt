@@ -31,7 +31,7 @@ step_is n b digit =
           rw not (omega (arith, high))
     ]
 
-and_true : (p q : Bool) → (p && q) ≡ true → (p ≡ true) × (q ≡ true)
+pub and_true : (p q : Bool) → (p && q) ≡ true → (p ≡ true) × (q ≡ true)
 and_true true q h = (refl, h)
 and_true false q h = absurd cc
 

@@ -7,6 +7,7 @@
 mod batch;
 mod cut;
 mod item;
+mod laws;
 mod row;
 mod stop;
 mod tail;
@@ -15,3 +16,4 @@ mod tests;
 mod value;
 
 pub use batch::{Batch, lacks_time, parse_batch};
+pub use laws::parts_are_cut;

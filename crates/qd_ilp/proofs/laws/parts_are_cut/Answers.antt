@@ -1,0 +1,13 @@
+use Rattle.qd_ilp.proofs.Grammars.{name_spelled, name_is, word_spelled, word_is_cut, quoted_spelled, quoted_is}
+use Rattle.qd_ilp.proofs.Parts.{item_spelled, item_is}
+use Rattle.qd_ilp.proofs.laws.parts_are_cut.Goals as goal
+
+pub returns : goal.returns
+returns c = record {
+  law = record {
+    names = λ text name rest. (name_spelled text name rest, name_is text name rest);
+    words = λ text w rest. (word_spelled text w rest, word_is_cut text w rest);
+    texts = λ text quoted rest. (quoted_spelled text quoted rest, quoted_is text quoted rest);
+    items = λ tag text item rest. (item_spelled tag text item rest, item_is tag text item rest);
+  };
+}

@@ -1,0 +1,12 @@
+-- Laws: the reading from left to right gives what the grammar says, and nothing else.
+use Rattle.std.specs.Prelude.{◌≡◌, ℕ, Bool, false, List, Some, ◌↔◌}
+use Rattle.qd_ilp.specs.Cut.{cut, word, closed}
+use Rattle.qd_ilp.specs.Line.{Item, item_at}
+use Rattle.qd_ilp.specs.Grammar.{Name, Word, Quoted, IsItem}
+
+-- A name, a value that is no text and a quoted text end where they are cut, and are what the cut gives.
+pub record PartsAreCut : Type 0 where
+  pub names : (text name rest : List ℕ) → (cut false text ≡ (name, rest)) ↔ Name text name rest
+  pub words : (text w rest : List ℕ) → (word text ≡ (w, rest)) ↔ Word text w rest
+  pub texts : (text quoted rest : List ℕ) → (closed false text ≡ Some (quoted, rest)) ↔ Quoted text quoted rest
+  pub items : (tag : Bool) (text : List ℕ) (item : Item) (rest : List ℕ) → (item_at tag text ≡ Some (item, rest)) ↔ IsItem tag text item rest

@@ -1,0 +1,8 @@
+//! Laws of the definitions: each holds for all texts, and is the contract of a function that does nothing.
+ghost use Rattle.qd_ilp.specs.Laws.{PartsAreCut};
+
+/// A name, a value, a quoted text and a tag or field end where they are cut, and are what the cut gives: the reading
+/// from left to right gives what the grammar says, and nothing else.
+pub fn parts_are_cut()
+    ensures law { PartsAreCut }
+{}

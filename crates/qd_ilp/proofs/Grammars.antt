@@ -107,7 +107,7 @@ bound None f y e = absurd cc
 pub no_some : {A : Type 0} (y : A) → none ≡ some y → ⊥
 no_some y e = cc
 
-some_is : {A : Type 0} (x y : A) → some x ≡ some y → x ≡ y
+pub some_is : {A : Type 0} (x y : A) → some x ≡ some y → x ≡ y
 some_is x y e = cc
 
 pub some_both : {A B : Type 0} (a a' : A) (b b' : B) → some (tuple a b) ≡ some (tuple a' b') → (a ≡ a') × (b ≡ b')
@@ -117,7 +117,7 @@ pub begins_so : (b : ℕ) (text : List ℕ) → begins b text ≡ true → text 
 begins_so b [] h = absurd cc
 begins_so b (x ∷ xs) h = let same = eqb-true x b h in ap (λ (y : ℕ). let l : List ℕ = y ∷ xs in l) same
 
-begins_is : (b : ℕ) (more : List ℕ) → begins b (b ∷ more) ≡ true
+pub begins_is : (b : ℕ) (more : List ℕ) → begins b (b ∷ more) ≡ true
 begins_is b more = eq-eqb b b refl
 
 -- ---- quoted texts

@@ -9,3 +9,5 @@ pub mod Texts
 pub mod Wholes
 pub mod Grammars
 pub mod Parts
+pub mod Listed
+pub mod Tailed

@@ -1,8 +1,9 @@
 -- Laws: the reading from left to right gives what the grammar says, and nothing else.
-use Rattle.std.specs.Prelude.{◌≡◌, ℕ, Bool, false, List, Some, ◌↔◌}
+use Rattle.std.specs.Prelude.{◌≡◌, ℕ, Bool, true, false, List, Option, Some, ◌↔◌}
 use Rattle.qd_ilp.specs.Cut.{cut, word, closed}
-use Rattle.qd_ilp.specs.Line.{Item, item_at}
-use Rattle.qd_ilp.specs.Grammar.{Name, Word, Quoted, IsItem}
+use Rattle.qd_ilp.specs.Value.{Moment}
+use Rattle.qd_ilp.specs.Line.{Item, item_at, tags_at, tail_at}
+use Rattle.qd_ilp.specs.Grammar.{Name, Word, Quoted, IsItem, Items, Tail}
 
 -- A name, a value that is no text and a quoted text end where they are cut, and are what the cut gives.
 pub record PartsAreCut : Type 0 where
@@ -10,3 +11,5 @@ pub record PartsAreCut : Type 0 where
   pub words : (text w rest : List ℕ) → (word text ≡ (w, rest)) ↔ Word text w rest
   pub texts : (text quoted rest : List ℕ) → (closed false text ≡ Some (quoted, rest)) ↔ Quoted text quoted rest
   pub items : (tag : Bool) (text : List ℕ) (item : Item) (rest : List ℕ) → (item_at tag text ≡ Some (item, rest)) ↔ IsItem tag text item rest
+  pub tags : (text : List ℕ) (tags : List Item) (rest : List ℕ) → (tags_at text ≡ Some (tags, rest)) ↔ Items true text tags rest
+  pub tails : (text : List ℕ) (moment : Option Moment) (rest : List ℕ) → (tail_at text ≡ Some (moment, rest)) ↔ Tail text moment rest

@@ -35,7 +35,7 @@ not_true : (p : Bool) → not p ≡ true → p ≡ false
 not_true false h = refl
 not_true true h = absurd cc
 
-goes_on : (b : ℕ) (bs : List ℕ) → is_separator b ≡ false → (b == 10) ≡ false → (b == 13) ≡ false → stops (b ∷ bs) ≡ false
+pub goes_on : (b : ℕ) (bs : List ℕ) → is_separator b ≡ false → (b == 10) ≡ false → (b == 13) ≡ false → stops (b ∷ bs) ≡ false
 goes_on b bs separator lf cr = rw (separator, lf, cr) refl
 
 no_escape : (b : ℕ) (bs : List ℕ) → (b == 92) ≡ false → escapes is_special (b ∷ bs) ≡ false

@@ -11,3 +11,4 @@ pub mod Grammars
 pub mod Parts
 pub mod Listed
 pub mod Tailed
+pub mod Spelled

@@ -35,7 +35,7 @@ pub and_true : (p q : Bool) → (p && q) ≡ true → (p ≡ true) × (q ≡ tru
 and_true true q h = (refl, h)
 and_true false q h = absurd cc
 
-digit_low : (b : ℕ) → is_digit b ≡ true → (48 ≤ b) × (b ≤ 57)
+pub digit_low : (b : ℕ) → is_digit b ≡ true → (48 ≤ b) × (b ≤ 57)
 digit_low b h = let both = and_true (nat_le 48 b) (nat_le b 57) h in (leb-true 48 b both.0, leb-true b 57 both.1)
 
 capped_from : (ds : List ℕ) (n : ℕ) → list_all is_digit ds ≡ true → fold step (min CAP n) ds ≡ min CAP (fold (λ n b. 10 * n + (b - 48)) n ds)

@@ -109,7 +109,7 @@ tail_spelled text moment rest e =
           ]
     ]
 
-no_end : (text : List ℕ) → ends_word text ≡ false → at_end text ≡ false
+pub no_end : (text : List ℕ) → ends_word text ≡ false → at_end text ≡ false
 no_end [] h = h
 no_end (b ∷ bs) h = (or_false (b == 44 || b == 32) (at_end (b ∷ bs)) h).1
 

@@ -12,3 +12,4 @@ pub mod Parts
 pub mod Listed
 pub mod Tailed
 pub mod Spelled
+pub mod LineSpelled

@@ -28,7 +28,7 @@ quoted_takes text (b ∷ t) rest spelled =
       | inr plain ↦ let size = ap length plain.0 in omega (arith, size, again)
     ]
 
-word_takes : (text w rest : List ℕ) → Word text w rest → length rest ≤ length text
+pub word_takes : (text w rest : List ℕ) → Word text w rest → length rest ≤ length text
 word_takes text [] rest spelled = let size = ap length spelled.0 in omega (arith, size)
 word_takes text (b ∷ w) rest spelled =
     let again = word_takes spelled.0 w rest spelled.3 in
@@ -52,7 +52,7 @@ item_takes tag text i rest spelled =
     let value = value_takes tag spelled.0 i.value rest spelled.3 in
     omega (arith, name, value)
 
-items_take : (tag : Bool) (text : List ℕ) (is : List Item) (rest : List ℕ) → Items tag text is rest → length is + length rest ≤ length text
+pub items_take : (tag : Bool) (text : List ℕ) (is : List Item) (rest : List ℕ) → Items tag text is rest → length is + length rest ≤ length text
 items_take tag text [] rest spelled = let size = ap length spelled.0 in omega (arith, size)
 items_take tag text (i ∷ is) rest spelled =
     let again = items_take tag spelled.1 is rest spelled.4 in

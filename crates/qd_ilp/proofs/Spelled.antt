@@ -70,7 +70,7 @@ numeral_goes b bs h =
     let cr : (b == 13) ≡ false = ne_eqb b 13 (λ e. absurd (omega (arith, e, low))) in
     goes_on b bs (rw (comma, space, equals) refl) lf cr
 
-both_ways : (b : Bool) → b ≡ true → b ≡ false → ⊥
+pub both_ways : (b : Bool) → b ≡ true → b ≡ false → ⊥
 both_ways b yea nay = cc
 
 ends_stops : (text : List ℕ) → ends_word text ≡ true → stops text ≡ true
@@ -114,7 +114,7 @@ word_ended : (text w behind : List ℕ) → Word text w behind → ends_word beh
 word_ended text [] behind spelled = ap ends_word (sym spelled.0) ∙ spelled.1
 word_ended text (b ∷ w) behind spelled = word_ended spelled.0 w behind spelled.3
 
-no_stamp : (text : List ℕ) (i : Item) (next : List ℕ) → IsItem false text i next → stamp_at text ≡ none
+pub no_stamp : (text : List ℕ) (i : Item) (next : List ℕ) → IsItem false text i next → stamp_at text ≡ none
 unfolding stamp_at
 no_stamp text i next item =
     elim (cases_Bool (is_stamp (word text).0)) [
@@ -127,7 +127,7 @@ no_stamp text i next item =
       | inr other ↦ rw other refl
     ]
 
-name_goes : (text name rest : List ℕ) → Name text name rest → IsSome name → stops text ≡ false
+pub name_goes : (text name rest : List ℕ) → Name text name rest → IsSome name → stops text ≡ false
 name_goes text [] rest spelled some = absurd cc
 name_goes text (b ∷ name) rest spelled some = elim spelled.1 [ inl escaped ↦ ap stops escaped.0 | inr plain ↦ plain.1 ]
 

@@ -10,11 +10,11 @@ use Rattle.qd_ilp.proofs.Numbers.{and_true}
 use Rattle.qd_ilp.proofs.Cuts.{or_false}
 use Rattle.qd_ilp.proofs.Grammars.{chosen, some, none, bound, no_some, some_is, some_both, begins_so, word_of_text, word_is_cut}
 
-space_here : (b : ℕ) (bs : List ℕ) → (b == 32) ≡ true → after_spaces (b ∷ bs) ≡ after_spaces bs
+pub space_here : (b : ℕ) (bs : List ℕ) → (b == 32) ≡ true → after_spaces (b ∷ bs) ≡ after_spaces bs
 unfolding after_spaces
 space_here b bs h = rw h refl
 
-no_space : (b : ℕ) (bs : List ℕ) → (b == 32) ≡ false → after_spaces (b ∷ bs) ≡ b ∷ bs
+pub no_space : (b : ℕ) (bs : List ℕ) → (b == 32) ≡ false → after_spaces (b ∷ bs) ≡ b ∷ bs
 unfolding after_spaces
 no_space b bs h = rw h refl
 

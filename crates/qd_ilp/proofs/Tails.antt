@@ -26,15 +26,15 @@ spaces_done i text h space = let at = drop_more text i 0 h in ap after_spaces at
 pub spaces_over : (i : ℕ) (text : List ℕ) → length text ≤ i → after_spaces (drop i text) ≡ drop (length text) text
 spaces_over i text h = ap after_spaces (drop_all i text h) ∙ no_spaces ∙ sym (drop_all (length text) text (omega arith))
 
-end_here : (b : ℕ) (bs : List ℕ) → at_end (b ∷ bs) ≡ true → to_end (b ∷ bs) ≡ b ∷ bs
+pub end_here : (b : ℕ) (bs : List ℕ) → at_end (b ∷ bs) ≡ true → to_end (b ∷ bs) ≡ b ∷ bs
 unfolding to_end
 end_here b bs h = rw h refl
 
-no_end : (b : ℕ) (bs : List ℕ) → at_end (b ∷ bs) ≡ false → to_end (b ∷ bs) ≡ to_end bs
+pub no_end : (b : ℕ) (bs : List ℕ) → at_end (b ∷ bs) ≡ false → to_end (b ∷ bs) ≡ to_end bs
 unfolding to_end
 no_end b bs h = rw h refl
 
-nothing_left : to_end [] ≡ []
+pub nothing_left : to_end [] ≡ []
 unfolding to_end
 nothing_left = refl
 

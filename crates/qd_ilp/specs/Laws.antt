@@ -2,8 +2,8 @@
 use Rattle.std.specs.Prelude.{◌≡◌, ℕ, Bool, true, false, List, Option, Some, ◌↔◌}
 use Rattle.qd_ilp.specs.Cut.{cut, word, closed}
 use Rattle.qd_ilp.specs.Value.{Moment}
-use Rattle.qd_ilp.specs.Line.{Item, Row, item_at, tags_at, tail_at, row_at}
-use Rattle.qd_ilp.specs.Grammar.{Name, Word, Quoted, IsItem, Items, Tail, IsRow}
+use Rattle.qd_ilp.specs.Line.{Item, Row, item_at, tags_at, tail_at, row_at, Line, read_line}
+use Rattle.qd_ilp.specs.Grammar.{Name, Word, Quoted, IsItem, Items, Tail, IsRow, ReadsLine}
 
 -- A name, a value that is no text and a quoted text end where they are cut, and are what the cut gives.
 pub record PartsAreCut : Type 0 where
@@ -14,3 +14,4 @@ pub record PartsAreCut : Type 0 where
   pub tags : (text : List ℕ) (tags : List Item) (rest : List ℕ) → (tags_at text ≡ Some (tags, rest)) ↔ Items true text tags rest
   pub tails : (text : List ℕ) (moment : Option Moment) (rest : List ℕ) → (tail_at text ≡ Some (moment, rest)) ↔ Tail text moment rest
   pub rows : (text : List ℕ) (row : Row) (rest : List ℕ) → (row_at text ≡ Some (row, rest)) ↔ IsRow text row rest
+  pub lines : (text : List ℕ) (line : Line) (rest : List ℕ) → (read_line text ≡ Some (line, rest)) ↔ ReadsLine text line rest

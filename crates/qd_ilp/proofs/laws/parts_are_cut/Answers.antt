@@ -3,6 +3,7 @@ use Rattle.qd_ilp.proofs.Parts.{item_spelled, item_is}
 use Rattle.qd_ilp.proofs.Listed.{tags_spelled, tags_are}
 use Rattle.qd_ilp.proofs.Tailed.{tail_spelled, tail_is}
 use Rattle.qd_ilp.proofs.Spelled.{row_spelled, row_is}
+use Rattle.qd_ilp.proofs.LineSpelled.{read_spelled, read_is}
 use Rattle.qd_ilp.proofs.laws.parts_are_cut.Goals as goal
 
 pub returns : goal.returns
@@ -15,5 +16,6 @@ returns c = record {
     tags = λ text tags rest. (tags_spelled text tags rest, tags_are text tags rest);
     tails = λ text moment rest. (tail_spelled text moment rest, tail_is text moment rest);
     rows = λ text row rest. (row_spelled text row rest, row_is text row rest);
+    lines = λ text line rest. (read_spelled text line rest, read_is text line rest);
   };
 }

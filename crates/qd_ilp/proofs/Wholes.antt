@@ -1,5 +1,5 @@
 -- Reading line after line.
-use Rattle.std.proofs.Common.{◌≡◌, ℕ, ◌+◌, ◌-◌, ◌<◌, ◌≤◌, Bool, true, false, List, [], ◌∷◌, ◌++◌, length, length-append, length-drop, take, drop, refl, sym, ap, subst, ◌∙◌, Option, Some, None, append_assoc, map, arith}
+use Rattle.std.proofs.Common.{◌≡◌, ℕ, zero, suc, ◌+◌, ◌-◌, ◌<◌, ◌≤◌, Bool, true, false, List, [], ◌∷◌, ◌++◌, length, length-append, length-drop, take, drop, refl, sym, ap, subst, ◌∙◌, Option, Some, None, append_assoc, map, arith}
 use Rattle.std.specs.Prelude.{is_none, option_map, ◌||◌, ◌&&◌, ◌==◌}
 use Rattle.std.specs.List.{AllByRecursion, list_any}
 use Rattle.std.proofs.lemmas.Bool.{eqb-false, eqb-true}
@@ -15,6 +15,9 @@ use Rattle.qd_ilp.specs.Line.{Item, Row, Line, Blank, Gives, read_line}
 use Rattle.qd_ilp.specs.Kept.{bytes_in, item_in, moment_in, PairFits}
 use Rattle.qd_ilp.specs.Whole.{pairs_in, row_in, line_in, HeadFits, LineFits, BeginsWith, Reading, EndsSo, IsReading, is_timeless, is_timeless_kept, lacks_time}
 use Rattle.qd_ilp.proofs.Kepts.{grow_span, grow_pairs, each_append}
+use Rattle.qd_ilp.specs.Grammar.{ReadsLine}
+use Rattle.qd_ilp.proofs.Grammars.{no_some, some_both, some, none}
+use Rattle.qd_ilp.proofs.LineSpelled.{read_spelled, read_is, lined, line_takes}
 use Rattle.qd_ilp.proofs.Rows.{row_is}
 
 same_pairs : (before now : List Pair) (head : Head) → Grows before now → head.first ≤ head.end → head.end ≤ length before → pairs_in now head ≡ pairs_in before head
@@ -53,9 +56,9 @@ grow_lines a b p q (line ∷ lines) bytes pairs fits =
     let tail = grow_lines a b p q lines bytes pairs fits.1 in
     (lines_are (line_in b q line) (line_in a p line) (map (line_in b q) lines) (map (line_in a p) lines) head.0 tail.0, (head.1, tail.1))
 
-pub one_more : (text : List ℕ) (lines : List Line) (line : Line) (rest behind : List ℕ) → BeginsWith text lines rest → 0 < length rest → read_line rest ≡ Some (line, behind) → BeginsWith text (lines ++ line ∷ []) behind
+pub one_more : (text : List ℕ) (lines : List Line) (line : Line) (rest behind : List ℕ) → BeginsWith text lines rest → 0 < length rest → ReadsLine rest line behind → BeginsWith text (lines ++ line ∷ []) behind
 one_more text [] line rest behind whole some read =
-    let P : List ℕ → Type 0 = λ t. (0 < length t) × (b : List ℕ) × (read_line t ≡ Some (line, b)) × (b ≡ behind) in
+    let P : List ℕ → Type 0 = λ t. (0 < length t) × (b : List ℕ) × ReadsLine t line b × (b ≡ behind) in
     subst P (sym whole) (some, behind, read, refl)
 one_more text (l ∷ ls) line rest behind begins some read = (begins.0, begins.1, begins.2, one_more begins.1 ls line rest behind begins.3 some read)
 
@@ -70,7 +73,7 @@ step_on text a b p q lines lines' line rest behind step bytes pairs some read fi
     let grown = grow_lines a b p q lines bytes pairs step.fit in
     let P : List Line → Type 0 = λ ls. BeginsWith text ls behind in
     let Q : List KeptLine → Type 0 = AllByRecursion (LineFits b q) in
-    let more = one_more text (map (line_in a p) lines) (line_in b q line) rest behind step.so_far some read in
+    let more = one_more text (map (line_in a p) lines) (line_in b q line) rest behind step.so_far some (read_spelled rest (line_in b q line) behind read) in
     let same : map (line_in b q) lines' ≡ map (line_in a p) lines ++ line_in b q line ∷ [] = ap (map (line_in b q)) pushed ∙ map-append (line_in b q) lines (line ∷ []) ∙ ap (λ (ls : List Line). ls ++ line_in b q line ∷ []) grown.0 in
     record {
       so_far = subst P (sym same) more;
@@ -109,3 +112,59 @@ reading_of lines whole = record { lines = lines; whole = whole }
 pub lacks_is : (a : List ℕ) (p : List Pair) (lines : List KeptLine) (whole b : Bool) (r : Reading) → reading_of (map (line_in a p) lines) whole ≡ r → whole ≡ true → b ≡ list_any is_timeless_kept lines → b ≡ lacks_time r
 lacks_is a p lines whole b r is all any =
     any ∙ sym (any_timeless a p lines) ∙ ap (λ (w : Bool). w && list_any is_timeless (map (line_in a p) lines)) (sym all) ∙ ap lacks_time is
+
+pub no_line : (rest : List ℕ) → 0 < length rest → read_line rest ≡ None → EndsSo false rest
+no_line rest something unread = (something, λ line behind spelled. no_some (lined line behind) (sym unread ∙ read_is rest line behind spelled))
+
+-- ---- a text is read in one way at most
+
+same_lines : (i j : Line) (is js : List Line) (w v : Bool) → i ≡ j → (is ≡ js) × (w ≡ v) → (i ∷ is ≡ j ∷ js) × (w ≡ v)
+same_lines i j is js w v head tail = (lines_are i j is js head tail.0, tail.1)
+
+ends_alike : (rest : List ℕ) (w v : Bool) → EndsSo w rest → EndsSo v rest → w ≡ v
+ends_alike rest true true a b = refl
+ends_alike rest true false a b = let size = ap length a in absurd (omega (arith, size, b.0))
+ends_alike rest false true a b = let size = ap length b in absurd (omega (arith, size, a.0))
+ends_alike rest false false a b = refl
+
+no_more : (text : List ℕ) (w : Bool) (line : Line) (behind : List ℕ) → EndsSo w text → 0 < length text → ReadsLine text line behind → ⊥
+no_more text true line behind ends something spelled = let size = ap length ends in absurd (omega (arith, size, something))
+no_more text false line behind ends something spelled = ends.1 line behind spelled
+
+pub one_reading : (text : List ℕ) (is js : List Line) (rest rest' : List ℕ) (w v : Bool) → BeginsWith text is rest → EndsSo w rest → BeginsWith text js rest' → EndsSo v rest' → (is ≡ js) × (w ≡ v)
+one_reading text [] [] rest rest' w v a ea b eb =
+    let P : List ℕ → Type 0 = EndsSo w in
+    let Q : List ℕ → Type 0 = EndsSo v in
+    (refl, ends_alike text w v (subst P (sym a) ea) (subst Q (sym b) eb))
+one_reading text [] (j ∷ js) rest rest' w v a ea b eb =
+    let P : List ℕ → Type 0 = EndsSo w in
+    absurd (no_more text w j b.1 (subst P (sym a) ea) b.0 b.2)
+one_reading text (i ∷ is) [] rest rest' w v a ea b eb =
+    let P : List ℕ → Type 0 = EndsSo v in
+    absurd (no_more text v i a.1 (subst P (sym b) eb) a.0 a.2)
+one_reading text (i ∷ is) (j ∷ js) rest rest' w v a ea b eb =
+    let both = some_both i j a.1 b.1 (sym (read_is text i a.1 a.2) ∙ read_is text j b.1 b.2) in
+    let P : List ℕ → Type 0 = λ t. BeginsWith t is rest in
+    same_lines i j is js w v both.0 (one_reading b.1 is js rest rest' w v (subst P both.1 a.3) ea b.3 eb)
+
+pub readings_are_one : (text : List ℕ) (a b : Reading) → IsReading text a → IsReading text b → a ≡ b
+readings_are_one text a b ra rb =
+    let both = one_reading text a.lines b.lines ra.0 rb.0 a.whole b.whole ra.1 ra.2 rb.1 rb.2 in
+    ap (λ (ls : List Line). reading_of ls a.whole) both.0 ∙ ap (reading_of b.lines) both.1
+
+-- ---- every text is read
+
+read_so : (n : ℕ) (text : List ℕ) → length text ≤ n → (o : Option (Line × List ℕ)) → read_line text ≡ o → 0 < length text → ((behind : List ℕ) → length behind < length text → (r : Reading) × IsReading behind r) → (r : Reading) × IsReading text r
+read_so n text few None unread something again = (reading_of [] false, (text, refl, no_line text something unread))
+read_so n text few (Some l) found something again =
+    let spelled = read_spelled text l.0 l.1 found in
+    let rest = again l.1 (line_takes text l.0 l.1 something spelled.0) in
+    (reading_of (l.0 ∷ rest.0.lines) rest.0.whole, (rest.1.0, (something, l.1, spelled, rest.1.1), rest.1.2))
+
+reads_within : (n : ℕ) (text : List ℕ) → length text ≤ n → (r : Reading) × IsReading text r
+reads_within n [] few = (reading_of [] true, ([], refl, refl))
+reads_within zero (b ∷ bs) few = absurd (omega (arith, few))
+reads_within (suc n) (b ∷ bs) few = read_so (suc n) (b ∷ bs) few (read_line (b ∷ bs)) refl (omega arith) (λ behind less. reads_within n behind (omega (arith, few, less)))
+
+pub every_text_is_read : (text : List ℕ) → (r : Reading) × IsReading text r
+every_text_is_read text = reads_within (length text) text (omega arith)

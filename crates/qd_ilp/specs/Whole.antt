@@ -5,7 +5,8 @@ use Rattle.qd_ilp.specs.declared.item.Pair.{Pair}
 use Rattle.qd_ilp.specs.declared.row.Head.{Head}
 use Rattle.qd_ilp.specs.declared.row.KeptLine.{KeptLine}
 use Rattle.qd_ilp.specs.declared.row.KeptLine.TheVariants as kept
-use Rattle.qd_ilp.specs.Line.{Line, Row, Item, Blank, Gives, read_line}
+use Rattle.qd_ilp.specs.Line.{Line, Row, Item, Blank, Gives}
+use Rattle.qd_ilp.specs.Grammar.{ReadsLine}
 use Rattle.qd_ilp.specs.Kept.{bytes_in, item_in, moment_in, SpanFits, PairFits}
 
 -- the pairs of a row
@@ -30,10 +31,11 @@ abbrev pub LineFits : List ℕ → List Pair → KeptLine → Type 0
 LineFits bytes pairs kept.Blank = Unit {0}
 LineFits bytes pairs (kept.Row head) = HeadFits bytes pairs head
 
--- the text is these lines, each with its end, and then the rest
+-- The text is these lines, each with its end, and then the rest. Their numbers are their places, counted from 1. The
+-- last line may have no end; it isn't empty then.
 abbrev pub BeginsWith : List ℕ → List Line → List ℕ → Type 0
 BeginsWith text [] rest = text ≡ rest
-BeginsWith text (line ∷ lines) rest = (0 < length text) × (behind : List ℕ) × (read_line text ≡ Some (line, behind)) × BeginsWith behind lines rest
+BeginsWith text (line ∷ lines) rest = (0 < length text) × (behind : List ℕ) × ReadsLine text line behind × BeginsWith behind lines rest
 
 -- The lines of a text up to its end, or up to the first that is no line.
 pub record Reading : Type 0 where
@@ -43,7 +45,7 @@ pub record Reading : Type 0 where
 -- all of the text was read; or what is left begins with no line
 abbrev pub EndsSo : Bool → List ℕ → Type 0
 EndsSo true rest = rest ≡ []
-EndsSo false rest = (0 < length rest) × (read_line rest ≡ None)
+EndsSo false rest = (0 < length rest) × ((line : Line) (behind : List ℕ) → ReadsLine rest line behind → ⊥)
 
 abbrev pub IsReading : List ℕ → Reading → Type 0
 IsReading text reading = (rest : List ℕ) × BeginsWith text reading.lines rest × EndsSo reading.whole rest

@@ -1,5 +1,5 @@
 use Rattle.std.proofs.Common.{refl, sym}
-use Rattle.qd_ilp.proofs.Wholes.{step_on, step_fault, not_empty}
+use Rattle.qd_ilp.proofs.Wholes.{step_on, step_fault, not_empty, no_line}
 use Rattle.qd_ilp.proofs.batch.parse_batch.Goals as goal
 
 pub loop-rest-preserved : goal.loop-rest-preserved
@@ -12,6 +12,6 @@ invariant_of-result c = (step_fault c.args.text.now _ _ _ _ c.loop-rest.lines.it
 
 pub returns-in-Err-Syntax : goal.returns-in-Err-Syntax
 returns-in-Err-Syntax c =
-    let none = rw c.in-Err-Syntax.field-0-is at c.in-Err-Syntax.ensures.line in
+    let unread = rw c.in-Err-Syntax.field-0-is at c.in-Err-Syntax.ensures.line in
     let step = step_fault c.args.text.now _ _ _ _ c.loop-rest.lines.items c.loop-rest.rest.now c.loop-rest.invariant c.in-Err-Syntax.ensures.grows c.in-Err-Syntax.ensures.pairs in
-    record { reading = (c.loop-rest.rest.now, step.so_far, (not_empty c.loop-rest.rest.now _ c.is_empty.ensures c.loop-rest-test.true, none)) }
+    record { reading = (c.loop-rest.rest.now, step.so_far, no_line c.loop-rest.rest.now (not_empty c.loop-rest.rest.now _ c.is_empty.ensures c.loop-rest-test.true) unread) }

@@ -1,8 +1,8 @@
 -- Cutting byte by byte, as loops do.
-use Rattle.std.proofs.Common.{◌≡◌, ℕ, ◌+◌, ◌<◌, ◌≤◌, Bool, true, false, cond, List, [], ◌∷◌, ◌++◌, length, length-append, get_or, take, drop, refl, sym, ap, ◌∙◌, append_assoc, Option, Some, None, arith}
+use Rattle.std.proofs.Common.{◌≡◌, ℕ, ◌+◌, ◌<◌, ◌≤◌, Bool, true, false, List, [], ◌∷◌, ◌++◌, length, length-append, get_or, take, drop, refl, sym, ap, ◌∙◌, append_assoc, Option, Some, None, arith}
 use Rattle.std.specs.Prelude.{not, ◌&&◌, ◌==◌, ◌||◌, if◌then◌else◌}
 use Rattle.std.proofs.lemmas.List.{drop_more, take_more, drop_all, take_all, append-nil}
-use Rattle.qd_ilp.specs.Cut.{◌>>=◌, at_end, is_special, is_quoted_special, is_plain, is_separator, stops, escapes, ends_word, fronted, cut, word, closed, closed_behind}
+use Rattle.qd_ilp.specs.Cut.{◌>>=◌, is_special, is_quoted_special, is_plain, is_separator, stops, escapes, ends_word, fronted, cut, word, closed, closed_behind}
 
 pub fronted_twice : (a b : List ℕ) (c : List ℕ × List ℕ) → fronted a (fronted b c) ≡ fronted (a ++ b) c
 fronted_twice a b c = ap (λ (l : List ℕ). let p : List ℕ × List ℕ = (l, c.1) in p) (sym (append_assoc a b c.0))

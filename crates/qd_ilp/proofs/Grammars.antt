@@ -1,13 +1,11 @@
 -- What is read is spelled so, and what is spelled so is read.
-use Rattle.std.proofs.Common.{◌≡◌, ◌≢◌, ℕ, suc, ◌+◌, ◌-◌, ◌<◌, ◌≤◌, Bool, true, false, List, [], ◌∷◌, ◌++◌, length, take, drop, refl, sym, ap, subst, ◌∙◌, Option, Some, None, inl, inr, arith}
-use Rattle.std.specs.Prelude.{not, ◌||◌, ◌&&◌, ◌==◌, ◌⊎◌, if◌then◌else◌}
+use Rattle.std.proofs.Common.{◌≡◌, ℕ, Bool, true, false, List, [], ◌∷◌, drop, refl, sym, ap, subst, ◌∙◌, Option, Some, None, inl, inr}
+use Rattle.std.specs.Prelude.{◌==◌, ◌⊎◌, if◌then◌else◌}
 use Rattle.std.proofs.lemmas.Bool.{cases_Bool, eqb-true, eq-eqb}
-use Rattle.qd_ilp.specs.Cut.{◌>>=◌, fronted, begins, at_end, is_special, is_quoted_special, escapes, stops, ends_word, cut, word, closed, closed_behind}
-use Rattle.qd_ilp.specs.Value.{Value, Tag, Text, bare, is_empty}
-use Rattle.qd_ilp.specs.Line.{Item, value_at, item_at, items_at}
-use Rattle.qd_ilp.specs.Grammar.{NameByte, Name, QuotedByte, Quoted, Word, IsSome, TagValue, FieldValue, HasValue, IsItem, Items, Parted}
+use Rattle.qd_ilp.specs.Cut.{◌>>=◌, fronted, begins, is_special, is_quoted_special, escapes, stops, ends_word, cut, word, closed}
+use Rattle.qd_ilp.specs.Grammar.{Name, QuotedByte, Quoted, Word}
 use Rattle.qd_ilp.proofs.Numbers.{and_true}
-use Rattle.qd_ilp.proofs.Cuts.{cut_stops, cut_goes, word_ends, word_goes, closed_here, closed_goes}
+use Rattle.qd_ilp.proofs.Cuts.{cut_stops, cut_goes, word_ends, word_goes}
 
 -- ---- names
 

@@ -1,12 +1,12 @@
 -- What a batch keeps stays what it is while its buffer grows.
-use Rattle.std.proofs.Common.{◌≡◌, ◌≢◌, ℕ, ◌+◌, ◌-◌, ◌<◌, ◌≤◌, Bool, true, false, List, [], ◌∷◌, ◌++◌, length, length-append, length-drop, take, drop, refl, sym, ap, subst, ◌∙◌, append_assoc, map, arith}
+use Rattle.std.proofs.Common.{◌≡◌, ◌≢◌, ℕ, ◌+◌, ◌-◌, ◌≤◌, true, false, List, [], ◌∷◌, ◌++◌, length, length-append, length-drop, take, drop, refl, sym, ap, ◌∙◌, append_assoc, map, arith}
 use Rattle.std.proofs.lemmas.List.{append-nil, take-append-le, drop-append-le, drop_at, map-append, take_all}
 use Rattle.std.specs.List.{AllByRecursion}
 use Rattle.qd_ilp.specs.declared.value.Span.{Span}
 use Rattle.qd_ilp.specs.declared.value.Kept.{Kept}
 use Rattle.qd_ilp.specs.declared.value.Kept.TheVariants as kept
 use Rattle.qd_ilp.specs.declared.item.Pair.{Pair}
-use Rattle.qd_ilp.specs.Value.{Value, Tag, Text, Long, Huge, Truth, Other, is_empty}
+use Rattle.qd_ilp.specs.Value.{Value, Tag, Text, is_empty}
 use Rattle.qd_ilp.specs.Line.{Item}
 use Rattle.qd_ilp.specs.Kept.{bytes_in, SpanFits, value_in, ValueFits, Puts, item_in, PairFits, PutsItems}
 use Rattle.qd_ilp.specs.Cut.{Grows}

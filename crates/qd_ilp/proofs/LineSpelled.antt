@@ -1,16 +1,16 @@
 -- Lines: what is read is spelled so, what is spelled so is read, and each line takes bytes.
-use Rattle.std.proofs.Common.{◌≡◌, ℕ, zero, suc, ◌+◌, ◌-◌, ◌<◌, ◌≤◌, Bool, true, false, List, [], ◌∷◌, ◌++◌, length, length-append, take, drop, refl, sym, ap, subst, ◌∙◌, Option, Some, None, inl, inr, arith}
-use Rattle.std.specs.Prelude.{not, ◌||◌, ◌&&◌, ◌==◌, if◌then◌else◌}
+use Rattle.std.proofs.Common.{◌≡◌, ℕ, zero, suc, ◌+◌, ◌-◌, ◌<◌, ◌≤◌, Bool, true, false, List, [], ◌∷◌, ◌++◌, length, length-append, take, refl, sym, ap, subst, ◌∙◌, Option, Some, None, inl, inr, arith}
+use Rattle.std.specs.Prelude.{◌||◌, ◌==◌, if◌then◌else◌}
 use Rattle.std.specs.Str.{is_utf8}
 use Rattle.std.proofs.lemmas.Bool.{cases_Bool}
 use Rattle.qd_ilp.specs.Cut.{◌>>=◌, begins, at_end, stops}
-use Rattle.qd_ilp.specs.Value.{Moment, is_empty}
+use Rattle.qd_ilp.specs.Value.{Moment}
 use Rattle.qd_ilp.specs.Line.{Item, Row, Line, Blank, Gives, after_spaces, behind_end, row_at, to_end, line_at, read_line}
-use Rattle.qd_ilp.specs.Grammar.{Name, IsSome, spaces, Spaced, EndsLine, Tail, Fields, IsRow, Comment, IsLine, ReadsLine}
+use Rattle.qd_ilp.specs.Grammar.{IsSome, spaces, Spaced, EndsLine, Tail, Fields, IsRow, Comment, IsLine, ReadsLine}
 use Rattle.qd_ilp.proofs.Grammars.{chosen, some, none, bound, no_some, some_both}
 use Rattle.qd_ilp.proofs.Listed.{name_takes, word_takes, items_take, parted_takes}
 use Rattle.qd_ilp.proofs.Tails.{end_here, no_end, nothing_left}
-use Rattle.qd_ilp.proofs.Tailed.{spaced_of, spaced_is, ends_spelled, ends_is, ends_there, space_here, no_space}
+use Rattle.qd_ilp.proofs.Tailed.{spaced_of, spaced_is, ends_spelled, ends_is, ends_there, no_space}
 use Rattle.qd_ilp.proofs.Spelled.{row_spelled, row_is, name_goes, both_ways}
 
 -- ---- comments

@@ -1,13 +1,12 @@
 -- Reading the parts of a line, step by step.
-use Rattle.std.proofs.Common.{◌≡◌, ◌≢◌, ℕ, suc, ◌+◌, ◌-◌, ◌<◌, ◌≤◌, Bool, true, false, List, [], ◌∷◌, ◌++◌, length, take, drop, refl, sym, ap, subst, ◌∙◌, Option, Some, None, append_assoc, arith}
-use Rattle.std.specs.Prelude.{not, ◌||◌, ◌&&◌, ◌==◌, if◌then◌else◌}
+use Rattle.std.proofs.Common.{◌≡◌, ◌≢◌, ℕ, suc, ◌+◌, ◌-◌, ◌<◌, ◌≤◌, Bool, true, false, List, [], ◌∷◌, ◌++◌, length, drop, refl, sym, ap, ◌∙◌, Option, Some, None, append_assoc, arith}
+use Rattle.std.specs.Prelude.{not, ◌||◌, ◌==◌, if◌then◌else◌}
 use Rattle.std.proofs.lemmas.Bool.{ne_eqb}
-use Rattle.std.proofs.lemmas.List.{append-nil}
 use Rattle.qd_ilp.specs.declared.stop.Stop.{Stop}
 use Rattle.qd_ilp.specs.declared.stop.Stop.TheVariants as stop
 use Rattle.qd_ilp.specs.declared.value.Span.{Span}
-use Rattle.qd_ilp.specs.Cut.{◌>>=◌, Fails, begins, at_end, cut, word, closed}
-use Rattle.qd_ilp.specs.Value.{Value, Tag, Text, Moment, bare, is_empty, is_stamp, stamp}
+use Rattle.qd_ilp.specs.Cut.{◌>>=◌, Fails, begins, cut, word, closed}
+use Rattle.qd_ilp.specs.Value.{Value, Tag, Text, bare, is_empty}
 use Rattle.qd_ilp.specs.Line.{Item, value_at, item_at, items_at}
 use Rattle.qd_ilp.specs.Kept.{Puts, bytes_in}
 use Rattle.qd_ilp.proofs.Kepts.{puts_in, empty_span}

@@ -1,10 +1,10 @@
 -- Lists of tags and fields: what is read is spelled so, and what is spelled so is read.
-use Rattle.std.proofs.Common.{◌≡◌, ℕ, zero, suc, ◌+◌, ◌-◌, ◌<◌, ◌≤◌, Bool, true, false, List, [], ◌∷◌, ◌++◌, length, take, drop, refl, sym, ap, subst, ◌∙◌, Option, Some, None, inl, inr, arith}
-use Rattle.std.specs.Prelude.{not, ◌||◌, ◌&&◌, ◌==◌, if◌then◌else◌}
+use Rattle.std.proofs.Common.{◌≡◌, ℕ, zero, suc, ◌+◌, ◌<◌, ◌≤◌, Bool, true, false, List, [], ◌∷◌, length, drop, refl, sym, ap, subst, ◌∙◌, Option, Some, inl, inr, arith}
+use Rattle.std.specs.Prelude.{if◌then◌else◌}
 use Rattle.qd_ilp.specs.Cut.{◌>>=◌, begins}
 use Rattle.qd_ilp.specs.Value.{Value}
 use Rattle.qd_ilp.specs.Line.{Item, item_at, items_at, tags_at}
-use Rattle.qd_ilp.specs.Grammar.{Name, Quoted, Word, IsSome, HasValue, IsItem, Items, Parted}
+use Rattle.qd_ilp.specs.Grammar.{Name, Quoted, Word, HasValue, IsItem, Items, Parted}
 use Rattle.qd_ilp.proofs.Grammars.{chosen, some, none, bound, no_some, some_both, begins_so, begins_is}
 use Rattle.qd_ilp.proofs.Parts.{item_spelled, item_is, itemed}
 

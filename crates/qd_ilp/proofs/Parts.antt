@@ -1,11 +1,10 @@
 -- Values, tags and fields: what is read is spelled so, and what is spelled so is read.
-use Rattle.std.proofs.Common.{◌≡◌, ℕ, zero, suc, ◌+◌, ◌-◌, ◌<◌, ◌≤◌, Bool, true, false, List, [], ◌∷◌, ◌++◌, length, take, drop, refl, sym, ap, subst, ◌∙◌, Option, Some, None, inl, inr, arith}
-use Rattle.std.specs.Prelude.{not, ◌||◌, ◌&&◌, ◌==◌, if◌then◌else◌}
-use Rattle.std.proofs.lemmas.Bool.{cases_Bool, eqb-true, eq-eqb}
-use Rattle.qd_ilp.specs.Cut.{◌>>=◌, fronted, begins, cut, word, closed}
+use Rattle.std.proofs.Common.{◌≡◌, ℕ, Bool, true, false, List, ◌∷◌, drop, refl, sym, ap, subst, ◌∙◌, Some, inl, inr}
+use Rattle.std.specs.Prelude.{not, ◌||◌, if◌then◌else◌}
+use Rattle.qd_ilp.specs.Cut.{◌>>=◌, begins, cut, word, closed}
 use Rattle.qd_ilp.specs.Value.{Value, Tag, Text, bare, is_empty}
-use Rattle.qd_ilp.specs.Line.{Item, value_at, item_at, items_at}
-use Rattle.qd_ilp.specs.Grammar.{Name, Quoted, Word, IsSome, TagValue, FieldValue, HasValue, IsItem, Items, Parted}
+use Rattle.qd_ilp.specs.Line.{Item, value_at, item_at}
+use Rattle.qd_ilp.specs.Grammar.{Name, Quoted, Word, IsSome, HasValue, IsItem}
 use Rattle.qd_ilp.proofs.Cuts.{or_false}
 use Rattle.qd_ilp.proofs.Grammars.{chosen, some, none, bound, no_some, some_both, begins_so, name_of_text, name_is, word_of_text, word_is_cut, quoted_spelled, quoted_is}
 
@@ -77,8 +76,7 @@ item_spelled tag text i rest e =
           let equals : (cut false text).1 ≡ 61 ∷ drop 1 (cut false text).1 = begins_so 61 (cut false text).1 (not_false (begins 61 (cut false text).1) both.1) in
           let P : List ℕ → Type 0 = λ l. Name text l (61 ∷ drop 1 (cut false text).1) in
           let Q : List ℕ → Type 0 = λ l. Name text (cut false text).0 l in
-          let R : List ℕ → Type 0 = IsSome in
-          (
+          let R : List ℕ → Type 0 = IsSome in (
             drop 1 (cut false text).1,
             subst P name (subst Q equals (name_of_text text)),
             subst R name both.0,

@@ -1,21 +1,20 @@
 -- Reading a line that gives a row.
-use Rattle.std.proofs.Common.{◌≡◌, ◌≢◌, ℕ, ◌+◌, ◌-◌, ◌<◌, ◌≤◌, Bool, true, false, List, [], ◌∷◌, ◌++◌, length, length-append, take, drop, refl, sym, ap, subst, ◌∙◌, Option, Some, None, append_assoc, map, arith}
-use Rattle.std.specs.Prelude.{if◌then◌else◌, not, option_map}
+use Rattle.std.proofs.Common.{◌≡◌, ◌≢◌, ℕ, ◌+◌, ◌-◌, true, false, List, [], ◌∷◌, ◌++◌, length, length-append, take, drop, refl, sym, ap, subst, ◌∙◌, Option, Some, None, append_assoc, map, arith}
+use Rattle.std.specs.Prelude.{if◌then◌else◌, option_map}
 use Rattle.std.specs.List.{AllByRecursion}
-use Rattle.std.proofs.lemmas.List.{append-nil, drop_at, take_all, map-append}
+use Rattle.std.proofs.lemmas.List.{drop_at, take_all, map-append}
 use Rattle.qd_ilp.specs.declared.stop.Stop.{Stop}
 use Rattle.qd_ilp.specs.declared.stop.Stop.TheVariants as stop
 use Rattle.qd_ilp.specs.declared.value.Span.{Span}
-use Rattle.qd_ilp.specs.declared.value.When.{When}
 use Rattle.qd_ilp.specs.declared.item.Pair.{Pair}
 use Rattle.qd_ilp.specs.declared.row.Head.{Head}
-use Rattle.qd_ilp.specs.Cut.{◌>>=◌, Fails, Grows, begins, at_end, cut}
+use Rattle.qd_ilp.specs.Cut.{◌>>=◌, Fails, begins, cut}
 use Rattle.qd_ilp.specs.Value.{Moment, is_empty}
-use Rattle.qd_ilp.specs.Line.{Item, Row, Rest, items_at, after_spaces, behind_end, tail_at, tags_at, or_else, fields_at, rest_at, row_at}
+use Rattle.qd_ilp.specs.Line.{Item, Row, Rest, items_at, after_spaces, tail_at, tags_at, fields_at, rest_at, row_at}
 use Rattle.qd_ilp.specs.Kept.{Puts, bytes_in, item_in, moment_in, SpanFits, PairFits, PutsItems}
 use Rattle.qd_ilp.specs.Whole.{pairs_in, row_in, HeadFits}
 use Rattle.qd_ilp.proofs.Growing.{grows_twice}
-use Rattle.qd_ilp.proofs.Kepts.{puts_in, puts_fits, empty_span, grow_span, grow_pairs, each_append}
+use Rattle.qd_ilp.proofs.Kepts.{empty_span, grow_pairs, each_append}
 
 abbrev pub rest_of : List Item → Option Moment → List ℕ → Rest
 rest_of fields moment after = record { fields = fields; moment = moment; after = after }

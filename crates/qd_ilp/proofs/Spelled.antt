@@ -1,18 +1,17 @@
 -- Rows and lines: what is read is spelled so, and what is spelled so is read.
-use Rattle.std.proofs.Common.{◌≡◌, ◌≢◌, ℕ, zero, suc, ◌+◌, ◌-◌, ◌<◌, ◌≤◌, Bool, true, false, List, [], ◌∷◌, ◌++◌, length, take, drop, get_or, refl, sym, ap, subst, ◌∙◌, Option, Some, None, inl, inr, arith}
+use Rattle.std.proofs.Common.{◌≡◌, ℕ, ◌≤◌, Bool, true, false, List, [], ◌∷◌, ◌++◌, length, drop, get_or, refl, sym, ap, subst, ◌∙◌, Option, Some, None, inl, inr, arith}
 use Rattle.std.specs.Prelude.{not, ◌||◌, ◌&&◌, ◌==◌, if◌then◌else◌}
 use Rattle.std.specs.List.{list_all}
-use Rattle.std.specs.Str.{is_utf8}
-use Rattle.std.proofs.lemmas.Bool.{cases_Bool, eqb-true, eq-eqb, ne_eqb}
+use Rattle.std.proofs.lemmas.Bool.{cases_Bool, eqb-true, ne_eqb}
 use Rattle.qd_ilp.specs.Cut.{◌>>=◌, begins, at_end, ends_word, stops, cut, word}
-use Rattle.qd_ilp.specs.Value.{Moment, is_stamp, stamp, is_empty, is_digit, unsigned}
-use Rattle.qd_ilp.specs.Line.{Item, Row, Line, Blank, Gives, Rest, or_else, after_spaces, behind_end, stamp_at, tail_at, items_at, tags_at, fields_at, rest_at, row_at, to_end, line_at, read_line}
-use Rattle.qd_ilp.specs.Grammar.{Name, Word, IsSome, IsItem, Items, Parted, spaces, Spaced, EndsLine, Tail, Fields, IsRow, Comment, IsLine, ReadsLine}
+use Rattle.qd_ilp.specs.Value.{Moment, is_stamp, is_empty, is_digit, unsigned}
+use Rattle.qd_ilp.specs.Line.{Item, Row, Rest, after_spaces, stamp_at, tail_at, items_at, tags_at, fields_at, rest_at, row_at}
+use Rattle.qd_ilp.specs.Grammar.{Name, Word, IsSome, IsItem, Parted, Spaced, Tail, Fields, IsRow}
 use Rattle.qd_ilp.proofs.Numbers.{and_true, digit_low}
 use Rattle.qd_ilp.proofs.Cuts.{or_false, goes_on}
-use Rattle.qd_ilp.proofs.Grammars.{chosen, some, none, bound, no_some, some_is, some_both, begins_so, name_of_text, name_is, word_of_text}
-use Rattle.qd_ilp.proofs.Listed.{items_spelled, items_are, parted_takes, tags_spelled, tags_are, listed}
-use Rattle.qd_ilp.proofs.Tailed.{spaced_of, spaced_is, ends_spelled, ends_is, ends_there, tail_spelled, tail_is, tailed, no_end}
+use Rattle.qd_ilp.proofs.Grammars.{chosen, some, none, bound, no_some, some_is, some_both, name_of_text, name_is, word_of_text}
+use Rattle.qd_ilp.proofs.Listed.{items_spelled, items_are, parted_takes, tags_spelled, tags_are}
+use Rattle.qd_ilp.proofs.Tailed.{spaced_of, spaced_is, tail_spelled, tail_is}
 use Rattle.qd_ilp.proofs.Rows.{rest_of, rest_tail, rest_fields}
 
 -- ---- no stamp is a field
@@ -210,7 +209,7 @@ row_spelled text row rest e =
             | inr good ↦
                 let both = some_both (row_with (cut false text).0 (tags.0.0 ++ r.0.fields) r.0.moment) row r.0.after rest good.1 in
                 let whole : IsRow text (row_with (cut false text).0 (tags.0.0 ++ r.0.fields) r.0.moment) r.0.after =
-                    (tags.0.0, r.0.fields, (cut false text).1, tags.0.1, name_of_text text, named.0, tags_spelled (cut false text).1 tags.0.0 tags.0.1 tags.1, rest_spelled tags.0.1 r.0 r.1, refl, good.0) in
+                (tags.0.0, r.0.fields, (cut false text).1, tags.0.1, name_of_text text, named.0, tags_spelled (cut false text).1 tags.0.0 tags.0.1 tags.1, rest_spelled tags.0.1 r.0 r.1, refl, good.0) in
                 row_same text (row_with (cut false text).0 (tags.0.0 ++ r.0.fields) r.0.moment) row r.0.after rest both.0 both.1 whole
           ]
     ]

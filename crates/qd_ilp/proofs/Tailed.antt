@@ -1,9 +1,9 @@
 -- What stands behind tags and fields: what is read is spelled so, and what is spelled so is read.
-use Rattle.std.proofs.Common.{◌≡◌, ℕ, zero, suc, ◌+◌, ◌-◌, ◌<◌, ◌≤◌, Bool, true, false, List, [], ◌∷◌, ◌++◌, length, take, drop, refl, sym, ap, subst, ◌∙◌, Option, Some, None, inl, inr, arith}
-use Rattle.std.specs.Prelude.{not, ◌||◌, ◌&&◌, ◌==◌, if◌then◌else◌}
-use Rattle.std.proofs.lemmas.Bool.{cases_Bool, eqb-true, eq-eqb}
+use Rattle.std.proofs.Common.{◌≡◌, ℕ, zero, suc, true, false, List, [], ◌∷◌, ◌++◌, drop, refl, sym, ap, subst, ◌∙◌, Option, Some, None, inl, inr}
+use Rattle.std.specs.Prelude.{◌||◌, ◌&&◌, ◌==◌, if◌then◌else◌}
+use Rattle.std.proofs.lemmas.Bool.{cases_Bool, eqb-true}
 use Rattle.qd_ilp.specs.Cut.{◌>>=◌, begins, at_end, ends_word, word}
-use Rattle.qd_ilp.specs.Value.{Moment, is_stamp, stamp, is_empty}
+use Rattle.qd_ilp.specs.Value.{Moment, is_stamp, stamp}
 use Rattle.qd_ilp.specs.Line.{after_spaces, behind_end, stamp_at, tail_at}
 use Rattle.qd_ilp.specs.Grammar.{Word, spaces, Spaced, EndsLine, Tail}
 use Rattle.qd_ilp.proofs.Numbers.{and_true}
@@ -84,7 +84,7 @@ stamp_spelled text more moment rest space spaced e =
           let found = bound (behind_end (after_spaces (word more).1)) (λ r. Some (tailed (Some (stamp (word more).0)) r)) (tailed moment rest) stamped.1 in
           let both = some_both (some (stamp (word more).0)) moment found.0 rest found.2 in
           let whole : Tail text (Some (stamp (word more).0)) found.0 =
-              (more, (word more).0, (word more).1, after_spaces (word more).1, space, spaced, word_of_text more, stamped.0, refl, spaced_of (word more).1, ends_spelled (after_spaces (word more).1) found.0 found.1) in
+          (more, (word more).0, (word more).1, after_spaces (word more).1, space, spaced, word_of_text more, stamped.0, refl, spaced_of (word more).1, ends_spelled (after_spaces (word more).1) found.0 found.1) in
           let Q : Option Moment → Type 0 = λ m. Tail text m found.0 in
           let R : List ℕ → Type 0 = λ r. Tail text moment r in
           subst R both.1 (subst Q both.0 whole)

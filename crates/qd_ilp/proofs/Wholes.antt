@@ -1,22 +1,21 @@
 -- Reading line after line.
-use Rattle.std.proofs.Common.{◌≡◌, ℕ, zero, suc, ◌+◌, ◌-◌, ◌<◌, ◌≤◌, Bool, true, false, List, [], ◌∷◌, ◌++◌, length, length-append, length-drop, take, drop, refl, sym, ap, subst, ◌∙◌, Option, Some, None, append_assoc, map, arith}
+use Rattle.std.proofs.Common.{◌≡◌, ℕ, zero, suc, ◌+◌, ◌-◌, ◌<◌, ◌≤◌, Bool, true, false, List, [], ◌∷◌, ◌++◌, length, length-append, length-drop, take, drop, refl, sym, ap, subst, ◌∙◌, Option, Some, None, map, arith}
 use Rattle.std.specs.Prelude.{is_none, option_map, ◌||◌, ◌&&◌, ◌==◌}
 use Rattle.std.specs.List.{AllByRecursion, list_any}
 use Rattle.std.proofs.lemmas.Bool.{eqb-false, eqb-true}
-use Rattle.std.proofs.lemmas.List.{append-nil, take-append-le, drop-append-le, map-append}
+use Rattle.std.proofs.lemmas.List.{take-append-le, drop-append-le, map-append}
 use Rattle.qd_ilp.specs.declared.value.When.{When}
 use Rattle.qd_ilp.specs.declared.item.Pair.{Pair}
 use Rattle.qd_ilp.specs.declared.row.Head.{Head}
 use Rattle.qd_ilp.specs.declared.row.KeptLine.{KeptLine}
 use Rattle.qd_ilp.specs.declared.row.KeptLine.TheVariants as kept
 use Rattle.qd_ilp.specs.Cut.{Grows}
-use Rattle.qd_ilp.specs.Value.{Moment}
-use Rattle.qd_ilp.specs.Line.{Item, Row, Line, Blank, Gives, read_line}
+use Rattle.qd_ilp.specs.Line.{Line, Gives, read_line}
 use Rattle.qd_ilp.specs.Kept.{bytes_in, item_in, moment_in, PairFits}
 use Rattle.qd_ilp.specs.Whole.{pairs_in, row_in, line_in, HeadFits, LineFits, BeginsWith, Reading, EndsSo, IsReading, is_timeless, is_timeless_kept, lacks_time}
 use Rattle.qd_ilp.proofs.Kepts.{grow_span, grow_pairs, each_append}
 use Rattle.qd_ilp.specs.Grammar.{ReadsLine}
-use Rattle.qd_ilp.proofs.Grammars.{no_some, some_both, some, none}
+use Rattle.qd_ilp.proofs.Grammars.{no_some, some_both, some}
 use Rattle.qd_ilp.proofs.LineSpelled.{read_spelled, read_is, lined, line_takes}
 use Rattle.qd_ilp.proofs.Rows.{row_is}
 
@@ -31,8 +30,7 @@ grow_head a b p q head bytes pairs fits =
     let size : length q ≡ length p + length pairs.more = ap length pairs.whole ∙ length-append p pairs.more in
     let same = same_pairs p q head pairs fits.order fits.within in
     let table = grow_span a b head.table bytes fits.table in
-    let each = grow_pairs a b (pairs_in p head) bytes fits.each in
-    (
+    let each = grow_pairs a b (pairs_in p head) bytes fits.each in (
       row_is (bytes_in b head.table) (bytes_in a head.table) (map (item_in b) (pairs_in q head)) (map (item_in a) (pairs_in p head)) (option_map moment_in head.when) table.0 (ap (map (item_in b)) same ∙ each.0),
       record {
         table = table.1;

@@ -1,6 +1,6 @@
 -- The grammar of lines. `X text value rest` says that the text is a spelling of the value, and then the rest. InfluxDB
 -- line protocol reference: syntax, special characters, naming restrictions; the escapes are this project's profile.
-use Rattle.std.specs.Prelude.{◌≡◌, ℕ, zero, suc, ◌<◌, Bool, true, false, ◌==◌, ◌⊎◌, List, [], ◌∷◌, ◌++◌, Option, Some, None, length, take, ◌-◌}
+use Rattle.std.specs.Prelude.{◌≡◌, ℕ, zero, suc, Bool, true, false, ◌==◌, ◌⊎◌, List, [], ◌∷◌, ◌++◌, Option, Some, None, length, take, ◌-◌}
 use Rattle.std.specs.Str.{is_utf8}
 use Rattle.qd_ilp.specs.Cut.{begins, at_end, is_special, is_quoted_special, escapes, stops, ends_word}
 use Rattle.qd_ilp.specs.Value.{Value, Tag, Text, Moment, bare, is_empty, is_stamp, stamp}

@@ -1,5 +1,5 @@
 -- What a line says, and how it is read from left to right: each part gives its value and the text behind it.
-use Rattle.std.specs.Prelude.{◌≡◌, ℕ, zero, suc, ◌-◌, Bool, true, false, not, ◌||◌, ◌&&◌, List, [], ◌∷◌, ◌++◌, ◌==◌, length, take, drop, Option, Some, None, if◌then◌else◌}
+use Rattle.std.specs.Prelude.{ℕ, zero, suc, ◌-◌, Bool, true, false, not, ◌||◌, ◌&&◌, List, [], ◌∷◌, ◌++◌, ◌==◌, length, take, drop, Option, Some, None, if◌then◌else◌}
 use Rattle.std.specs.Str.{is_utf8}
 use Rattle.qd_ilp.specs.Cut.{◌>>=◌, begins, at_end, cut, word, closed}
 use Rattle.qd_ilp.specs.Value.{Value, Tag, Text, Moment, bare, is_empty, is_stamp, stamp}
@@ -77,7 +77,7 @@ or_else None o = o
 unfoldable pub fields_at : List ℕ → Option Rest
 fields_at text =
     if begins 32 text then
-      items_at false (length (after_spaces text)) (after_spaces text) >>= (λ i. tail_at i.1 >>= (λ t. Some (record { fields = i.0; moment = t.0; after = t.1 })))
+    items_at false (length (after_spaces text)) (after_spaces text) >>= (λ i. tail_at i.1 >>= (λ t. Some (record { fields = i.0; moment = t.0; after = t.1 })))
     else None
 
 unfoldable pub rest_at : List ℕ → Option Rest

@@ -1,6 +1,6 @@
 -- What the value of a field says, and what a stamp does. InfluxDB line protocol reference: booleans, integers,
 -- timestamps. The range of a LONG is QuestDB's: its least 64-bit number stands for NULL.
-use Rattle.std.specs.Prelude.{◌≡◌, ℕ, ◌+◌, ◌-◌, ◌*◌, ◌/◌, Bool, true, false, not, ◌||◌, ◌&&◌, List, [], ◌∷◌, ◌==◌, nat_le, length, take, drop, fold, codes, if◌then◌else◌, pos, ℤ, neg_ℤ}
+use Rattle.std.specs.Prelude.{ℕ, ◌+◌, ◌-◌, ◌*◌, ◌/◌, Bool, true, false, not, ◌||◌, ◌&&◌, List, [], ◌∷◌, ◌==◌, nat_le, length, take, drop, fold, codes, if◌then◌else◌, pos, ℤ, neg_ℤ}
 use Rattle.std.specs.List.{list_all}
 use Rattle.std.specs.Str.{bytes_eq}
 use Rattle.qd_base.specs.declared.limits.TheConstants.{MAX_TIME}

@@ -1,11 +1,11 @@
 -- What a batch keeps of lines, as the definitions have them, and what a whole text is.
-use Rattle.std.specs.Prelude.{◌≡◌, ℕ, ◌+◌, ◌-◌, ◌<◌, ◌≤◌, Bool, true, false, List, [], ◌∷◌, ◌++◌, take, drop, length, map, Option, Some, None, option_map, is_none, ◌&&◌, if◌then◌else◌}
+use Rattle.std.specs.Prelude.{◌≡◌, ℕ, ◌+◌, ◌-◌, ◌<◌, ◌≤◌, Bool, true, false, List, [], ◌∷◌, take, drop, length, map, Option, Some, None, option_map, is_none, ◌&&◌, if◌then◌else◌}
 use Rattle.std.specs.List.{AllByRecursion, list_any}
 use Rattle.qd_ilp.specs.declared.item.Pair.{Pair}
 use Rattle.qd_ilp.specs.declared.row.Head.{Head}
 use Rattle.qd_ilp.specs.declared.row.KeptLine.{KeptLine}
 use Rattle.qd_ilp.specs.declared.row.KeptLine.TheVariants as kept
-use Rattle.qd_ilp.specs.Line.{Line, Row, Item, Blank, Gives}
+use Rattle.qd_ilp.specs.Line.{Line, Row, Blank, Gives}
 use Rattle.qd_ilp.specs.Grammar.{ReadsLine}
 use Rattle.qd_ilp.specs.Kept.{bytes_in, item_in, moment_in, SpanFits, PairFits}
 

@@ -45,7 +45,11 @@ fn push_text<'a>(bytes: &mut Vec<u8>, text: &'a [u8]) -> Result<(Span, &'a [u8])
 }
 
 /// Puts a tag's value, or a field's, into the buffer, and gives it and the text behind it.
-fn push_value<'a>(bytes: &mut Vec<u8>, is_tag: bool, text: &'a [u8]) -> Result<(Kept, &'a [u8]), Stop>
+fn push_value<'a>(
+    bytes: &mut Vec<u8>,
+    is_tag: bool,
+    text: &'a [u8],
+) -> Result<(Kept, &'a [u8]), Stop>
     ensures value { Gives (λ x. (value_in bytes.new.items x.0, x.1.now)) result (value_at is_tag text.now) }
     ensures grows { Grows bytes.old.items bytes.new.items }
     ensures fits { IfOk result (λ x. ValueFits (length bytes.new.items) x.0) }
@@ -92,7 +96,11 @@ fn push_field<'a>(bytes: &mut Vec<u8>, text: &'a [u8]) -> Result<(Kept, &'a [u8]
 
 /// Puts a tag, or a field, into the buffer, and gives it and the text behind it.
 #[tactic(auto, using(crate::proofs::Growing::grows_not, crate::proofs::Growing::grows_by, crate::proofs::Growing::grows_twice))]
-fn push_item<'a>(bytes: &mut Vec<u8>, is_tag: bool, text: &'a [u8]) -> Result<(Pair, &'a [u8]), Stop>
+fn push_item<'a>(
+    bytes: &mut Vec<u8>,
+    is_tag: bool,
+    text: &'a [u8],
+) -> Result<(Pair, &'a [u8]), Stop>
     ensures item { Gives (λ x. (item_in bytes.new.items x.0, x.1.now)) result (item_at is_tag text.now) }
     ensures grows { Grows bytes.old.items bytes.new.items }
     ensures fits { IfOk result (λ x. PairFits (length bytes.new.items) x.0) }
@@ -113,7 +121,12 @@ fn push_item<'a>(bytes: &mut Vec<u8>, is_tag: bool, text: &'a [u8]) -> Result<(P
 
 /// Puts tags, or fields, into a batch, and gives the text behind them. It costs time linear in what it goes over.
 #[tactic(auto, using(crate::proofs::Growing::grows_not, crate::proofs::Growing::grows_by, crate::proofs::Growing::grows_twice))]
-pub(crate) fn push_items<'a>(bytes: &mut Vec<u8>, pairs: &mut Vec<Pair>, is_tag: bool, text: &'a [u8]) -> Result<&'a [u8], Stop>
+pub(crate) fn push_items<'a>(
+    bytes: &mut Vec<u8>,
+    pairs: &mut Vec<Pair>,
+    is_tag: bool,
+    text: &'a [u8],
+) -> Result<&'a [u8], Stop>
     ensures items { IfOk result (λ rest. (items : List Item) × (items_at is_tag (length text.now) text.now ≡ Some (items, rest.now))
         × PutsItems bytes.old.items bytes.new.items pairs.old.items pairs.new.items items) }
     ensures fault { IfErr result (λ e. Fails e (items_at is_tag (length text.now) text.now)) }

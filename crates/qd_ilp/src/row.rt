@@ -36,7 +36,11 @@ pub(crate) enum KeptLine {
 
 /// Puts tags into a batch, each behind a comma, and gives the text behind them.
 #[tactic(auto, unfolding(crate::specs::Line::tags_at), using(crate::proofs::Growing::grows_not, crate::proofs::Kepts::puts_none))]
-fn push_tags<'a>(bytes: &mut Vec<u8>, pairs: &mut Vec<Pair>, text: &'a [u8]) -> Result<&'a [u8], Stop>
+fn push_tags<'a>(
+    bytes: &mut Vec<u8>,
+    pairs: &mut Vec<Pair>,
+    text: &'a [u8],
+) -> Result<&'a [u8], Stop>
     ensures tags { IfOk result (λ rest. (tags : List Item) × (tags_at text.now ≡ Some (tags, rest.now)) × PutsItems bytes.old.items bytes.new.items pairs.old.items pairs.new.items tags) }
     ensures fault { IfErr result (λ e. Fails e (tags_at text.now)) }
     ensures grows { Grows bytes.old.items bytes.new.items }
@@ -51,7 +55,11 @@ fn push_tags<'a>(bytes: &mut Vec<u8>, pairs: &mut Vec<Pair>, text: &'a [u8]) -> 
 
 /// Puts fields into a batch, behind a space, and reads what stands behind them.
 #[tactic(auto, using(crate::proofs::Growing::grows_not))]
-fn push_fields<'a>(bytes: &mut Vec<u8>, pairs: &mut Vec<Pair>, text: &'a [u8]) -> Result<Tail<'a>, Stop>
+fn push_fields<'a>(
+    bytes: &mut Vec<u8>,
+    pairs: &mut Vec<Pair>,
+    text: &'a [u8],
+) -> Result<Tail<'a>, Stop>
     ensures fields { IfOk result (λ tail. (fields : List Item)
         × (fields_at text.now ≡ Some (record { fields = fields; moment = option_map moment_in tail.when; after = tail.rest.now }))
         × PutsItems bytes.old.items bytes.new.items pairs.old.items pairs.new.items fields) }
@@ -72,7 +80,11 @@ fn push_fields<'a>(bytes: &mut Vec<u8>, pairs: &mut Vec<Pair>, text: &'a [u8]) -
 
 /// Puts what stands behind the tags into a batch: fields and a stamp, a stamp alone, or nothing.
 #[tactic(auto, using(crate::proofs::Growing::grows_not))]
-fn push_rest<'a>(bytes: &mut Vec<u8>, pairs: &mut Vec<Pair>, text: &'a [u8]) -> Result<Tail<'a>, Stop>
+fn push_rest<'a>(
+    bytes: &mut Vec<u8>,
+    pairs: &mut Vec<Pair>,
+    text: &'a [u8],
+) -> Result<Tail<'a>, Stop>
     ensures rest { IfOk result (λ tail. (fields : List Item)
         × (rest_at text.now ≡ Some (record { fields = fields; moment = option_map moment_in tail.when; after = tail.rest.now }))
         × PutsItems bytes.old.items bytes.new.items pairs.old.items pairs.new.items fields) }
@@ -89,7 +101,11 @@ fn push_rest<'a>(bytes: &mut Vec<u8>, pairs: &mut Vec<Pair>, text: &'a [u8]) -> 
 
 /// Puts a line that gives a row into a batch, and gives what is kept of it and the text behind its end.
 #[tactic(auto, using(crate::proofs::Growing::grows_not, crate::proofs::Growing::grows_twice))]
-fn push_row<'a>(bytes: &mut Vec<u8>, pairs: &mut Vec<Pair>, text: &'a [u8]) -> Result<(Head, &'a [u8]), Stop>
+fn push_row<'a>(
+    bytes: &mut Vec<u8>,
+    pairs: &mut Vec<Pair>,
+    text: &'a [u8],
+) -> Result<(Head, &'a [u8]), Stop>
     ensures row { Gives (λ x. (row_in bytes.new.items pairs.new.items x.0, x.1.now)) result (row_at text.now) }
     ensures fits { IfOk result (λ x. HeadFits bytes.new.items pairs.new.items x.0) }
     ensures grows { Grows bytes.old.items bytes.new.items }
@@ -120,7 +136,11 @@ fn push_row<'a>(bytes: &mut Vec<u8>, pairs: &mut Vec<Pair>, text: &'a [u8]) -> R
 
 /// Puts a line into a batch, and gives what is kept of it and the text behind its end.
 #[tactic(auto, unfolding(crate::specs::Line::line_at), using(crate::proofs::Growing::grows_not))]
-fn push_line<'a>(bytes: &mut Vec<u8>, pairs: &mut Vec<Pair>, text: &'a [u8]) -> Result<(KeptLine, &'a [u8]), Stop>
+fn push_line<'a>(
+    bytes: &mut Vec<u8>,
+    pairs: &mut Vec<Pair>,
+    text: &'a [u8],
+) -> Result<(KeptLine, &'a [u8]), Stop>
     requires some { 0 < length text.now }
     ensures line { Gives (λ x. (line_in bytes.new.items pairs.new.items x.0, x.1.now)) result (line_at text.now) }
     ensures fits { IfOk result (λ x. LineFits bytes.new.items pairs.new.items x.0) }
@@ -128,7 +148,11 @@ fn push_line<'a>(bytes: &mut Vec<u8>, pairs: &mut Vec<Pair>, text: &'a [u8]) -> 
     ensures pairs { Grows pairs.old.items pairs.new.items }
     ensures shorter { IfOk result (λ x. length x.1.now < length text.now) }
 {
-    let blank = if begins_with(text, b'#') { to_end(text) } else { after_spaces(text) };
+    let blank = if begins_with(text, b'#') {
+        to_end(text)
+    } else {
+        after_spaces(text)
+    };
     if at_end(blank) {
         return match behind_end(blank) {
             Some(rest) => Ok((KeptLine::Blank, rest)),
@@ -141,7 +165,11 @@ fn push_line<'a>(bytes: &mut Vec<u8>, pairs: &mut Vec<Pair>, text: &'a [u8]) -> 
 
 /// Puts the next line into a batch, and gives what is kept of it and the text behind its end. Its bytes are UTF-8.
 #[tactic(auto, unfolding(crate::specs::Line::read_line))]
-pub(crate) fn push_next<'a>(bytes: &mut Vec<u8>, pairs: &mut Vec<Pair>, text: &'a [u8]) -> Result<(KeptLine, &'a [u8]), Stop>
+pub(crate) fn push_next<'a>(
+    bytes: &mut Vec<u8>,
+    pairs: &mut Vec<Pair>,
+    text: &'a [u8],
+) -> Result<(KeptLine, &'a [u8]), Stop>
     requires some { 0 < length text.now }
     ensures line { Gives (λ x. (line_in bytes.new.items pairs.new.items x.0, x.1.now)) result (read_line text.now) }
     ensures fits { IfOk result (λ x. LineFits bytes.new.items pairs.new.items x.0) }

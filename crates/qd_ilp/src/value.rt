@@ -75,7 +75,11 @@ fn is_true(word: &[u8]) -> bool
 fn is_false(word: &[u8]) -> bool
     ensures truth { result ≡ is_false word.now }
 {
-    is(word, b"f") || is(word, b"F") || is(word, b"false") || is(word, b"False") || is(word, b"FALSE")
+    is(word, b"f")
+        || is(word, b"F")
+        || is(word, b"false")
+        || is(word, b"False")
+        || is(word, b"FALSE")
 }
 
 fn is(word: &[u8], text: &[u8]) -> bool

@@ -1,4 +1,3 @@
-use Rattle.std.proofs.Common.{refl, sym}
 use Rattle.qd_ilp.proofs.Wholes.{step_on, step_fault, not_empty, no_line}
 use Rattle.qd_ilp.proofs.batch.parse_batch.Goals as goal
 

@@ -6,7 +6,7 @@ use Rattle.qd_ilp.proofs.cut.push_closed.Goals as goal
 pub loop-i-preserved : goal.loop-i-preserved
 loop-i-preserved c = record {
   so_far = closed_more c.loop-i.plain c.escapes_quoted-plain.result c.loop-i.i c.args.text.now c.behind-in-loop-i.result.now c.loop-i.bytes.items _ _ c.loop-i-test.true c.behind-in-loop-i.ensures.rest
-    (sym c.is_closing.ensures.closing ∙ c.if-is_closing.false) c.escapes_quoted-plain.ensures.escapes c.in_ok-push_unless.ensures.pushed c.loop-i.invariant.so_far;
+      (sym c.is_closing.ensures.closing ∙ c.if-is_closing.false) c.escapes_quoted-plain.ensures.escapes c.in_ok-push_unless.ensures.pushed c.loop-i.invariant.so_far;
   few = few_more _ _ c.escapes_quoted-plain.result c.loop-i.i _ _ c.in_ok-push_unless.ensures.pushed c.loop-i.invariant.few;
   grows = grows_twice _ _ _ c.loop-i.invariant.grows (grows_by _ _ _ c.in_ok-push_unless.ensures.pushed);
 }

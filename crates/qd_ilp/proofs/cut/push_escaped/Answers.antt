@@ -6,7 +6,7 @@ use Rattle.qd_ilp.proofs.cut.push_escaped.Goals as goal
 pub loop-i-preserved : goal.loop-i-preserved
 loop-i-preserved c = record {
   so_far = cut_more c.loop-i.plain c.escapes-plain.result c.loop-i.i c.args.text.now c.behind-rest.result.now c.loop-i.bytes.items _ _ c.loop-i-test.true c.behind-rest.ensures.rest
-    (sym c.stops.ensures.stops ∙ c.if-stops.false) c.escapes-plain.ensures.escapes c.in_ok-push_unless.ensures.pushed c.loop-i.invariant.so_far;
+      (sym c.stops.ensures.stops ∙ c.if-stops.false) c.escapes-plain.ensures.escapes c.in_ok-push_unless.ensures.pushed c.loop-i.invariant.so_far;
   few = few_more _ _ c.escapes-plain.result c.loop-i.i _ _ c.in_ok-push_unless.ensures.pushed c.loop-i.invariant.few;
   grows = grows_twice _ _ _ c.loop-i.invariant.grows (grows_by _ _ _ c.in_ok-push_unless.ensures.pushed);
 }

@@ -13,8 +13,7 @@ returns-in_err-rest-clause-fault c =
 
 pub returns-in-Some-clause-fields : goal.returns-in-Some-clause-fields
 returns-in-Some-clause-fields c =
-    let items = c.in_ok-rest.ensures.items in
-    (
+    let items = c.in_ok-rest.ensures.items in (
       items.0,
       fields_are c.args.text.now c.after_spaces.result.now c.in_ok-rest.rest.now _ items.0 _ (sym c.begins_with.ensures.begins ∙ c.if-not-begins_with.false) c.after_spaces.ensures.rest items.1 c.in-Some.ensures.tail,
       items.2,

@@ -1,4 +1,4 @@
-use Rattle.std.proofs.Common.{◌≡◌, [], List, Option, Some, ℕ, subst, sym}
+use Rattle.std.proofs.Common.{◌≡◌, [], List, Option, Some, subst, sym}
 use Rattle.std.specs.Prelude.{IfOk, IfErr, option_map}
 use Rattle.qd_ilp.specs.Cut.{Fails}
 use Rattle.qd_ilp.specs.Line.{Item, Rest}

@@ -1,9 +1,9 @@
-use Rattle.std.proofs.Common.{◌≡◌, ◌≢◌, ◌++◌, ◌∙◌, ap, sym, length, arith}
+use Rattle.std.proofs.Common.{◌≡◌, ◌≢◌, ◌∙◌, sym, length, arith}
 use Rattle.std.proofs.lemmas.Result.{err_from_is_err_and}
 use Rattle.qd_ilp.specs.declared.row.Head.{Head}
 use Rattle.qd_ilp.proofs.Growing.{grows_twice}
 use Rattle.qd_ilp.proofs.Kepts.{grow_span, puts_fits, puts_in}
-use Rattle.qd_ilp.proofs.Rows.{row_unnamed, row_named, tags_fault, row_tagged, rest_fault, row_finished, row_empty, row_done, puts_twice, pairs_are, nothing_put, rest_of, fits_head, items_put}
+use Rattle.qd_ilp.proofs.Rows.{row_unnamed, row_named, tags_fault, row_tagged, rest_fault, row_finished, row_empty, row_done, puts_twice, nothing_put, rest_of, fits_head, items_put}
 use Rattle.qd_ilp.proofs.row.push_row.Goals as goal
 
 pub returns-then-table-clause-row : goal.returns-then-table-clause-row

@@ -1,4 +1,4 @@
-use Rattle.std.proofs.Common.{◌≡◌, List, ℕ, ◌∙◌, ap, take, length}
+use Rattle.std.proofs.Common.{◌≡◌, ◌∙◌, ap, take}
 use Rattle.std.proofs.lemmas.List.{take_all}
 use Rattle.qd_ilp.proofs.Numbers.{capped, capped_is}
 use Rattle.qd_ilp.proofs.value.capped.Goals as goal

@@ -1,5 +1,4 @@
 use Rattle.std.proofs.Common.{◌≡◌, take}
-use Rattle.qd_ilp.specs.Value.{number_of}
 use Rattle.qd_ilp.proofs.Numbers.{capped}
 use Rattle.qd_ilp.proofs.value.capped.Given as goal
 

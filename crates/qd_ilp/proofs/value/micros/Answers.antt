@@ -1,4 +1,4 @@
-use Rattle.std.proofs.Common.{◌≡◌, ◌∙◌, ap, sym, List, ℕ, ◌-◌, ◌/◌, length, take, arith}
+use Rattle.std.proofs.Common.{◌∙◌, ap, sym, List, ℕ}
 use Rattle.std.specs.Prelude.{min}
 use Rattle.qd_ilp.specs.Value.{number_of}
 use Rattle.qd_ilp.specs.declared.value.TheConstants.{CAP}

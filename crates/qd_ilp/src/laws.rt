@@ -1,5 +1,5 @@
 //! Laws of the definitions: each holds for all texts, and is the contract of a function that does nothing.
-ghost use Rattle.qd_ilp.specs.Laws.{PartsAreCut, TextsAreRead};
+ghost use Rattle.qd_ilp.specs.Laws.{PartsAreCut, TextsAreRead, WorkedLines};
 
 /// A name, a value, a quoted text and a tag or field end where they are cut, and are what the cut gives: the reading
 /// from left to right gives what the grammar says, and nothing else.
@@ -10,4 +10,9 @@ pub fn parts_are_cut()
 /// Every text is read, up to its end or up to its first line that is outside the grammar, and in one way only.
 pub fn texts_are_read()
     ensures law { TextsAreRead }
+{}
+
+/// The transactions of some short lists of lines are what is meant.
+pub fn worked_lines()
+    ensures law { WorkedLines }
 {}

@@ -145,3 +145,16 @@ few_more before bytes true i b bytes' pushed few =
 few_more before bytes false i b bytes' pushed few =
     let size : length bytes' ≡ length bytes + 1 = ap length pushed ∙ length-append bytes (b ∷ []) in
     omega (arith, size, few)
+
+no_quoted_escape : (b : ℕ) (bs : List ℕ) → (b == 92) ≡ false → escapes is_quoted_special (b ∷ bs) ≡ false
+no_quoted_escape b [] backslash = refl
+no_quoted_escape b (c ∷ cs) backslash = rw backslash refl
+
+pub unquoted_more : (i : ℕ) (text front : List ℕ) → i < length text → (get_or text i 0 == 34 || get_or text i 0 == 92) ≡ false → closed_behind (front ++ take i text) false (drop i text) ≡ closed_behind (front ++ take (i + 1) text) false (drop (i + 1) text)
+unquoted_more i text front h plain =
+    let at = drop_more text i 0 h in
+    let b = get_or text i 0 in
+    let both = or_false (b == 34) (b == 92) plain in
+    let goes = closed_goes false false b (drop (i + 1) text) (front ++ take i text) both.0 (sym (no_quoted_escape b (drop (i + 1) text) both.1)) in
+    let more : (front ++ take i text) ++ b ∷ [] ≡ front ++ take (i + 1) text = append_assoc front (take i text) (b ∷ []) ∙ ap (λ (l : List ℕ). front ++ l) (sym (take_more text i 0 h)) in
+    ap (closed_behind (front ++ take i text) false) at ∙ goes ∙ ap (λ (l : List ℕ). closed_behind l false (drop (i + 1) text)) more

@@ -1,6 +1,7 @@
 pub mod Growing
 pub mod Cuts
 pub mod Numbers
+pub mod Numerals
 pub mod Kepts
 pub mod Lines
 pub mod Tails

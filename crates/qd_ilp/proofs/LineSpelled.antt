@@ -11,7 +11,8 @@ use Rattle.qd_ilp.proofs.Grammars.{chosen, some, none, bound, no_some, some_both
 use Rattle.qd_ilp.proofs.Listed.{name_takes, word_takes, items_take, parted_takes}
 use Rattle.qd_ilp.proofs.Tails.{end_here, no_end, nothing_left}
 use Rattle.qd_ilp.proofs.Tailed.{spaced_of, spaced_is, ends_spelled, ends_is, ends_there, no_space}
-use Rattle.qd_ilp.proofs.Spelled.{row_spelled, row_is, name_goes, both_ways}
+use Rattle.qd_ilp.proofs.Spelled.{row_spelled, row_is, name_goes}
+use Rattle.qd_ilp.proofs.Numerals.{both_ways}
 
 -- ---- comments
 

@@ -1,12 +1,13 @@
 -- Rows and lines: what is read is spelled so, and what is spelled so is read.
 use Rattle.std.proofs.Common.{◌≡◌, ℕ, ◌≤◌, Bool, true, false, List, [], ◌∷◌, ◌++◌, length, drop, get_or, refl, sym, ap, subst, ◌∙◌, Option, Some, None, inl, inr, arith}
-use Rattle.std.specs.Prelude.{not, ◌||◌, ◌&&◌, ◌==◌, if◌then◌else◌}
+use Rattle.std.specs.Prelude.{◌||◌, ◌==◌, if◌then◌else◌}
 use Rattle.std.specs.List.{list_all}
 use Rattle.std.proofs.lemmas.Bool.{cases_Bool, eqb-true, ne_eqb}
 use Rattle.qd_ilp.specs.Cut.{◌>>=◌, begins, at_end, ends_word, stops, cut, word}
-use Rattle.qd_ilp.specs.Value.{Moment, is_stamp, is_empty, is_digit, unsigned}
+use Rattle.qd_ilp.specs.Value.{Moment, is_stamp, is_empty, is_digit, is_numeral}
 use Rattle.qd_ilp.specs.Line.{Item, Row, Rest, after_spaces, stamp_at, tail_at, items_at, tags_at, fields_at, rest_at, row_at}
 use Rattle.qd_ilp.specs.Grammar.{Name, Word, IsSome, IsItem, Parted, Spaced, Tail, Fields, IsRow}
+use Rattle.qd_ilp.proofs.Numerals.{stamp_numerals, both_ways}
 use Rattle.qd_ilp.proofs.Numbers.{and_true, digit_low}
 use Rattle.qd_ilp.proofs.Cuts.{or_false, goes_on}
 use Rattle.qd_ilp.proofs.Grammars.{chosen, some, none, bound, no_some, some_is, some_both, name_of_text, name_is, word_of_text}
@@ -15,39 +16,6 @@ use Rattle.qd_ilp.proofs.Tailed.{spaced_of, spaced_is, tail_spelled, tail_is}
 use Rattle.qd_ilp.proofs.Rows.{rest_of, rest_tail, rest_fields}
 
 -- ---- no stamp is a field
-
-abbrev is_numeral : ℕ → Bool
-is_numeral b = b == 45 || is_digit b
-
-or_right : (p q : Bool) → q ≡ true → (p || q) ≡ true
-or_right true q h = refl
-or_right false q h = h
-
-and_both : (p q : Bool) → p ≡ true → q ≡ true → (p && q) ≡ true
-and_both true q h k = k
-and_both false q h k = h
-
-digits_numerals : (ds : List ℕ) → list_all is_digit ds ≡ true → list_all is_numeral ds ≡ true
-digits_numerals [] all = refl
-digits_numerals (d ∷ ds) all =
-    let both = and_true (is_digit d) (list_all is_digit ds) all in
-    and_both (is_numeral d) (list_all is_numeral ds) (or_right (d == 45) (is_digit d) both.0) (digits_numerals ds both.1)
-
-stamp_numerals : (w : List ℕ) → is_stamp w ≡ true → list_all is_numeral w ≡ true
-stamp_numerals [] h = refl
-stamp_numerals (b ∷ bs) h =
-    elim (cases_Bool (b == 45)) [
-      | inl minus ↦
-          let body : unsigned (b ∷ bs) ≡ bs = rw minus refl in
-          let all = (and_true (not (is_empty (unsigned (b ∷ bs)))) (list_all is_digit (unsigned (b ∷ bs))) h).1 in
-          let digits : list_all is_digit bs ≡ true = ap (list_all is_digit) (sym body) ∙ all in
-          and_both (is_numeral b) (list_all is_numeral bs) (rw minus refl) (digits_numerals bs digits)
-      | inr plain ↦
-          let body : unsigned (b ∷ bs) ≡ b ∷ bs = rw plain refl in
-          let all = (and_true (not (is_empty (unsigned (b ∷ bs)))) (list_all is_digit (unsigned (b ∷ bs))) h).1 in
-          let digits : list_all is_digit (b ∷ bs) ≡ true = ap (list_all is_digit) (sym body) ∙ all in
-          digits_numerals (b ∷ bs) digits
-    ]
 
 numeral_low : (b : ℕ) → is_numeral b ≡ true → (45 ≤ b) × (b ≤ 57)
 numeral_low b h =
@@ -68,9 +36,6 @@ numeral_goes b bs h =
     let lf : (b == 10) ≡ false = ne_eqb b 10 (λ e. absurd (omega (arith, e, low))) in
     let cr : (b == 13) ≡ false = ne_eqb b 13 (λ e. absurd (omega (arith, e, low))) in
     goes_on b bs (rw (comma, space, equals) refl) lf cr
-
-pub both_ways : (b : Bool) → b ≡ true → b ≡ false → ⊥
-both_ways b yea nay = cc
 
 ends_stops : (text : List ℕ) → ends_word text ≡ true → stops text ≡ true
 ends_stops [] h = refl

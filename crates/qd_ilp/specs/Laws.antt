@@ -7,7 +7,6 @@ use Rattle.qd_base.specs.declared.schema.PartUnit.TheVariants as unit
 use Rattle.qd_base.specs.declared.schema.Col.{Col}
 use Rattle.qd_base.specs.declared.schema.Schema.{Schema}
 use Rattle.qd_base.specs.declared.op.Op.TheVariants as op
-use Rattle.qd_base.specs.declared.op.Entry.{Entry}
 use Rattle.qd_ilp.specs.Transaction.{transaction_of_lines}
 use Rattle.qd_ilp.specs.Whole.{Reading, IsReading}
 use Rattle.qd_ilp.specs.Cut.{cut, word, closed}

@@ -1,6 +1,6 @@
 -- What lines say over the schemas of the tables that are there: the transaction of all of them, or the first line that
 -- is refused and its code. QuestDB documentation: InfluxDB line protocol, tables and columns made by lines.
-use Rattle.std.specs.Prelude.{◌≡◌, ℕ, ◌+◌, ◌<◌, ◌≤◌, Bool, true, false, not, ◌||◌, ◌&&◌, ◌⊎◌, List, [], ◌∷◌, ◌++◌, length, Contains, map, fold, drop, find, codes, slice_get, option_map, is_some, nat_le, nat_lt, Option, Some, None, Result, Ok, Err, IsSome, IsNone, IsTrue, if◌then◌else◌}
+use Rattle.std.specs.Prelude.{◌≡◌, ℕ, ◌+◌, ◌<◌, ◌≤◌, Bool, true, false, not, ◌&&◌, ◌⊎◌, List, [], ◌∷◌, ◌++◌, length, Contains, map, fold, drop, find, codes, slice_get, is_some, nat_le, nat_lt, Option, Some, None, Result, Ok, Err, IsNone, IsTrue, if◌then◌else◌}
 use Rattle.std.specs.List.{list_any, IsDistinct}
 use Rattle.qd_base.specs.declared.limits.TheConstants.{MAX_BATCH_CELLS, MAX_COLUMNS, MAX_TABLES, MAX_TEXT_BYTES, MAX_TIME}
 use Rattle.qd_base.specs.declared.code.Code.{Code}

@@ -72,5 +72,13 @@ is_stamp w = are_digits (unsigned w)
 abbrev pub moment_of : Bool → ℕ → Moment
 moment_of negative nanos = if negative && not (nanos == 0) then Outside else if nat_le (nanos / 1000) MAX_TIME then At (nanos / 1000) else Outside
 
+-- what a stamp begins with: a digit or a minus sign
+abbrev pub is_numeral : ℕ → Bool
+is_numeral b = b == 45 || is_digit b
+
+abbrev pub begins_numeral : List ℕ → Bool
+begins_numeral [] = false
+begins_numeral (b ∷ bs) = is_numeral b
+
 unfoldable pub stamp : List ℕ → Moment
 stamp w = moment_of (begins 45 w) (number_of (unsigned w))

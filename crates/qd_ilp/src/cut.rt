@@ -1,5 +1,5 @@
 //! Where a part of a line ends, and the bytes that it stands for.
-ghost use Rattle.std.specs.Prelude.{◌≡◌, ◌+◌, ◌≤◌, ◌&&◌, ◌==◌, ◌++◌, [], ◌∷◌, not, false, take, drop, length, IfOk, OnOk, OnErr, MatchOption, true, if◌then◌else◌};
+ghost use Rattle.std.specs.Prelude.{◌≡◌, ℕ, List, ◌||◌, ◌+◌, ◌≤◌, ◌&&◌, ◌==◌, ◌++◌, [], ◌∷◌, not, false, take, drop, length, IfOk, OnOk, OnErr, MatchOption, true, if◌then◌else◌};
 ghost use Rattle.qd_ilp.specs.Cut.{at_end, begins, is_special, is_quoted_special, is_plain, stops, ends_word, escapes, cut, fronted, word, closed_behind, Gives, Grows};
 
 use crate::stop::Stop;
@@ -160,6 +160,39 @@ fn ends_word(text: &[u8]) -> bool
 /// behind its closing quote on. It costs time linear in what it goes over.
 #[tactic(auto, using(crate::proofs::Growing::grows_not, crate::proofs::Growing::grows_by, crate::proofs::Growing::grows_twice))]
 pub(crate) fn push_closed<'a>(bytes: &mut Vec<u8>, text: &'a [u8]) -> Result<&'a [u8], Stop>
+    ensures closed { Gives (λ rest. (bytes.new.items, rest.now)) result (closed_behind bytes.old.items false text.now) }
+    ensures shorter { IfOk result (λ rest. length rest.now ≤ length text.now) }
+    ensures grows { Grows bytes.old.items bytes.new.items }
+{
+    let count = unquoted_bytes(text);
+    let (front, rest) = text.split_at(count);
+    bytes.extend_from_slice(front)?;
+    push_closed_escaped(bytes, rest)
+}
+
+/// How many bytes of a quoted text stand for themselves, before the first quote or backslash.
+fn unquoted_bytes(text: &[u8]) -> usize
+    ensures within { result ≤ length text.now }
+    ensures closed { (front : List ℕ) → closed_behind front false text.now
+        ≡ closed_behind (front ++ take result text.now) false (drop result text.now) }
+{
+    for (i, byte) in text.iter().enumerate() {
+        if is_quote_or_backslash(*byte) {
+            return i;
+        }
+    }
+    text.len()
+}
+
+fn is_quote_or_backslash(byte: u8) -> bool
+    ensures one { result ≡ (byte == 34 || byte == 92) }
+{
+    byte == b'"' || byte == b'\\'
+}
+
+/// The same as `push_closed`, byte by byte.
+#[tactic(auto, using(crate::proofs::Growing::grows_not, crate::proofs::Growing::grows_by, crate::proofs::Growing::grows_twice))]
+fn push_closed_escaped<'a>(bytes: &mut Vec<u8>, text: &'a [u8]) -> Result<&'a [u8], Stop>
     ensures closed { Gives (λ rest. (bytes.new.items, rest.now)) result (closed_behind bytes.old.items false text.now) }
     ensures shorter { IfOk result (λ rest. length rest.now ≤ length text.now) }
     ensures grows { Grows bytes.old.items bytes.new.items }

@@ -1,6 +1,7 @@
 //! What stands behind the tags and fields of a line.
 ghost use Rattle.std.specs.Prelude.{◌≡◌, ◌≤◌, ◌+◌, ◌<◌, length, None, Some, IfSome, IfNone, MatchOption, option_map};
 ghost use Rattle.qd_ilp.specs.Line.{after_spaces, behind_end, stamp_at, tail_at, to_end};
+ghost use Rattle.qd_ilp.specs.Value.{begins_numeral};
 ghost use Rattle.qd_ilp.specs.Kept.{moment_in};
 
 use crate::cut::{after, at_end, begins_with, behind, split_word};
@@ -42,12 +43,25 @@ pub(crate) fn behind_end(text: &[u8]) -> Option<&[u8]>
     }
 }
 
+/// Whether the text begins with a digit or a minus sign.
+fn begins_numeral(text: &[u8]) -> bool
+    ensures numeral { result ≡ begins_numeral text.now }
+{
+    match text {
+        [] => false,
+        [byte, ..] => *byte == b'-' || (b'0' <= *byte && *byte <= b'9'),
+    }
+}
+
 /// Reads a stamp, spaces and the end of a line.
-#[tactic(auto, unfolding(crate::specs::Line::stamp_at))]
+#[tactic(auto, unfolding(crate::specs::Line::stamp_at), using(crate::proofs::Numerals::no_stamp_here))]
 fn stamp_at(text: &[u8]) -> Option<Tail<'_>>
     ensures tail { option_map (λ tail. (option_map moment_in tail.when, tail.rest.now)) result ≡ stamp_at text.now }
     ensures shorter { IfSome result (λ tail. length tail.rest.now ≤ length text.now) }
 {
+    if !begins_numeral(text) {
+        return None;
+    }
     let (word, rest) = split_word(text);
     let when = stamp(word)?;
     let rest = behind_end(after_spaces(rest))?;

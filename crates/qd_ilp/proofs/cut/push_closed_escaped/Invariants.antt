@@ -1,6 +1,6 @@
 use Rattle.std.proofs.Common.{◌≡◌, ◌≤◌, ◌+◌, length, false, drop}
 use Rattle.qd_ilp.specs.Cut.{closed_behind, Grows}
-use Rattle.qd_ilp.proofs.cut.push_closed.Given as goal
+use Rattle.qd_ilp.proofs.cut.push_closed_escaped.Given as goal
 
 abbrev pub invariant-loop-i : goal.invariant-loop-i
 invariant-loop-i l = record {

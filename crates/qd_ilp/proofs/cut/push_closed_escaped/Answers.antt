@@ -1,7 +1,7 @@
 use Rattle.std.proofs.Common.{◌∙◌, sym}
 use Rattle.qd_ilp.proofs.Growing.{grows_by, grows_twice}
 use Rattle.qd_ilp.proofs.Cuts.{few_more, closed_more, closed_done, closed_over}
-use Rattle.qd_ilp.proofs.cut.push_closed.Goals as goal
+use Rattle.qd_ilp.proofs.cut.push_closed_escaped.Goals as goal
 
 pub loop-i-preserved : goal.loop-i-preserved
 loop-i-preserved c = record {

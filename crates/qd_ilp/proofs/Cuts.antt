@@ -31,14 +31,14 @@ pub or_false : (p q : Bool) → (p || q) ≡ false → (p ≡ false) × (q ≡ f
 or_false false q h = (refl, h)
 or_false true q h = absurd cc
 
-not_true : (p : Bool) → not p ≡ true → p ≡ false
+pub not_true : (p : Bool) → not p ≡ true → p ≡ false
 not_true false h = refl
 not_true true h = absurd cc
 
 pub goes_on : (b : ℕ) (bs : List ℕ) → is_separator b ≡ false → (b == 10) ≡ false → (b == 13) ≡ false → stops (b ∷ bs) ≡ false
 goes_on b bs separator lf cr = rw (separator, lf, cr) refl
 
-no_escape : (b : ℕ) (bs : List ℕ) → (b == 92) ≡ false → escapes is_special (b ∷ bs) ≡ false
+pub no_escape : (b : ℕ) (bs : List ℕ) → (b == 92) ≡ false → escapes is_special (b ∷ bs) ≡ false
 no_escape b [] backslash = refl
 no_escape b (c ∷ cs) backslash = rw backslash refl
 
@@ -146,7 +146,7 @@ few_more before bytes false i b bytes' pushed few =
     let size : length bytes' ≡ length bytes + 1 = ap length pushed ∙ length-append bytes (b ∷ []) in
     omega (arith, size, few)
 
-no_quoted_escape : (b : ℕ) (bs : List ℕ) → (b == 92) ≡ false → escapes is_quoted_special (b ∷ bs) ≡ false
+pub no_quoted_escape : (b : ℕ) (bs : List ℕ) → (b == 92) ≡ false → escapes is_quoted_special (b ∷ bs) ≡ false
 no_quoted_escape b [] backslash = refl
 no_quoted_escape b (c ∷ cs) backslash = rw backslash refl
 

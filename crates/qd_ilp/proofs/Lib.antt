@@ -14,3 +14,4 @@ pub mod Listed
 pub mod Tailed
 pub mod Spelled
 pub mod LineSpelled
+pub mod Escapes

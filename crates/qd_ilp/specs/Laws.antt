@@ -1,5 +1,5 @@
 -- Laws: the reading from left to right gives what the grammar says, and nothing else.
-use Rattle.std.specs.Prelude.{◌≡◌, ℕ, Bool, true, false, List, Option, Some, ◌↔◌, [], ◌∷◌, None, pos, codes}
+use Rattle.std.specs.Prelude.{◌≡◌, ℕ, Bool, true, false, List, Option, Some, ◌↔◌, [], ◌∷◌, None, pos, codes, ◌++◌}
 use Rattle.qd_base.specs.declared.cell.Cell.TheVariants as cell
 use Rattle.qd_base.specs.declared.schema.ColType.{ColType}
 use Rattle.qd_base.specs.declared.schema.ColType.TheVariants as kind
@@ -9,7 +9,8 @@ use Rattle.qd_base.specs.declared.schema.Schema.{Schema}
 use Rattle.qd_base.specs.declared.op.Op.TheVariants as op
 use Rattle.qd_ilp.specs.Transaction.{transaction_of_lines}
 use Rattle.qd_ilp.specs.Whole.{Reading, IsReading}
-use Rattle.qd_ilp.specs.Cut.{cut, word, closed}
+use Rattle.qd_ilp.specs.Cut.{cut, word, closed, is_special, is_quoted_special, stops, ends_word}
+use Rattle.qd_ilp.specs.Printed.{escaped, is_one_line, ItemIn}
 use Rattle.qd_ilp.specs.Value.{Value, Tag, Text, Long, Truth, Moment, At}
 use Rattle.qd_ilp.specs.Line.{Item, Row, item_at, tags_at, tail_at, row_at, Line, read_line, Blank, Gives}
 use Rattle.qd_ilp.specs.Grammar.{Name, Word, Quoted, IsItem, Items, Tail, IsRow, ReadsLine}
@@ -63,3 +64,10 @@ pub record WorkedLines : Type 0 where
   pub missing :
       transaction_of_lines (table_t ∷ []) 7 (Gives (record { table = codes "t"; items = item_of (codes "k") (Tag (codes "a")) ∷ []; moment = None }) ∷ [])
       ≡ record { ops = op.AddColumn (codes "t") (column_of (codes "k") kind.Symbol) ∷ op.Insert (codes "t") ((cell.Null ∷ cell.Time 7 ∷ cell.Text (codes "a") ∷ []) ∷ []) ∷ [] }
+
+-- A name, a quoted text and a tag or field that are written with every escape that they need are read back, where what
+-- follows ends them.
+pub record EscapesAreUndone : Type 0 where
+  pub names : (name rest : List ℕ) → is_one_line name ≡ true → stops rest ≡ true → Name (escaped is_special name ++ rest) name rest
+  pub texts : (text rest : List ℕ) → Quoted (escaped is_quoted_special text ++ 34 ∷ rest) text rest
+  pub items : (tag : Bool) (item : Item) (bytes rest : List ℕ) → ItemIn tag item bytes → stops rest ≡ true → ends_word rest ≡ true → IsItem tag (bytes ++ rest) item rest

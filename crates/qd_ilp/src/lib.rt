@@ -16,4 +16,4 @@ mod tests;
 mod value;
 
 pub use batch::{Batch, lacks_time, parse_batch};
-pub use laws::{parts_are_cut, texts_are_read, worked_lines};
+pub use laws::{escapes_are_undone, parts_are_cut, texts_are_read, worked_lines};

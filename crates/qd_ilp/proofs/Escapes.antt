@@ -11,10 +11,10 @@ use Rattle.qd_ilp.specs.Printed.{escaped, is_one_line, is_word, IsBare, TagIn, F
 use Rattle.qd_ilp.proofs.Numbers.{and_true}
 use Rattle.qd_ilp.proofs.Cuts.{or_false, not_true, goes_on, no_escape, no_quoted_escape}
 
-escaped_first : (special : ℕ → Bool) (b : ℕ) (bs : List ℕ) → special b ≡ true → escaped special (b ∷ bs) ≡ 92 ∷ b ∷ escaped special bs
+pub escaped_first : (special : ℕ → Bool) (b : ℕ) (bs : List ℕ) → special b ≡ true → escaped special (b ∷ bs) ≡ 92 ∷ b ∷ escaped special bs
 escaped_first special b bs h = rw h refl
 
-plain_first : (special : ℕ → Bool) (b : ℕ) (bs : List ℕ) → special b ≡ false → escaped special (b ∷ bs) ≡ b ∷ escaped special bs
+pub plain_first : (special : ℕ → Bool) (b : ℕ) (bs : List ℕ) → special b ≡ false → escaped special (b ∷ bs) ≡ b ∷ escaped special bs
 plain_first special b bs h = rw h refl
 
 pub name_again : (name rest : List ℕ) → is_one_line name ≡ true → stops rest ≡ true → Name (escaped is_special name ++ rest) name rest
@@ -55,7 +55,7 @@ word_goes_on b bs h =
     let lf = or_false (b == 44 || b == 32) (b == 10) cr.0 in
     rw (lf.0, lf.1, cr.1) refl
 
-word_again : (w rest : List ℕ) → is_word w ≡ true → ends_word rest ≡ true → Word (w ++ rest) w rest
+pub word_again : (w rest : List ℕ) → is_word w ≡ true → ends_word rest ≡ true → Word (w ++ rest) w rest
 word_again [] rest plain ends = (refl, ends)
 word_again (b ∷ bs) rest plain ends =
     let both = and_true (not (b == 44 || b == 32 || b == 10 || b == 13)) (is_word bs) plain in

@@ -15,3 +15,4 @@ pub mod Tailed
 pub mod Spelled
 pub mod LineSpelled
 pub mod Escapes
+pub mod RowEscapes

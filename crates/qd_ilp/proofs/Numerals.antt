@@ -13,7 +13,7 @@ or_right : (p q : Bool) → q ≡ true → (p || q) ≡ true
 or_right true q h = refl
 or_right false q h = h
 
-and_both : (p q : Bool) → p ≡ true → q ≡ true → (p && q) ≡ true
+pub and_both : (p q : Bool) → p ≡ true → q ≡ true → (p && q) ≡ true
 and_both true q h k = k
 and_both false q h k = h
 

@@ -17,7 +17,7 @@ use Rattle.qd_ilp.proofs.Rows.{rest_of, rest_tail, rest_fields}
 
 -- ---- no stamp is a field
 
-numeral_low : (b : ℕ) → is_numeral b ≡ true → (45 ≤ b) × (b ≤ 57)
+pub numeral_low : (b : ℕ) → is_numeral b ≡ true → (45 ≤ b) × (b ≤ 57)
 numeral_low b h =
     elim (cases_Bool (b == 45)) [
       | inl minus ↦ let same = eqb-true b 45 minus in (omega (arith, same), omega (arith, same))

@@ -10,7 +10,7 @@ use Rattle.qd_base.specs.declared.op.Op.TheVariants as op
 use Rattle.qd_ilp.specs.Transaction.{transaction_of_lines}
 use Rattle.qd_ilp.specs.Whole.{Reading, IsReading}
 use Rattle.qd_ilp.specs.Cut.{cut, word, closed, is_special, is_quoted_special, stops, ends_word}
-use Rattle.qd_ilp.specs.Printed.{escaped, is_one_line, ItemIn}
+use Rattle.qd_ilp.specs.Printed.{escaped, is_one_line, ItemIn, RowIn}
 use Rattle.qd_ilp.specs.Value.{Value, Tag, Text, Long, Truth, Moment, At}
 use Rattle.qd_ilp.specs.Line.{Item, Row, item_at, tags_at, tail_at, row_at, Line, read_line, Blank, Gives}
 use Rattle.qd_ilp.specs.Grammar.{Name, Word, Quoted, IsItem, Items, Tail, IsRow, ReadsLine}
@@ -71,3 +71,5 @@ pub record EscapesAreUndone : Type 0 where
   pub names : (name rest : List ℕ) → is_one_line name ≡ true → stops rest ≡ true → Name (escaped is_special name ++ rest) name rest
   pub texts : (text rest : List ℕ) → Quoted (escaped is_quoted_special text ++ 34 ∷ rest) text rest
   pub items : (tag : Bool) (item : Item) (bytes rest : List ℕ) → ItemIn tag item bytes → stops rest ≡ true → ends_word rest ≡ true → IsItem tag (bytes ++ rest) item rest
+  -- a row that is written as a line, and LF
+  pub rows : (row : Row) (bytes rest : List ℕ) → RowIn row bytes → IsRow (bytes ++ 10 ∷ rest) row rest

@@ -17,7 +17,7 @@ pub fn worked_lines()
     ensures law { WorkedLines }
 {}
 
-/// Names, quoted texts, tags and fields that are written with every escape that they need are read back.
+/// Names, quoted texts, tags, fields and whole rows that are written with every escape that they need are read back.
 pub fn escapes_are_undone()
     ensures law { EscapesAreUndone }
 {}

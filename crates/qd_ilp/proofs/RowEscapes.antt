@@ -27,8 +27,7 @@ items_again tag [] bytes rest spelled stop ends comma =
     let whole : bytes ++ rest ≡ rest = ap (λ (l : List ℕ). l ++ rest) spelled in
     (whole, ap (begins 44) whole ∙ comma)
 items_again tag (i ∷ is) bytes rest spelled stop ends comma =
-    let whole : bytes ++ rest ≡ 44 ∷ (spelled.0 ++ (spelled.1 ++ rest)) = ap (λ (l : List ℕ). l ++ rest) spelled.2 ∙ ap (λ (l : List ℕ). let k : List ℕ = 44 ∷ l in k) (append_assoc spelled.0 spelled.1 rest) in
-    (
+    let whole : bytes ++ rest ≡ 44 ∷ (spelled.0 ++ (spelled.1 ++ rest)) = ap (λ (l : List ℕ). l ++ rest) spelled.2 ∙ ap (λ (l : List ℕ). let k : List ℕ = 44 ∷ l in k) (append_assoc spelled.0 spelled.1 rest) in (
       spelled.0 ++ (spelled.1 ++ rest),
       spelled.1 ++ rest,
       whole,
@@ -72,8 +71,7 @@ tail_again : (moment : Option Moment) (bytes rest : List ℕ) → StampIn moment
 tail_again None bytes rest spelled = (10 ∷ rest, (0, ap (λ (l : List ℕ). l ++ 10 ∷ rest) spelled, refl), inr (inl refl))
 tail_again (Some moment) bytes rest spelled =
     let whole : bytes ++ 10 ∷ rest ≡ 32 ∷ (spelled.0 ++ 10 ∷ rest) = ap (λ (l : List ℕ). l ++ 10 ∷ rest) spelled.1 in
-    let numerals = stamp_numerals spelled.0 spelled.3 in
-    (
+    let numerals = stamp_numerals spelled.0 spelled.3 in (
       spelled.0 ++ 10 ∷ rest,
       spelled.0,
       10 ∷ rest,
@@ -108,8 +106,7 @@ fields_again (f ∷ fs) moment fielded stamped rest spelled stamp_in =
     let whole : fielded ++ (stamped ++ 10 ∷ rest) ≡ 32 ∷ (spelled.0 ++ (spelled.1 ++ (stamped ++ 10 ∷ rest))) =
     ap (λ (l : List ℕ). l ++ (stamped ++ 10 ∷ rest)) spelled.2 ∙ ap (λ (l : List ℕ). let k : List ℕ = 32 ∷ l in k) (append_assoc spelled.0 spelled.1 (stamped ++ 10 ∷ rest)) in
     let stop = stamp_stops moment stamped rest stamp_in in
-    let ends = stamp_ends moment stamped rest stamp_in in
-    (
+    let ends = stamp_ends moment stamped rest stamp_in in (
       spelled.0 ++ (spelled.1 ++ (stamped ++ 10 ∷ rest)),
       stamped ++ 10 ∷ rest,
       ap (begins 32) whole,
@@ -147,6 +144,6 @@ row_again row bytes rest r =
     let comma = fields_no_comma r.1 row.moment r.3 r.4 rest r.9 r.10 in
     let named = name_again row.table (r.2 ++ (r.3 ++ (r.4 ++ 10 ∷ rest))) r.7 (items_stop true r.0 r.2 (r.3 ++ (r.4 ++ 10 ∷ rest)) r.8 stop) in
     let spelled : IsRow (escaped is_special row.table ++ (r.2 ++ (r.3 ++ (r.4 ++ 10 ∷ rest)))) row rest =
-        (r.0, r.1, r.2 ++ (r.3 ++ (r.4 ++ 10 ∷ rest)), r.3 ++ (r.4 ++ 10 ∷ rest), named, r.6, items_again true r.0 r.2 (r.3 ++ (r.4 ++ 10 ∷ rest)) r.8 stop ends comma, fields_again r.1 row.moment r.3 r.4 rest r.9 r.10, r.11, r.12) in
+    (r.0, r.1, r.2 ++ (r.3 ++ (r.4 ++ 10 ∷ rest)), r.3 ++ (r.4 ++ 10 ∷ rest), named, r.6, items_again true r.0 r.2 (r.3 ++ (r.4 ++ 10 ∷ rest)) r.8 stop ends comma, fields_again r.1 row.moment r.3 r.4 rest r.9 r.10, r.11, r.12) in
     let P : List ℕ → Type 0 = λ l. IsRow l row rest in
     subst P (sym whole) spelled

@@ -1,0 +1,229 @@
+//! Where a part of a line ends, and the bytes that it stands for.
+ghost use Rattle.std.specs.Prelude.{◌≡◌, ℕ, List, ◌||◌, ◌+◌, ◌≤◌, ◌&&◌, ◌==◌, ◌++◌, [], ◌∷◌, not, false, take, drop, length, IfOk, OnOk, OnErr, MatchOption, true, if◌then◌else◌};
+ghost use Rattle.qd_ilp.specs.Cut.{at_end, begins, is_special, is_quoted_special, is_plain, stops, ends_word, escapes, cut, fronted, word, closed_behind, Gives, Grows};
+
+use crate::stop::Stop;
+use qd_base::Memory;
+
+/// Whether a line ends here: at the end of the text, at LF, or at CR before LF.
+pub(crate) fn at_end(text: &[u8]) -> bool
+    ensures ends { result ≡ at_end text.now }
+{
+    match text {
+        [] => true,
+        [byte, rest @ ..] => *byte == b'\n' || (*byte == b'\r' && begins_with(rest, b'\n')),
+    }
+}
+
+/// Whether the text begins with this byte.
+pub(crate) fn begins_with(text: &[u8], byte: u8) -> bool
+    ensures begins { result ≡ begins byte text.now }
+{
+    match text {
+        [] => false,
+        [first, ..] => *first == byte,
+    }
+}
+
+/// The text behind a byte, where it begins with it.
+pub(crate) fn after(text: &[u8], byte: u8) -> Option<&[u8]>
+    ensures after { MatchOption result (begins byte text.now ≡ false)
+        (λ rest. (begins byte text.now ≡ true) × (rest.now ≡ drop 1 text.now) × (length rest.now + 1 ≡ length text.now)) }
+{
+    if begins_with(text, byte) {
+        Some(behind(text, 1))
+    } else {
+        None
+    }
+}
+
+/// The text from an offset on.
+pub(crate) fn behind(text: &[u8], offset: usize) -> &[u8]
+    requires { offset ≤ length text.now }
+    ensures rest { result.now ≡ drop offset text.now }
+{
+    text.split_at(offset).1
+}
+
+/// How many bytes stand for themselves, before the first that may end a name or be a backslash.
+fn plain_bytes(text: &[u8]) -> usize
+    ensures within { result ≤ length text.now }
+    ensures cut { cut false text.now ≡ fronted (take result text.now) (cut false (drop result text.now)) }
+{
+    for (i, byte) in text.iter().enumerate() {
+        if !is_plain(*byte) {
+            return i;
+        }
+    }
+    text.len()
+}
+
+/// Whether a byte stands for itself, whatever stands beside it.
+fn is_plain(byte: u8) -> bool
+    ensures plain { result ≡ is_plain byte }
+{
+    byte != b',' && byte != b' ' && byte != b'=' && byte != b'\\' && byte != b'\n' && byte != b'\r'
+}
+
+/// Puts the bytes of a name or a tag's value at the end of `bytes`, and gives the text from its end on. It costs time
+/// linear in what it goes over.
+#[tactic(auto, using(crate::proofs::Growing::grows_not, crate::proofs::Growing::grows_by, crate::proofs::Growing::grows_twice))]
+pub(crate) fn push_cut<'a>(bytes: &mut Vec<u8>, text: &'a [u8]) -> Result<&'a [u8], Memory>
+    ensures cut { IfOk result (λ rest. fronted bytes.old.items (cut false text.now) ≡ (bytes.new.items, rest.now)) }
+    ensures shorter { IfOk result (λ rest. length bytes.new.items + length rest.now ≤ length bytes.old.items + length text.now) }
+    ensures grows { Grows bytes.old.items bytes.new.items }
+{
+    let count = plain_bytes(text);
+    let (front, rest) = text.split_at(count);
+    bytes.extend_from_slice(front)?;
+    push_escaped(bytes, rest)
+}
+
+/// The same, byte by byte.
+#[tactic(auto, using(crate::proofs::Growing::grows_not, crate::proofs::Growing::grows_by, crate::proofs::Growing::grows_twice))]
+fn push_escaped<'a>(bytes: &mut Vec<u8>, text: &'a [u8]) -> Result<&'a [u8], Memory>
+    ensures cut { IfOk result (λ rest. fronted bytes.old.items (cut false text.now) ≡ (bytes.new.items, rest.now)) }
+    ensures shorter { IfOk result (λ rest. length bytes.new.items + length rest.now ≤ length bytes.old.items + length text.now) }
+    ensures grows { Grows bytes.old.items bytes.new.items }
+{
+    let mut plain = false;
+    for (i, byte) in text.iter().enumerate() {
+        let rest = behind(text, i);
+        if stops(plain, rest) {
+            return Ok(rest);
+        }
+        plain = escapes(plain, rest);
+        push_unless(plain, bytes, *byte)?;
+    }
+    Ok(behind(text, text.len()))
+}
+
+/// Whether a name or a tag's value ends here.
+fn stops(plain: bool, text: &[u8]) -> bool
+    ensures stops { result ≡ (not plain && stops text.now) }
+{
+    !plain
+        && match text {
+            [] => true,
+            [byte, ..] => *byte == b',' || *byte == b' ' || *byte == b'=' || at_end(text),
+        }
+}
+
+/// Whether a backslash stands here that makes the byte behind it plain in a name.
+fn escapes(plain: bool, text: &[u8]) -> bool
+    ensures escapes { result ≡ (not plain && escapes is_special text.now) }
+{
+    !plain
+        && match text {
+            [b'\\', byte, ..] => {
+                *byte == b',' || *byte == b' ' || *byte == b'=' || *byte == b'\\'
+            }
+            _ => false,
+        }
+}
+
+/// Puts a byte at the end, unless it is left out.
+fn push_unless(left_out: bool, bytes: &mut Vec<u8>, byte: u8) -> Result<(), Memory>
+    ensures pushed { OnOk result (bytes.new.items ≡ bytes.old.items ++ (if left_out then [] else byte ∷ [])) }
+    ensures err { OnErr result (bytes.new.items ≡ bytes.old.items) }
+{
+    if !left_out {
+        bytes.push(byte)?;
+    }
+    Ok(())
+}
+
+/// Cuts a value that is no text: its bytes, and the text from its end on. It costs time linear in the value.
+pub(crate) fn split_word(text: &[u8]) -> (&[u8], &[u8])
+    ensures word { word text.now ≡ (result.0.now, result.1.now) }
+    ensures shorter { length result.0.now + length result.1.now ≡ length text.now }
+{
+    for i in 0..text.len() {
+        if ends_word(behind(text, i)) {
+            return text.split_at(i);
+        }
+    }
+    text.split_at(text.len())
+}
+
+/// Whether a value that is no text ends here.
+fn ends_word(text: &[u8]) -> bool
+    ensures ends { result ≡ ends_word text.now }
+{
+    match text {
+        [] => true,
+        [byte, ..] => *byte == b',' || *byte == b' ' || at_end(text),
+    }
+}
+
+/// Puts the bytes of a quoted text at the end of `bytes`, from behind its opening quote, and gives the text from
+/// behind its closing quote on. It costs time linear in what it goes over.
+#[tactic(auto, using(crate::proofs::Growing::grows_not, crate::proofs::Growing::grows_by, crate::proofs::Growing::grows_twice))]
+pub(crate) fn push_closed<'a>(bytes: &mut Vec<u8>, text: &'a [u8]) -> Result<&'a [u8], Stop>
+    ensures closed { Gives (λ rest. (bytes.new.items, rest.now)) result (closed_behind bytes.old.items false text.now) }
+    ensures shorter { IfOk result (λ rest. length rest.now ≤ length text.now) }
+    ensures grows { Grows bytes.old.items bytes.new.items }
+{
+    let count = unquoted_bytes(text);
+    let (front, rest) = text.split_at(count);
+    bytes.extend_from_slice(front)?;
+    push_closed_escaped(bytes, rest)
+}
+
+/// How many bytes of a quoted text stand for themselves, before the first quote or backslash.
+fn unquoted_bytes(text: &[u8]) -> usize
+    ensures within { result ≤ length text.now }
+    ensures closed { (front : List ℕ) → closed_behind front false text.now
+        ≡ closed_behind (front ++ take result text.now) false (drop result text.now) }
+{
+    for (i, byte) in text.iter().enumerate() {
+        if is_quote_or_backslash(*byte) {
+            return i;
+        }
+    }
+    text.len()
+}
+
+fn is_quote_or_backslash(byte: u8) -> bool
+    ensures one { result ≡ (byte == 34 || byte == 92) }
+{
+    byte == b'"' || byte == b'\\'
+}
+
+/// The same as `push_closed`, byte by byte.
+#[tactic(auto, using(crate::proofs::Growing::grows_not, crate::proofs::Growing::grows_by, crate::proofs::Growing::grows_twice))]
+fn push_closed_escaped<'a>(bytes: &mut Vec<u8>, text: &'a [u8]) -> Result<&'a [u8], Stop>
+    ensures closed { Gives (λ rest. (bytes.new.items, rest.now)) result (closed_behind bytes.old.items false text.now) }
+    ensures shorter { IfOk result (λ rest. length rest.now ≤ length text.now) }
+    ensures grows { Grows bytes.old.items bytes.new.items }
+{
+    let mut plain = false;
+    for (i, byte) in text.iter().enumerate() {
+        if is_closing(plain, *byte) {
+            return Ok(behind(text, i + 1));
+        }
+        plain = escapes_quoted(plain, behind(text, i));
+        push_unless(plain, bytes, *byte)?;
+    }
+    Err(Stop::Syntax)
+}
+
+/// Whether a byte closes a quoted text.
+fn is_closing(plain: bool, byte: u8) -> bool
+    ensures closing { result ≡ (not plain && byte == 34) }
+{
+    !plain && byte == b'"'
+}
+
+/// Whether a backslash stands here that makes the byte behind it plain in a quoted text.
+fn escapes_quoted(plain: bool, text: &[u8]) -> bool
+    ensures escapes { result ≡ (not plain && escapes is_quoted_special text.now) }
+{
+    !plain
+        && match text {
+            [b'\\', byte, ..] => {
+                *byte == b'"' || *byte == b'\\' || *byte == b'\n' || *byte == b'\r'
+            }
+            _ => false,
+        }
+}

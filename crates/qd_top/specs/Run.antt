@@ -7,7 +7,7 @@ use Rattle.qd_base.specs.declared.request.Request.{Request}
 use Rattle.qd_base.specs.declared.request.Reply.{Reply}
 use Rattle.qd_base.specs.declared.request.Reply.TheVariants as reply
 use Rattle.qd_base.specs.Script.{Ending}
-use Rattle.qd_io.specs.Ends.{HasRisen}
+use Rattle.qd_io.specs.Ends.{HasRisen, Stream}
 use Rattle.qd_frames.specs.Frames.{Steps}
 use Rattle.qd_print.specs.Printed.{reply_bytes}
 use Rattle.qd_session.specs.Allowed.{Allowed}
@@ -151,3 +151,21 @@ abbrev pub CountsWrites : ℕ → ℕ → Status → Type 0
 CountsWrites before now status.WriteFault = (before ≤ now) × HasRisen before now
 CountsWrites before now status.Usage = before ≤ now
 CountsWrites before now s = now ≡ before
+
+-- What the top call says of these words, with an input and an output before it and after it, and a status.
+pub record Answered (given : List (List ℕ)) (input input' output output' : Stream) (number : ℕ) : Type 0 where
+  -- only words that are not known are answered with the usage line, and with nothing else
+  pub words : number ≡ 1 → IsRun given → ⊥
+  pub other_words : (IsRun given → ⊥) → (number ≡ 1) ⊎ (number ≡ 7)
+  pub usage : number ≡ 1 → (missing : List ℕ) × WroteUsage output.output output'.output missing × ((missing ≡ []) ⊎ HasRisen output.writes_failed output'.writes_failed)
+  -- what a run took and wrote
+  pub finished : number ≡ 0 → FinishedRun no_store input.input input'.input output.output output'.output
+  pub bad_frame : number ≡ 2 → RefusedRun no_store input.input input'.input output.output output'.output
+  pub read_fault : number ≡ 3 → StoppedRun no_store input.input input'.input output.output output'.output
+  pub write_fault : number ≡ 4 → CutRun no_store input.input input'.input output.output output'.output
+  pub no_memory : number ≡ 7 → IsRun given → CutRun no_store input.input input'.input output.output output'.output
+  -- causes
+  pub read_cause : number ≡ 3 → HasRisen input.reads_failed input'.reads_failed
+  pub write_cause : number ≡ 4 → HasRisen output.writes_failed output'.writes_failed
+  -- completeness
+  pub complete : IsRun given → IsWellFramed input.input → (HasRisen input.reads_failed input'.reads_failed → ⊥) → (HasRisen output.writes_failed output'.writes_failed → ⊥) → (number ≡ 0) ⊎ (number ≡ 7)

@@ -3,9 +3,11 @@
 //! `specs/Run` says what each status means.
 #![tactic(auto)]
 
+mod arguments;
 mod program;
 mod status;
 #[cfg(test)]
 mod tests;
 
+pub use arguments::run_program;
 pub use program::top;

@@ -1,0 +1,56 @@
+//! The program from its arguments: the words behind its name, and what it does with them.
+ghost use Rattle.std.specs.Prelude.{◌≡◌, ◌⊎◌, [], drop, map, IfOk};
+ghost use Rattle.std.specs.Result.{MatchResult};
+ghost use Rattle.std.specs.String.{string_bytes};
+ghost use Rattle.std.specs.Vec.Iter.{into_iter_items};
+ghost use Rattle.qd_top.specs.Run.{Answered};
+
+use crate::program::top;
+use crate::status::Status;
+use qd_base::{Memory, Txt};
+use qd_io::{Host, Sink, Source};
+use std::alloc::Global;
+use std::env::Args;
+use std::io;
+
+/// Runs the program on its arguments, the first of which is its own name, and gives the number that the process ends
+/// with.
+///
+/// The words behind the name go to `top`, byte for byte. Where the machine gives no arguments, since one of them isn't
+/// UTF-8, there is no word; where it finds no memory for them the status is 7, and nothing is read or written.
+pub fn run_program<R, S: Source, K: Sink, H: Host>(
+    rt: &R,
+    alloc: Global,
+    args: io::Result<Args>,
+    input: &mut S,
+    output: &mut K,
+    host: &mut H,
+) -> u8
+    // No memory was found for the words, and nothing was done; or this is what `top` says of them.
+    ensures answered { ((result ≡ 7) × (input.new ≡ input.old) × (output.new ≡ output.old))
+        ⊎ MatchResult args
+        (λ a. Answered (drop 1 (map (λ s. string_bytes s) (into_iter_items a))) (S.stream input.old) (S.stream input.new) (K.stream output.old) (K.stream output.new) result)
+        (λ e. Answered [] (S.stream input.old) (S.stream input.new) (K.stream output.old) (K.stream output.new) result) }
+{
+    match args {
+        Ok(args) => match words_of(alloc, args) {
+            Ok(words) => top(rt, alloc, words.as_slice(), input, output, host),
+            Err(_) => Status::NoMemory.number(),
+        },
+        Err(fault) if fault.kind() == io::ErrorKind::OutOfMemory => Status::NoMemory.number(),
+        Err(_) => top(rt, alloc, &[], input, output, host),
+    }
+}
+
+/// Copies the words behind the program's name.
+fn words_of(alloc: Global, args: Args) -> Result<Vec<Txt>, Memory>
+    ensures words { IfOk result (λ words. words.items ≡ drop 1 (map (λ s. string_bytes s) (into_iter_items args))) }
+{
+    let mut args = args;
+    let mut words = Vec::new(alloc);
+    let _name = args.next();
+    while let Some(arg) = args.next() {
+        words.push(Txt::from_bytes(alloc, arg.as_bytes())?)?;
+    }
+    Ok(words)
+}

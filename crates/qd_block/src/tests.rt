@@ -1,4 +1,6 @@
 //! Tests of what no clause says: that calls succeed where memory is found.
+ghost use Rattle.std.specs.Prelude.{◌≡◌, IfOk};
+
 use crate::{Block, Builder};
 use qd_base::{Col, ColList, ColType, Memory, Txt};
 use qd_symbols::SymbolMap;
@@ -33,7 +35,10 @@ fn pushed(rt: &impl Abort, alloc: Global, rows: &[(u8, u8)]) -> Result<Block<Sym
     builder.finish()
 }
 
-fn col(alloc: Global, kind: ColType) -> Result<Col, Memory> {
+/// A column of this kind.
+fn col(alloc: Global, kind: ColType) -> Result<Col, Memory>
+    ensures { IfOk result (λ c. c.kind ≡ kind) }
+{
     let name = Txt::from_bytes(alloc, b"c")?;
     Ok(Col { name, kind })
 }

@@ -154,10 +154,13 @@ CountsWrites before now s = now ≡ before
 
 -- What the top call says of these words, with an input and an output before it and after it, and a status.
 pub record Answered (given : List (List ℕ)) (input input' output output' : Stream) (number : ℕ) : Type 0 where
+  pub statuses : (number ≡ 0) ⊎ (number ≡ 1) ⊎ (number ≡ 2) ⊎ (number ≡ 3) ⊎ (number ≡ 4) ⊎ (number ≡ 7)
   -- only words that are not known are answered with the usage line, and with nothing else
   pub words : number ≡ 1 → IsRun given → ⊥
   pub other_words : (IsRun given → ⊥) → (number ≡ 1) ⊎ (number ≡ 7)
   pub usage : number ≡ 1 → (missing : List ℕ) × WroteUsage output.output output'.output missing × ((missing ≡ []) ⊎ HasRisen output.writes_failed output'.writes_failed)
+  pub other_output : (IsRun given → ⊥) → (missing : List ℕ) × WroteUsage output.output output'.output missing
+  pub unread : (IsRun given → ⊥) → input' ≡ input
   -- what a run took and wrote
   pub finished : number ≡ 0 → FinishedRun no_store input.input input'.input output.output output'.output
   pub bad_frame : number ≡ 2 → RefusedRun no_store input.input input'.input output.output output'.output
@@ -166,6 +169,8 @@ pub record Answered (given : List (List ℕ)) (input input' output output' : Str
   pub no_memory : number ≡ 7 → IsRun given → CutRun no_store input.input input'.input output.output output'.output
   -- causes
   pub read_cause : number ≡ 3 → HasRisen input.reads_failed input'.reads_failed
+  pub reads_stay : (number ≡ 3 → ⊥) → input'.reads_failed ≡ input.reads_failed
   pub write_cause : number ≡ 4 → HasRisen output.writes_failed output'.writes_failed
+  pub writes_stay : (number ≡ 4 → ⊥) → (number ≡ 1 → ⊥) → output'.writes_failed ≡ output.writes_failed
   -- completeness
   pub complete : IsRun given → IsWellFramed input.input → (HasRisen input.reads_failed input'.reads_failed → ⊥) → (HasRisen output.writes_failed output'.writes_failed → ⊥) → (number ≡ 0) ⊎ (number ≡ 7)

@@ -1,4 +1,4 @@
-use Rattle.std.proofs.Common.{ℕ, List, [], drop, map, inr, sym, subst, ◌∙◌}
+use Rattle.std.proofs.Common.{ℕ, List, [], drop, map, ap, inr, sym, subst, ◌∙◌}
 use Rattle.std.specs.Result.{MatchResult}
 use Rattle.std.specs.String.{string_bytes}
 use Rattle.std.specs.Vec.Iter.{into_iter_items}
@@ -10,16 +10,21 @@ returns-in-Ok-words_of g c =
     let Says : List (List ℕ) → Type 0 = λ words. Answered words (g.S.Ends.stream c.args.input.now) (g.S.Ends.stream c.top.new.input) (g.K.Ends.stream c.args.output.now) (g.K.Ends.stream c.top.new.output) c.top.result in
     let e = c.top.ensures in
     let said : Says c.as_slice.result.now = record {
+      statuses = e.statuses;
       words = e.words;
       other_words = e.other_words;
       usage = e.usage;
+      other_output = e.other_output;
+      unread = λ other. ap g.S.Ends.stream (e.unread other);
       finished = e.finished;
       bad_frame = e.bad_frame;
       read_fault = e.read_fault;
       write_fault = e.write_fault;
       no_memory = e.no_memory;
       read_cause = e.read_cause;
+      reads_stay = e.reads_stay;
       write_cause = e.write_cause;
+      writes_stay = e.writes_stay;
       complete = e.complete;
     } in
     let words = c.as_slice.ensures.value ∙ c.in-Ok-words_of.ensures.words in

@@ -3,7 +3,7 @@
 
 For N = 1, 2, .. it runs the built program on the stored example with its Nth allocation failing, until a run makes fewer
 allocations. Each answer has to be one that the contract of `top` allows: at status 0 every request has its own reply, or
-`E 61 0` and then stands as if it hadn't been made; at status 7 the answer is a front of such a transcript.
+`E 61 0` and then stands as if it hadn't been made; at status 7 the answer is a prefix of such a transcript.
 
 With --tests it also runs `rt try --test --fail-alloc N` in each crate that has tests, for N from 1 to TESTS: each test has
 to pass, or to end by an error or an assertion, and none may break off by a fault.
@@ -12,6 +12,7 @@ usage: fail_alloc.py [--program PATH] [--tests N]
 Build the program first: run `rt run -- run < stdin` in crates/tsdb. It needs a C compiler for the failing allocator.
 """
 import argparse
+import glob
 import itertools
 import os
 import subprocess
@@ -20,7 +21,6 @@ import tempfile
 
 HERE = os.path.dirname(os.path.abspath(__file__))
 CRATES = os.path.join(HERE, "..", "crates")
-TESTED = ["qd_base", "qd_io", "qd_links", "qd_time", "qd_session", "qd_top"]
 ROWS = b"R 1 42\nv,timestamp\n1,2024-01-01T00:00:00.000000Z\n"
 NO_MEMORY = b"E 61 0\n"
 
@@ -78,10 +78,20 @@ def program_runs(program):
                 return good
 
 
+def tested():
+    """The names of the crates that have tests."""
+    names = set()
+    for path in glob.glob(os.path.join(CRATES, "*", "src", "**", "*.rt"), recursive=True):
+        with open(path, encoding="utf-8") as file:
+            if "#[test]" in file.read():
+                names.add(os.path.relpath(path, CRATES).split(os.sep)[0])
+    return sorted(names)
+
+
 def test_runs(most):
     """Runs each crate's tests with each allocation failing in turn. Gives whether none broke off by a fault."""
     good = True
-    for name in TESTED:
+    for name in tested():
         for number in range(1, most + 1):
             run = subprocess.run(["rt", "try", "--test", "--fail-alloc", str(number)], cwd=os.path.join(CRATES, name),
                                  stdout=subprocess.PIPE, stderr=subprocess.STDOUT, text=True)

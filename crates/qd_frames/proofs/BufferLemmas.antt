@@ -15,14 +15,14 @@ same_waiting (Some t) p r p' r' e =
     let h = header t.kind t.size in
     append_assoc h p' r' ∙ (ap (λ xs. h ++ xs) e ∙ sym (append_assoc h p r))
 
--- where nothing is left and the text isn't whole, a front of a request waits
+-- where nothing is left and the text isn't whole, a prefix of a request waits
 pub more_wanted : (t : Text) (p r p' r' : List ℕ) → t.size ≤ limit t.kind → length p' < t.size → r' ≡ [] → p' ++ r' ≡ p ++ r → IsUnfinished (bytes_of (Some t) p ++ r)
 more_wanted t p r p' r' fits less none e =
     let h = header t.kind t.size in
     let all : p' ≡ p ++ r = sym (append-nil p') ∙ (ap (λ xs. p' ++ xs) (sym none) ∙ e) in
     subst IsUnfinished (ap (λ xs. h ++ xs) all ∙ sym (append_assoc h p r)) (short_payload t.kind t.size p' fits less)
 
--- a text that is whole is a request, whose frame was at the front of what waited
+-- a text that is whole is a request, whose frame what waited began with
 pub whole_taken : (t : Text) (p r p' r' d : List ℕ) (asked : Request) (start : ℕ) → t.size ≤ limit t.kind → t.head ≡ length (header t.kind t.size) → length p' ≡ t.size → asked ≡ request_of t.kind p' → d ≡ [] → p' ++ r' ≡ p ++ r
     → IsFramed asked × (bytes_of (Some t) p ++ r ≡ frame asked ++ (d ++ r')) × (start + (t.head + t.size) ≡ start + length (frame asked))
 whole_taken t p r p' r' d asked start fits head size is none e =

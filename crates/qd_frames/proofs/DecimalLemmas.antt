@@ -1,4 +1,4 @@
--- Numbers in decimal: what their fronts are, and where one ends.
+-- Numbers in decimal: what their prefixes are, and where one ends.
 use Rattle.std.proofs.Common.{◌≡◌, ℕ, ◌+◌, ◌-◌, ◌*◌, ◌/◌, ◌%◌, ◌^◌, ◌<◌, ◌≤◌, ◌⊎◌, inl, inr, true, false, List, [], ◌∷◌, ◌++◌, length, get_or, zero, suc, refl, sym, ap, ◌∙◌, arith, append_assoc}
 use Rattle.std.specs.Fmt.{decimal}
 use Rattle.std.specs.Char.{is_ascii_digit}
@@ -51,35 +51,35 @@ pub last_of : (xs : List ℕ) → (xs ≡ []) ⊎ ((ys : List ℕ) × (y : ℕ) 
 last_of [] = inl refl
 last_of (x ∷ xs) = elim (last_of xs) [ inl e ↦ inr ([], x, ap (λ zs. x ∷ zs) e) | inr p ↦ inr (x ∷ p.0, p.1, ap (λ zs. x ∷ zs) p.2) ]
 
--- a front of these digits spells a number that is no greater than m
-abbrev pub FrontsSpell : ℕ → List ℕ → Type 0
-FrontsSpell m ds = (front back : List ℕ) → ds ≡ front ++ back → 0 < length front → (k : ℕ) × (k ≤ m) × (front ≡ decimal k)
+-- a prefix of these digits spells a number that is no greater than m
+abbrev pub PrefixesSpell : ℕ → List ℕ → Type 0
+PrefixesSpell m ds = (prefix back : List ℕ) → ds ≡ prefix ++ back → 0 < length prefix → (k : ℕ) × (k ≤ m) × (prefix ≡ decimal k)
 
-abbrev pub SpelledFronts : ℕ → List ℕ → Type 0
-SpelledFronts m ds = m < 2 ^ 64 → (ds ≡ decimal m) × FrontsSpell m ds
+abbrev pub SpelledPrefixes : ℕ → List ℕ → Type 0
+SpelledPrefixes m ds = m < 2 ^ 64 → (ds ≡ decimal m) × PrefixesSpell m ds
 
-front_of_one : (m : ℕ) → m < 10 → FrontsSpell m ((48 + m) ∷ [])
-front_of_one m h [] back e some = absurd (omega arith)
-front_of_one m h (f ∷ []) back e some = (m, omega arith, (let g : f ≡ 48 + m = cc in ap (λ x. x ∷ []) g) ∙ sym (decimal_digit m h))
-front_of_one m h (f ∷ g ∷ gs) back e some = absurd (cc)
+prefix_of_one : (m : ℕ) → m < 10 → PrefixesSpell m ((48 + m) ∷ [])
+prefix_of_one m h [] back e some = absurd (omega arith)
+prefix_of_one m h (f ∷ []) back e some = (m, omega arith, (let g : f ≡ 48 + m = cc in ap (λ x. x ∷ []) g) ∙ sym (decimal_digit m h))
+prefix_of_one m h (f ∷ g ∷ gs) back e some = absurd (cc)
 
-front_of_more : (m : ℕ) (ds : List ℕ) → 10 ≤ m → SpelledFronts (m / 10) ds → m < 2 ^ 64 → FrontsSpell m (ds ++ (48 + m % 10) ∷ [])
-front_of_more m ds h before small front back e some =
+prefix_of_more : (m : ℕ) (ds : List ℕ) → 10 ≤ m → SpelledPrefixes (m / 10) ds → m < 2 ^ 64 → PrefixesSpell m (ds ++ (48 + m % 10) ∷ [])
+prefix_of_more m ds h before small prefix back e some =
     let small' : m / 10 < 2 ^ 64 = omega arith in
     let known = before small' in
     elim (last_of back) [
-      | inl none ↦ (m, omega arith, sym (append-nil front) ∙ (ap (λ x. front ++ x) (sym none) ∙ (sym e ∙ (ap (λ x. x ++ (48 + m % 10) ∷ []) known.0 ∙ sym (decimal_step m h small)))))
+      | inl none ↦ (m, omega arith, sym (append-nil prefix) ∙ (ap (λ x. prefix ++ x) (sym none) ∙ (sym e ∙ (ap (λ x. x ++ (48 + m % 10) ∷ []) known.0 ∙ sym (decimal_step m h small)))))
       | inr p ↦
-          let e' : ds ++ (48 + m % 10) ∷ [] ≡ (front ++ p.0) ++ p.1 ∷ [] = e ∙ (ap (λ x. front ++ x) p.2 ∙ sym (append_assoc front p.0 (p.1 ∷ []))) in
+          let e' : ds ++ (48 + m % 10) ∷ [] ≡ (prefix ++ p.0) ++ p.1 ∷ [] = e ∙ (ap (λ x. prefix ++ x) p.2 ∙ sym (append_assoc prefix p.0 (p.1 ∷ []))) in
           let cut = same_from_push _ _ _ _ e' in
-          let r = known.1 front p.0 cut.0 some in
+          let r = known.1 prefix p.0 cut.0 some in
           (r.0, omega arith, r.2)
     ]
 
--- a front of a number's digits spells a number that is no greater
-pub front_spells : (m : ℕ) → m < 2 ^ 64 → FrontsSpell m (decimal m)
-front_spells m small =
-    (decimal_by_steps SpelledFronts (λ n h s. (sym (decimal_digit n h), front_of_one n h)) (λ n ds h before s. (ap (λ x. x ++ (48 + n % 10) ∷ []) (before (omega arith)).0 ∙ sym (decimal_step n h s), front_of_more n ds h before s)) m small small).1
+-- a prefix of a number's digits spells a number that is no greater
+pub prefix_spells : (m : ℕ) → m < 2 ^ 64 → PrefixesSpell m (decimal m)
+prefix_spells m small =
+    (decimal_by_steps SpelledPrefixes (λ n h s. (sym (decimal_digit n h), prefix_of_one n h)) (λ n ds h before s. (ap (λ x. x ++ (48 + n % 10) ∷ []) (before (omega arith)).0 ∙ sym (decimal_step n h s), prefix_of_more n ds h before s)) m small small).1
 
 -- one digit more
 pub decimal_push : (n d : ℕ) → 0 < n → d < 10 → 10 * n + d < 2 ^ 64 → decimal (10 * n + d) ≡ decimal n ++ (48 + d) ∷ []

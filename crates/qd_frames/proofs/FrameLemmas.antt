@@ -11,18 +11,18 @@ use Rattle.qd_frames.specs.Frames.{frame, IsFramed, IsUnfinished, BeginsNone, St
 use Rattle.qd_frames.proofs.DecimalLemmas.{Digits, Digits-decimal, Digits-at, digits_within}
 use Rattle.qd_frames.proofs.HeadLemmas.{apart_up, apart_down}
 
--- lists of one length at the front of one list are equal
-pub fronts_of_one_length : (a b x y : List ℕ) → length a ≡ length b → a ++ x ≡ b ++ y → (a ≡ b) × (x ≡ y)
-fronts_of_one_length [] [] x y len e = (refl, e)
-fronts_of_one_length [] (c ∷ b) x y len e = absurd (omega arith)
-fronts_of_one_length (c ∷ a) [] x y len e = absurd (omega arith)
-fronts_of_one_length (c ∷ a) (d ∷ b) x y len e =
+-- prefixes of one length of one list are equal
+pub prefixes_of_one_length : (a b x y : List ℕ) → length a ≡ length b → a ++ x ≡ b ++ y → (a ≡ b) × (x ≡ y)
+prefixes_of_one_length [] [] x y len e = (refl, e)
+prefixes_of_one_length [] (c ∷ b) x y len e = absurd (omega arith)
+prefixes_of_one_length (c ∷ a) [] x y len e = absurd (omega arith)
+prefixes_of_one_length (c ∷ a) (d ∷ b) x y len e =
     let tails : a ++ x ≡ b ++ y = cc in
-    let h = fronts_of_one_length a b x y (omega arith) tails in
+    let h = prefixes_of_one_length a b x y (omega arith) tails in
     let heads : c ≡ d = cc in
     (cc (h.0), h.1)
 
--- two numbers, each with LF behind it, at the front of one list are one
+-- two numbers, each with LF behind it, with which one list begins are one
 pub one_number : (m n : ℕ) (x y : List ℕ) → m < 2 ^ 64 → n < 2 ^ 64 → decimal m ++ 10 ∷ x ≡ decimal n ++ 10 ∷ y → (m ≡ n) × (x ≡ y)
 one_number m n x y small small' e =
     let h = digits_within (decimal m) (decimal n) (10 ∷ x) y (Digits-decimal m small) e in
@@ -35,13 +35,13 @@ one_number m n x y small small' e =
         let same : 10 ≡ d = cc in
         absurd (omega arith)
 
--- two texts, each behind its length, at the front of one list are one
+-- two texts, each behind its length, with which one list begins are one
 pub one_text : (s t x y : List ℕ) → length s < 2 ^ 64 → length t < 2 ^ 64 → (decimal (length s) ++ 10 ∷ s) ++ x ≡ (decimal (length t) ++ 10 ∷ t) ++ y → (s ≡ t) × (x ≡ y)
 one_text s t x y small small' e =
     let n = one_number (length s) (length t) (s ++ x) (t ++ y) small small' (sym (append_assoc (decimal (length s)) (10 ∷ s) x) ∙ (e ∙ append_assoc (decimal (length t)) (10 ∷ t) y)) in
-    fronts_of_one_length s t x y n.0 n.1
+    prefixes_of_one_length s t x y n.0 n.1
 
--- no frame begins another: what two frames at the front of one list say is one
+-- no frame begins another: what two frames with which one list begins say is one
 pub one_frame : (r q : Request) (x y : List ℕ) → IsFramed r → IsFramed q → frame r ++ x ≡ frame q ++ y → (r ≡ q) × (x ≡ y)
 one_frame (request.Write s) (request.Write t) x y f g e =
     let rest : (decimal (length s) ++ 10 ∷ s) ++ x ≡ (decimal (length t) ++ 10 ∷ t) ++ y = cc in
@@ -66,7 +66,7 @@ one_frame request.End (request.Sql t) x y f g e = absurd (apart_down 88 81 _ _ (
 one_frame request.End request.Apply x y f g e = absurd (apart_down 88 65 _ _ (lit< tt) e)
 one_frame request.End request.End x y f g e = (refl, cc)
 
--- bytes that begin with a frame are no front of one
+-- bytes that begin with a frame are no prefix of one
 pub whole_not_unfinished : (r : Request) (rest bytes : List ℕ) → IsFramed r → bytes ≡ frame r ++ rest → IsUnfinished bytes → ⊥
 whole_not_unfinished r rest bytes fits e u =
     let q = u.0 in
@@ -143,7 +143,7 @@ one_reading at bytes (request.End ∷ rs) (q ∷ qs) e f h k =
 not_ended : (rest : List ℕ) (place : ℕ) (printed : Reply → List ℕ) → Waiting rest place printed ≡ Ended → ⊥
 not_ended rest place printed e = cc
 
--- a frame stays at the front, whatever comes behind
+-- bytes that begin with a frame begin with it still, whatever comes behind
 longer : (r : Request) (a rest b : List ℕ) → a ≡ frame r ++ rest → a ++ b ≡ frame r ++ (rest ++ b)
 longer r a rest b e = ap (λ xs. xs ++ b) e ∙ append_assoc (frame r) rest b
 

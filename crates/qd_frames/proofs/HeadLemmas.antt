@@ -1,4 +1,4 @@
--- What stands at the front of bytes: fronts of requests, bytes that begin none, and whole headers.
+-- What bytes begin with: prefixes of requests, bytes that begin none, and whole headers.
 use Rattle.std.proofs.Common.{◌≡◌, ◌≢◌, ℕ, ◌+◌, ◌-◌, ◌<◌, ◌≤◌, inl, inr, List, [], ◌∷◌, ◌++◌, length, drop, get_or, take, refl, sym, ap, ◌∙◌, subst, arith, append_assoc, length-append, lit<}
 use Rattle.std.specs.Fmt.{decimal}
 use Rattle.std.proofs.Math.ListN.{replicate}
@@ -87,7 +87,7 @@ pub IsFramed-text : (k : Kind) (text : List ℕ) → length text ≤ limit k →
 IsFramed-text kind.Write text fits = fits
 IsFramed-text kind.Sql text fits = fits
 
--- a header and less of the text than it says is a front of a request
+-- a header and less of the text than it says is a prefix of a request
 pub short_payload : (k : Kind) (n : ℕ) (payload : List ℕ) → n ≤ limit k → length payload < n → IsUnfinished (header k n ++ payload)
 short_payload k n payload fits less =
     let missing = replicate (n - length payload) 0 in
@@ -99,16 +99,16 @@ short_payload k n payload fits less =
       frame_of_text k (payload ++ missing) ∙ (ap (λ m. header k m ++ (payload ++ missing)) len ∙ sym (append_assoc (header k n) payload missing)),
     )
 
--- a front of a header is a front of a request
-pub short_header : (k : Kind) (n : ℕ) (front more : List ℕ) → n ≤ limit k → 0 < length more → header k n ≡ front ++ more → IsUnfinished front
-short_header k n front more fits some e =
+-- a prefix of a header is a prefix of a request
+pub short_header : (k : Kind) (n : ℕ) (prefix more : List ℕ) → n ≤ limit k → 0 < length more → header k n ≡ prefix ++ more → IsUnfinished prefix
+short_header k n prefix more fits some e =
     let text = replicate n 0 in
     let len : length text ≡ n = length-replicate {A = ℕ} n 0 in (
       request_of k text,
       more ++ text,
       IsFramed-text k text (omega arith),
       omega (arith, length-append more text),
-      frame_of_text k text ∙ (ap (λ m. header k m ++ text) len ∙ (ap (λ xs. xs ++ text) e ∙ append_assoc front more text)),
+      frame_of_text k text ∙ (ap (λ m. header k m ++ text) len ∙ (ap (λ xs. xs ++ text) e ∙ append_assoc prefix more text)),
     )
 
 pub short_letter : (k : Kind) → IsUnfinished (letter k ∷ [])
@@ -123,22 +123,23 @@ short_number k bytes h =
 pub whole_header : (k : Kind) (n : ℕ) (bytes rest : List ℕ) → bytes ≡ decimal n ++ 10 ∷ rest → letter k ∷ 32 ∷ bytes ≡ header k n ++ rest
 whole_header k n bytes rest e = ap (λ xs. letter k ∷ 32 ∷ xs) (e ∙ sym (append_assoc (decimal n) (10 ∷ []) rest))
 
--- LF behind the letter of a request without a text
-pub line_end_of_apply : (rest : List ℕ) (found : Head) → ReadsLineEnd rest head.Apply found → ReadsHead (65 ∷ rest) found
-line_end_of_apply [] found e = subst (ReadsHead (65 ∷ [])) (sym e) short_apply
-line_end_of_apply (b ∷ bytes) found h =
+-- LF, nothing or another byte behind the letter of a request without a text
+line_end : (first : ℕ) (whole found : Head) → IsUnfinished (first ∷ [])
+    → ((bytes : List ℕ) → ReadsHead (first ∷ 10 ∷ bytes) whole)
+    → ((b : ℕ) (bytes : List ℕ) → b ≢ 10 → BeginsNone (first ∷ b ∷ bytes))
+    → (rest : List ℕ) → ReadsLineEnd rest whole found → ReadsHead (first ∷ rest) found
+line_end first whole found short lf wrong [] e = subst (ReadsHead (first ∷ [])) (sym e) short
+line_end first whole found short lf wrong (b ∷ bytes) h =
     elim (cases_eq b 10) [
-      | inl lf ↦ subst (ReadsHead (65 ∷ b ∷ bytes)) (sym (h.0 lf)) (bytes, ap (λ x. 65 ∷ x ∷ bytes) lf)
-      | inr other ↦ subst (ReadsHead (65 ∷ b ∷ bytes)) (sym (h.1 other)) (wrong_apply b bytes other)
+      | inl is ↦ subst (ReadsHead (first ∷ b ∷ bytes)) (sym (h.0 is)) (subst (λ x. ReadsHead (first ∷ x ∷ bytes) whole) (sym is) (lf bytes))
+      | inr other ↦ subst (ReadsHead (first ∷ b ∷ bytes)) (sym (h.1 other)) (wrong b bytes other)
     ]
 
+pub line_end_of_apply : (rest : List ℕ) (found : Head) → ReadsLineEnd rest head.Apply found → ReadsHead (65 ∷ rest) found
+line_end_of_apply rest found h = line_end 65 head.Apply found short_apply (λ bytes. (bytes, refl)) wrong_apply rest h
+
 pub line_end_of_end : (rest : List ℕ) (found : Head) → ReadsLineEnd rest head.End found → ReadsHead (88 ∷ rest) found
-line_end_of_end [] found e = subst (ReadsHead (88 ∷ [])) (sym e) short_end
-line_end_of_end (b ∷ bytes) found h =
-    elim (cases_eq b 10) [
-      | inl lf ↦ subst (ReadsHead (88 ∷ b ∷ bytes)) (sym (h.0 lf)) (bytes, ap (λ x. 88 ∷ x ∷ bytes) lf)
-      | inr other ↦ subst (ReadsHead (88 ∷ b ∷ bytes)) (sym (h.1 other)) (wrong_end b bytes other)
-    ]
+line_end_of_end rest found h = line_end 88 head.End found short_end (λ bytes. (bytes, refl)) wrong_end rest h
 
 -- the first byte is none that a request begins with
 pub wrong_first : (bytes : List ℕ) → 1 ≤ length bytes → get_or bytes 0 0 ≢ 87 → get_or bytes 0 0 ≢ 81 → get_or bytes 0 0 ≢ 65 → get_or bytes 0 0 ≢ 88 → BeginsNone bytes

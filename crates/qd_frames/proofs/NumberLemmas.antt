@@ -3,7 +3,7 @@ use Rattle.std.proofs.Common.{◌≡◌, ℕ, ◌+◌, ◌*◌, ◌^◌, ◌<◌
 use Rattle.std.specs.Fmt.{decimal}
 use Rattle.std.proofs.lemmas.Fmt.{decimal_digit, decimal_nonempty, decimal_injective}
 use Rattle.std.proofs.lemmas.List.{append-nil, drop_more, take_more, take-append-drop, length-take-le, take_all}
-use Rattle.qd_frames.proofs.DecimalLemmas.{IsDigit, Digits, Digits-decimal, Digits-at, digits_within, front_spells, decimal_push, no_leading_zero}
+use Rattle.qd_frames.proofs.DecimalLemmas.{IsDigit, Digits, Digits-decimal, Digits-at, digits_within, prefix_spells, decimal_push, no_leading_zero}
 use Rattle.qd_frames.specs.declared.head.Number.TheVariants as number
 use Rattle.qd_frames.specs.Heads.{ReadsNumber}
 
@@ -49,7 +49,7 @@ Spelled-push (x ∷ xs) value d small low some s =
 pub no_less : (ds rest tail : List ℕ) (value n : ℕ) → n < 2 ^ 64 → value < 2 ^ 64 → 0 < length ds → Spelled ds value → ds ++ rest ≡ decimal n ++ 10 ∷ tail → value ≤ n
 no_less ds rest tail value n small small' some s e =
     let h = digits_within ds (decimal n) rest tail (Digits-spelled ds value small' s) e in
-    let k = front_spells n small ds h.0 h.1 some in
+    let k = prefix_spells n small ds h.0 h.1 some in
     let same : k.0 ≡ value = decimal_injective k.0 value (omega arith) small' (sym k.2 ∙ s.some some) in
     omega arith
 

@@ -60,7 +60,7 @@ pub takes_if_ok : {E : Type 0} (old new : Frames) (r : Result Step E) → IfOk r
 takes_if_ok old new (Ok s) h = takes_step old new s h
 takes_if_ok old new (Err e) h = h
 
--- a request whose frame is at the front is the step
+-- a request whose frame the bytes begin with is the step
 pub only_whole : {E : Type 0} (old new : Frames) (r : Result Step E) → IfOk r (λ s. TakesFrame old new s) → IfOk r (λ s. (asked : Request) (rest : List ℕ) → IsFramed asked → old.waiting ≡ frame asked ++ rest → s ≡ step.Ask asked)
 only_whole old new (Ok (step.Ask q)) h = λ r rest fits e. ap step.Ask (one_frame q r new.waiting rest h.0 fits (sym h.1 ∙ e)).0
 only_whole old new (Ok (step.Say bytes)) h = λ r rest fits e. absurd h
@@ -69,7 +69,7 @@ only_whole old new (Ok step.Clean) h = λ r rest fits e. absurd h
 only_whole old new (Ok (step.Bad place)) h = λ r rest fits e. absurd (whole_not_none r rest old.waiting fits e h.0)
 only_whole old new (Err e) h = h
 
--- where a front of a frame waits, more is wanted
+-- where a prefix of a frame waits, more is wanted
 pub only_unfinished : {E : Type 0} (old new : Frames) (r : Result Step E) → IfOk r (λ s. TakesFrame old new s) → IfOk r (λ s. IsUnfinished old.waiting → s ≡ step.More)
 only_unfinished old new (Ok (step.Ask q)) h = λ u. absurd (whole_not_unfinished q new.waiting old.waiting h.0 h.1 u)
 only_unfinished old new (Ok (step.Say bytes)) h = λ u. absurd h

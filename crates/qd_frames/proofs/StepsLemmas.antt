@@ -1,5 +1,5 @@
 -- Every text has steps.
-use Rattle.std.proofs.Common.{◌≡◌, ℕ, zero, suc, ◌+◌, ◌*◌, ◌^◌, ◌<◌, ◌≤◌, ◌⊎◌, inl, inr, List, [], ◌∷◌, ◌++◌, length, refl, sym, ap, ◌∙◌, subst, arith, append_assoc, length-append}
+use Rattle.std.proofs.Common.{◌≡◌, ◌≢◌, ℕ, zero, suc, ◌+◌, ◌*◌, ◌^◌, ◌<◌, ◌≤◌, ◌⊎◌, inl, inr, List, [], ◌∷◌, ◌++◌, length, refl, sym, ap, ◌∙◌, subst, arith, append_assoc, length-append}
 use Rattle.std.specs.Fmt.{decimal}
 use Rattle.std.proofs.lemmas.Fmt.{decimal_nonempty}
 use Rattle.std.proofs.lemmas.List.{append-nil}
@@ -18,7 +18,7 @@ use Rattle.qd_frames.proofs.NumberLemmas.{Spelled, Spelled-push, Digits-spelled,
 use Rattle.qd_frames.proofs.HeadLemmas.{short_nothing, short_letter, short_number, short_payload, short_apply, short_end, wrong_letter, wrong_space, wrong_number, wrong_apply, wrong_end, whole_header, frame_of_text, IsFramed-text}
 use Rattle.qd_frames.proofs.StepLemmas.{frame_some}
 
--- what a number at the front of bytes may be
+-- what a number with which bytes begin may be
 abbrev Found : ℕ → List ℕ → Type 0
 Found most bytes = ReadsNumber most bytes number.Short ⊎ ReadsNumber most bytes number.Wrong ⊎ ((n : ℕ) × (rest : List ℕ) × (n ≤ most) × (bytes ≡ decimal n ++ 10 ∷ rest))
 
@@ -80,11 +80,11 @@ scan most value ds (b ∷ bytes) low small s =
       | inr other ↦ scan_other most value b ds bytes low small s other (cases_eq b 10) (cases_eq (length ds) 0)
     ]
 
--- what a number at the front of bytes is
+-- what a number with which bytes begin is
 found : (most : ℕ) (bytes : List ℕ) → most < 2 ^ 32 → Found most bytes
 found most bytes low = scan most 0 [] bytes low (omega arith) (record { none = λ e. refl; some = λ h. absurd (omega arith) })
 
--- bytes are a front of a frame, or begin none, or begin with one
+-- bytes are a prefix of a frame, or begin none, or begin with one
 abbrev pub Sort : List ℕ → Type 0
 Sort bytes = IsUnfinished bytes ⊎ BeginsNone bytes ⊎ BeginsFrame bytes
 
@@ -124,21 +124,21 @@ sort_text k (b ∷ bytes) =
       | inr other ↦ inr (inl (wrong_space k b bytes other))
     ]
 
-sort_apply : (bytes : List ℕ) → Sort (65 ∷ bytes)
-sort_apply [] = inl short_apply
-sort_apply (b ∷ bytes) =
+-- behind the letter of a request without a text
+sort_bare : (first : ℕ) → IsUnfinished (first ∷ []) → ((bytes : List ℕ) → BeginsFrame (first ∷ 10 ∷ bytes))
+    → ((b : ℕ) (bytes : List ℕ) → b ≢ 10 → BeginsNone (first ∷ b ∷ bytes)) → (bytes : List ℕ) → Sort (first ∷ bytes)
+sort_bare first short lf wrong [] = inl short
+sort_bare first short lf wrong (b ∷ bytes) =
     elim (cases_eq b 10) [
-      | inl lf ↦ inr (inr (request.Apply, bytes, tt, ap (λ x. 65 ∷ x ∷ bytes) lf))
-      | inr other ↦ inr (inl (wrong_apply b bytes other))
+      | inl is ↦ inr (inr (subst (λ x. BeginsFrame (first ∷ x ∷ bytes)) (sym is) (lf bytes)))
+      | inr other ↦ inr (inl (wrong b bytes other))
     ]
 
+sort_apply : (bytes : List ℕ) → Sort (65 ∷ bytes)
+sort_apply bytes = sort_bare 65 short_apply (λ rest. (request.Apply, rest, tt, refl)) wrong_apply bytes
+
 sort_end : (bytes : List ℕ) → Sort (88 ∷ bytes)
-sort_end [] = inl short_end
-sort_end (b ∷ bytes) =
-    elim (cases_eq b 10) [
-      | inl lf ↦ inr (inr (request.End, bytes, tt, ap (λ x. 88 ∷ x ∷ bytes) lf))
-      | inr other ↦ inr (inl (wrong_end b bytes other))
-    ]
+sort_end bytes = sort_bare 88 short_end (λ rest. (request.End, rest, tt, refl)) wrong_end bytes
 
 -- each text is of one sort
 pub sort_of : (bytes : List ℕ) → Sort bytes

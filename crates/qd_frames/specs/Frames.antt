@@ -23,7 +23,7 @@ IsFramed (request.Sql text) = length text ≤ MAX_QUERY_BYTES
 IsFramed request.Apply = Unit {0}
 IsFramed request.End = Unit {0}
 
--- the bytes are a proper front of a request's frame; no bytes at all are one
+-- the bytes are a proper prefix of a request's frame; no bytes at all are one
 abbrev pub IsUnfinished : List ℕ → Type 0
 IsUnfinished bytes = (r : Request) × (more : List ℕ) × IsFramed r × (0 < length more) × (frame r ≡ bytes ++ more)
 
@@ -35,7 +35,7 @@ BeginsFrame bytes = (r : Request) × (rest : List ℕ) × IsFramed r × (bytes �
 abbrev pub BeginsNone : List ℕ → Type 0
 BeginsNone bytes = (r : Request) (more tail : List ℕ) → IsFramed r → bytes ++ more ≢ frame r ++ tail
 
--- The bytes from the offset `at` on spell these requests, one behind the other, and end so: with a front of a request
+-- The bytes from the offset `at` on spell these requests, one behind the other, and end so: with a prefix of a request
 -- that waits, or with bytes that begin none. Behind the request for the end nothing is looked at.
 abbrev pub Steps : ℕ → List ℕ → List Request → Ending → Type 0
 Steps at bytes [] (Waiting rest place printed) = (rest ≡ bytes) × (place ≡ at) × (printed ≡ reply_bytes) × IsUnfinished bytes
@@ -65,8 +65,8 @@ frames_spell f more script = SpellsScript f.start (f.waiting ++ more) script
 abbrev pub frames_protocol : Frames → Protocol
 frames_protocol f = record { waiting = f.waiting; start = f.start; spells = frames_spell f; printed = reply_bytes }
 
--- What a step of a front of frames is: a request whose frame is at the front of the bytes that waited, and goes; or the
--- want of more, where they are a proper front of a frame; or a refusal of them, where they begin none.
+-- What a step of a front of frames is: a request with whose frame the bytes that waited began, and which goes; or the want
+-- of more, where they are a proper prefix of a frame; or a refusal of them, where they begin none.
 abbrev pub TakesFrame : (old new : Frames) → Step → Type 0
 TakesFrame old new (step.Ask asked) = IsFramed asked × (old.waiting ≡ frame asked ++ new.waiting) × (new.start ≡ old.start + length (frame asked))
 TakesFrame old new (step.Say bytes) = ⊥

@@ -1,4 +1,4 @@
--- What stands at the front of bytes: the header of a frame, or a front of one, or none. It is this project's own.
+-- What bytes begin with: the header of a frame, or a prefix of one, or none. It is this project's own.
 use Rattle.std.specs.Prelude.{◌≡◌, ◌≢◌, ℕ, ◌+◌, ◌≤◌, List, [], ◌∷◌, ◌++◌, length}
 use Rattle.std.specs.Fmt.{decimal}
 use Rattle.qd_base.specs.declared.limits.TheConstants.{MAX_QUERY_BYTES, MAX_WRITE_BYTES}
@@ -31,19 +31,19 @@ abbrev pub request_of : Kind → List ℕ → Request
 request_of kind.Write text = request.Write text
 request_of kind.Sql text = request.Sql text
 
--- At the front of bytes stand a number that is at most `most` and LF; or the bytes are a front of such a number; or they
--- begin with no such number and LF, however they go on.
+-- The bytes begin with a number that is at most `most` and LF; or they are a prefix of such a number; or they begin with
+-- no such number and LF, however they go on.
 abbrev pub ReadsNumber : (most : ℕ) → List ℕ → Number → Type 0
 ReadsNumber most bytes (number.Whole n taken) = (rest : List ℕ) × (n ≤ most) × (bytes ≡ decimal n ++ 10 ∷ rest) × (taken ≡ length (decimal n) + 1)
 ReadsNumber most bytes number.Short = (n : ℕ) × (more : List ℕ) × (n ≤ most) × (decimal n ≡ bytes ++ more)
 ReadsNumber most bytes number.Wrong = (n : ℕ) (more tail : List ℕ) → n ≤ most → bytes ++ more ≢ decimal n ++ 10 ∷ tail
 
--- LF stands at the front, or there is nothing, or another byte
+-- LF comes first, or there is nothing, or another byte
 abbrev pub ReadsLineEnd : List ℕ → Head → Head → Type 0
 ReadsLineEnd [] whole found = found ≡ head.Short
 ReadsLineEnd (b ∷ bytes) whole found = (b ≡ 10 → found ≡ whole) × (b ≢ 10 → found ≡ head.Wrong)
 
--- what stands at the front of bytes
+-- what bytes begin with
 abbrev pub ReadsHead : List ℕ → Head → Type 0
 ReadsHead bytes head.Short = IsUnfinished bytes
 ReadsHead bytes head.Wrong = BeginsNone bytes

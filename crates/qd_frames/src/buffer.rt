@@ -181,7 +181,7 @@ impl Kind {
     }
 }
 
-// Moves bytes from the front of `rest` behind `payload` until that has `size` bytes or nothing is left.
+// Moves the first bytes of `rest` behind `payload` until that has `size` bytes or nothing is left.
 fn gather(payload: &mut Vec<u8>, rest: &mut Queue, size: u64) -> Result<(), Memory>
     requires { length payload.old.items ≤ size }
     ensures same { payload.new.items ++ rest.new ≡ payload.old.items ++ rest.old }

@@ -24,10 +24,10 @@ pub(crate) struct Text {
     pub head: usize,
 }
 
-/// What stands at the front of bytes.
+/// What bytes begin with.
 #[derive(Clone, Copy, Debug)]
 pub(crate) enum Head {
-    /// The bytes are a front of a header, and not a whole one.
+    /// The bytes are a prefix of a header, and not a whole one.
     Short,
     /// They begin no header.
     Wrong,
@@ -39,10 +39,10 @@ pub(crate) enum Head {
     Text(Text),
 }
 
-/// What stands at the front of bytes, where a number and LF should.
+/// What bytes begin with, where a number and LF should come.
 #[derive(Clone, Copy, Debug)]
 pub(crate) enum Number {
-    /// The bytes are a front of a number, or nothing.
+    /// The bytes are a prefix of a number, or nothing.
     Short,
     /// They begin with no number that is small enough, or with one that LF doesn't follow.
     Wrong,
@@ -67,7 +67,7 @@ impl Kind {
     }
 }
 
-/// Reads the header at the front of `bytes`, of which it reads 11 at most.
+/// Reads the header that `bytes` begin with, of which it reads 11 at most.
 pub(crate) fn read_head(bytes: &[u8]) -> Head
     ensures { ReadsHead bytes.now result }
 {

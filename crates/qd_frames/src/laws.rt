@@ -27,7 +27,7 @@ impl FrameFront {
         ensures { (at : ℕ) (bytes : List ℕ) → (rs : List Request) × (e : Ending) × Steps at bytes rs e }
     {}
 
-    /// Law: bytes that are a proper front of a frame, bytes that begin no frame, and bytes that begin with one are never
+    /// Law: bytes that are a proper prefix of a frame, bytes that begin no frame, and bytes that begin with one are never
     /// the same.
     pub fn three_ways()
         ensures unfinished { (bytes : List ℕ) → IsUnfinished bytes → BeginsNone bytes → ⊥ }

@@ -5,7 +5,7 @@ use qd_base::Memory;
 use std::alloc::Global;
 use std::marker::Model;
 
-/// A queue of bytes. Contracts see the bytes in it, the first one in front.
+/// A queue of bytes. Contracts see the bytes in it, in order.
 #[derive(Drop)]
 pub(crate) struct Queue {
     bytes: Vec<u8>,
@@ -59,7 +59,7 @@ impl Queue {
         self.at += n;
     }
 
-    // Moves the bytes to the front of their vector, where at least as many have gone as are left.
+    // Moves the bytes to the start of their vector, where at least as many have gone as are left.
     fn compact(&mut self)
         ensures same { self.new ≡ self.old }
     {

@@ -1,5 +1,5 @@
 -- From what a session over frames says of itself to what a run says.
-use Rattle.std.proofs.Common.{◌≡◌, ℕ, ◌+◌, ◌<◌, ◌≤◌, ◌⊎◌, inl, inr, List, [], ◌∷◌, ◌++◌, length, take, drop, get_or, codes, Bool, IsTrue, nat_eq, Option, Some, None, Ok, Err, refl, sym, ◌∙◌, ap, subst, arith, zero, suc, ◌-◌}
+use Rattle.std.proofs.Common.{◌≡◌, ℕ, ◌+◌, ◌<◌, ◌≤◌, ◌⊎◌, inl, inr, List, [], ◌∷◌, ◌++◌, length, take, drop, get_or, codes, Bool, IsTrue, if◌then◌else◌, nat_eq, Option, Some, None, Ok, Err, refl, sym, ◌∙◌, ap, subst, arith, zero, suc, ◌-◌}
 use Rattle.std.specs.List.{range_with_len}
 use Rattle.std.proofs.lemmas.List.{append-nil, append_assoc, length-append, take-append-drop, take_all}
 use Rattle.std.proofs.Math.Seq.{take-append-add}
@@ -325,7 +325,7 @@ word_is_run (w ∷ []) only r some one is e =
     head same = cc (same)
 word_is_run (w ∷ v ∷ words) only r some one is e = absurd (omega (arith, one))
 
--- the usage line was written, or a front of it
+-- the usage line was written, or a prefix of it
 pub usage-from_writes_all : (before now : Option (List ℕ)) (line : List ℕ) → line ≡ usage → WritesAll {T = Unit {0}} {E = IoFault} before now line (Ok tt) → WroteUsage before now []
 usage-from_writes_all None now line e h = (usage, tt, sym (append-nil usage))
 usage-from_writes_all (Some before) now line e h = (line, h, sym e ∙ sym (append-nil line))
@@ -373,31 +373,47 @@ not_refused : (input input' output output' : Option (List ℕ)) → IsWellFramed
 not_refused None input' output output' well r = well
 not_refused (Some bytes) input' output output' well (r, place, bad, put) = not_bad bytes r.taken r.from.0 r.requests place r.from.2 r.short well r.ending r.spelled bad
 
+-- the status of a number
+status_with : ℕ → Status
+status_with n =
+    if nat_eq n 0
+    then status.Finished
+    else if nat_eq n 1
+    then status.Usage
+    else if nat_eq n 2
+    then status.BadFrame
+    else if nat_eq n 3
+    then status.ReadFault
+    else if nat_eq n 4
+    then status.WriteFault
+    else status.NoMemory
+
+status_with-number_of : (s : Status) → status_with (number_of s) ≡ s
+unfolding status_with
+status_with-number_of status.Finished = refl
+status_with-number_of status.Usage = refl
+status_with-number_of status.BadFrame = refl
+status_with-number_of status.ReadFault = refl
+status_with-number_of status.WriteFault = refl
+status_with-number_of status.NoMemory = refl
+
+-- each number is that of one status alone
+one_status : (s t : Status) → number_of s ≡ number_of t → s ≡ t
+one_status s t e = sym (status_with-number_of s) ∙ ap status_with e ∙ status_with-number_of t
+
 module _ (input input' output output' : Option (List ℕ)) where
-  -- each number is that of one status alone
+  -- what a run with the number of a status is
+  is_run_of : (s t : Status) → number_of s ≡ number_of t → Ran no_store input input' output output' s → Ran no_store input input' output output' t
+  is_run_of s t e r = subst (λ (u : Status). Ran no_store input input' output output' u) (one_status s t e) r
+
   pub finished-from : (s : Status) → number_of s ≡ 0 → Ran no_store input input' output output' s → FinishedRun no_store input input' output output'
-  finished-from status.Finished e r = r
-  finished-from status.Usage e r = absurd (omega (arith, e))
-  finished-from status.BadFrame e r = absurd (omega (arith, e))
-  finished-from status.ReadFault e r = absurd (omega (arith, e))
-  finished-from status.WriteFault e r = absurd (omega (arith, e))
-  finished-from status.NoMemory e r = absurd (omega (arith, e))
+  finished-from s e r = is_run_of s status.Finished e r
 
   pub refused-from : (s : Status) → number_of s ≡ 2 → Ran no_store input input' output output' s → RefusedRun no_store input input' output output'
-  refused-from status.BadFrame e r = r
-  refused-from status.Finished e r = absurd (omega (arith, e))
-  refused-from status.Usage e r = absurd (omega (arith, e))
-  refused-from status.ReadFault e r = absurd (omega (arith, e))
-  refused-from status.WriteFault e r = absurd (omega (arith, e))
-  refused-from status.NoMemory e r = absurd (omega (arith, e))
+  refused-from s e r = is_run_of s status.BadFrame e r
 
   pub stopped-from : (s : Status) → number_of s ≡ 3 → Ran no_store input input' output output' s → StoppedRun no_store input input' output output'
-  stopped-from status.ReadFault e r = r
-  stopped-from status.Finished e r = absurd (omega (arith, e))
-  stopped-from status.Usage e r = absurd (omega (arith, e))
-  stopped-from status.BadFrame e r = absurd (omega (arith, e))
-  stopped-from status.WriteFault e r = absurd (omega (arith, e))
-  stopped-from status.NoMemory e r = absurd (omega (arith, e))
+  stopped-from s e r = is_run_of s status.ReadFault e r
 
   -- over whole frames, and where no count rises, a run finishes or finds no memory
   pub complete-from : (s : Status) (reads reads' writes writes' : ℕ) → Ran no_store input input' output output' s → CountsReads reads reads' s → CountsWrites writes writes' s
@@ -426,12 +442,7 @@ writes-from_faults a b ended.Memory f = f.writes
 
 -- where the status has this number, the count has risen
 pub read-cause-from : (s : Status) (before now : ℕ) → number_of s ≡ 3 → CountsReads before now s → (before ≤ now) × HasRisen before now
-read-cause-from status.ReadFault before now e c = c
-read-cause-from status.Finished before now e c = absurd (omega (arith, e))
-read-cause-from status.Usage before now e c = absurd (omega (arith, e))
-read-cause-from status.BadFrame before now e c = absurd (omega (arith, e))
-read-cause-from status.WriteFault before now e c = absurd (omega (arith, e))
-read-cause-from status.NoMemory before now e c = absurd (omega (arith, e))
+read-cause-from s before now e c = subst (λ (t : Status). CountsReads before now t) (one_status s status.ReadFault e) c
 
 -- and otherwise it stays
 pub reads-stay-from : (s : Status) (before now : ℕ) → (number_of s ≡ 3 → ⊥) → CountsReads before now s → now ≡ before
@@ -443,12 +454,7 @@ reads-stay-from status.WriteFault before now e c = c
 reads-stay-from status.NoMemory before now e c = c
 
 pub write-cause-from : (s : Status) (before now : ℕ) → number_of s ≡ 4 → CountsWrites before now s → (before ≤ now) × HasRisen before now
-write-cause-from status.WriteFault before now e c = c
-write-cause-from status.Finished before now e c = absurd (omega (arith, e))
-write-cause-from status.Usage before now e c = absurd (omega (arith, e))
-write-cause-from status.BadFrame before now e c = absurd (omega (arith, e))
-write-cause-from status.ReadFault before now e c = absurd (omega (arith, e))
-write-cause-from status.NoMemory before now e c = absurd (omega (arith, e))
+write-cause-from s before now e c = subst (λ (t : Status). CountsWrites before now t) (one_status s status.WriteFault e) c
 
 pub writes-stay-from : (s : Status) (before now : ℕ) → (number_of s ≡ 4 → ⊥) → (number_of s ≡ 1 → ⊥) → CountsWrites before now s → now ≡ before
 writes-stay-from status.WriteFault before now e u c = absurd (e refl)

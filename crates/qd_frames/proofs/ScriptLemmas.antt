@@ -1,6 +1,5 @@
 -- What bytes spell is one script.
 use Rattle.std.proofs.Common.{◌≡◌, ℕ, List, ◌++◌, refl, sym, ap, ◌∙◌}
-use Rattle.qd_base.specs.declared.request.Request.{Request}
 use Rattle.qd_base.specs.Script.{Ending, Script, Turn}
 use Rattle.qd_frames.specs.Frames.{Frames, asked, frames_spell}
 use Rattle.qd_frames.proofs.FrameLemmas.{one_reading}

@@ -107,6 +107,8 @@ def main():
     parser.add_argument("--program", default=os.path.join(CRATES, "tsdb", "out", "tsdb"))
     parser.add_argument("--tests", type=int, default=0)
     options = parser.parse_args()
+    if not os.access(options.program, os.X_OK):
+        parser.error(f"no program at {options.program}; build it by `rt run -- run < stdin` in crates/tsdb")
     good = program_runs(options.program)
     good = test_runs(options.tests) and good
     print("each answer is allowed" if good else "an answer is NOT allowed")

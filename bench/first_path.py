@@ -65,6 +65,8 @@ def main():
     parser.add_argument("--program", default=os.path.join(HERE, "..", "crates", "tsdb", "out", "tsdb"))
     parser.add_argument("--same", action="store_true")
     options = parser.parse_args()
+    if not os.access(options.program, os.X_OK):
+        parser.error(f"no program at {options.program}; build it by `rt run -- run < stdin` in crates/tsdb")
     rounds = [(65_536, options.lines), (65_536, options.lines)]
     rounds += [(piece, lines) for piece in (65_536, 7, 1) for lines in (options.small, 2 * options.small)]
     if options.same:

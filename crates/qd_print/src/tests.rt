@@ -1,3 +1,4 @@
+//! Cells of each kind, tables and replies as they are printed, and their lengths.
 use super::*;
 use qd_base::{ColType, Seq};
 use std::test::Fail;

@@ -24,7 +24,7 @@ pub letters_after_more : (known : Option Letters) (lines : List Line) (line : Li
 letters_after_more known [] line agrees = refl
 letters_after_more known (l ∷ ls) line agrees = ap Some (sym agrees)
 
--- the prefix of a text up to the end of a line
+-- the front of a text up to the end of a line
 pub front_more : (text bytes : List ℕ) (at next : ℕ) → drop at text ≡ bytes ++ 10 ∷ drop next text → take next text ≡ take at text ++ (bytes ++ 10 ∷ [])
 front_more text bytes at next e =
     append_cancel_right (take next text) (take at text ++ (bytes ++ 10 ∷ [])) (drop next text)

@@ -161,7 +161,7 @@ sql_empty kept batches rows applied v text fits is none =
     sql_is kept batches rows applied v text fits is
     ∙ ap (λ b. answered applied (cond b (cond (pointwise nat_eq ((letters_or_any kept).table ∷ []) text) (Some (let r : Table = record { cols = (schema_of (letters_or_any kept)).cols; rows = map row_at rows } in r)) None) None)) (le-ltb 0 (length rows) (omega arith))
 
--- a prefix of batches without a point has none
+-- a front of batches without a point has none
 none_before : (n : ℕ) (batches : List (List Point)) → fold there_after false batches ≡ false → fold there_after false (take n batches) ≡ false
 none_before zero batches none = refl
 none_before (suc n) [] none = refl

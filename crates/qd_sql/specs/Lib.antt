@@ -1,1 +1,4 @@
-pub mod Tokens
+pub mod Exprs
+pub mod Nests
+pub mod Queries
+pub mod Statement

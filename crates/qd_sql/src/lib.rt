@@ -1,11 +1,16 @@
-//! The texts of SQL: what their tokens are.
+//! The statements of SQL: the rules of expressions and queries, and `parse_stmt`, which reads a text or refuses it.
 #![tactic(auto)]
 
-mod cut;
-mod token;
-
-pub use cut::tokens;
-pub use token::{Kind, Token};
-
+mod expr;
+mod query;
+mod stmt;
 #[cfg(test)]
 mod tests;
+
+pub use qd_trees::{
+    AddOp, AddTerm, AggOf, AlignTo, AndNeg, Boxed, Check, Cmp, Column, ColumnDef, Conj, Create,
+    Dedup, Expr, FillWith, Fills, Filter, Insert, Item, Items, Join, JoinOf, Latest, Limit, Lit,
+    MulOp, MulSigned, Name, Neg, Number, OrConj, OrderKey, Plus, Prime, Query, Sampled, Selected,
+    Shown, Signed, Source, Stmt, StrideOf, StrideUnit, Term, Test, Text, Tuple,
+};
+pub use stmt::{SqlFault, parse_stmt};

@@ -1,5 +1,5 @@
 -- The rules of expressions.
-use Rattle.std.specs.Prelude.{◌≡◌, ℕ, zero, suc, if◌then◌else◌, List, [], ◌∷◌, codes, Option, Some, None, Result, Ok, Err}
+use Rattle.std.specs.Prelude.{ℕ, zero, suc, if◌then◌else◌, List, codes, Option, Some, None, Ok, Err}
 use Rattle.qd_tokens.specs.declared.token.Kind.TheVariants as kind
 use Rattle.qd_trees.specs.declared.stop.Stop.TheVariants as stop
 use Rattle.qd_trees.specs.declared.tree.AddOp.{AddOp}
@@ -25,7 +25,7 @@ use Rattle.qd_trees.specs.declared.tree.Signed.{Signed, roll-Signed}
 use Rattle.qd_trees.specs.declared.tree.Prime.{Prime}
 use Rattle.qd_trees.specs.declared.tree.Prime.TheVariants as is
 use Rattle.qd_tokens.specs.Tokens.{Lexeme}
-use Rattle.qd_trees.specs.Steps.{Read, ◌>>=◌, if_taken, links, offsets, sees, stuck, sign, word, want, want_word, name, number, text}
+use Rattle.qd_trees.specs.Steps.{Read, ◌>>=◌, if_taken, links, offsets, sees, sign, word, want, want_word, name, number, text}
 use Rattle.qd_trees.specs.Writes.{lits}
 
 -- name ["." name]

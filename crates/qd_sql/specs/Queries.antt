@@ -1,5 +1,5 @@
 -- The rules of queries.
-use Rattle.std.specs.Prelude.{◌≡◌, ℕ, zero, suc, ◌+◌, Bool, true, false, is_some, ◌||◌, if◌then◌else◌, List, [], ◌∷◌, codes, Option, Some, None, Result, Ok, Err}
+use Rattle.std.specs.Prelude.{ℕ, ◌+◌, true, false, if◌then◌else◌, List, codes, Option, Some, None, Ok}
 use Rattle.qd_tokens.specs.declared.token.Kind.TheVariants as kind
 use Rattle.qd_sql.specs.declared.query.TheConstants.{MAX_NESTING}
 use Rattle.qd_trees.specs.declared.tree.AggOf.{AggOf}
@@ -30,7 +30,7 @@ use Rattle.qd_trees.specs.declared.tree.Shown.TheVariants as shows
 use Rattle.qd_trees.specs.declared.tree.Source.{Source}
 use Rattle.qd_trees.specs.declared.tree.Text.{Text}
 use Rattle.qd_tokens.specs.Tokens.{Lexeme}
-use Rattle.qd_trees.specs.Steps.{Read, ◌>>=◌, if_taken, list, call, may, sees, sees_name, stuck, sign, word, want, want_word, name, number, stride, text}
+use Rattle.qd_trees.specs.Steps.{Read, ◌>>=◌, if_taken, list, call, may, sees_name, sign, word, want, want_word, name, number, stride, text}
 use Rattle.qd_trees.specs.Writes.{names_to_bracket}
 use Rattle.qd_sql.specs.Exprs.{column, expr}
 

@@ -1,12 +1,13 @@
 -- What a whole text of SQL says: its statement, or why it is refused.
-use Rattle.std.specs.Prelude.{◌≡◌, ℕ, Bool, true, false, not, ◌&&◌, ◌||◌, ◌==◌, nat_lt, if◌then◌else◌, List, [], ◌∷◌, length, codes, Option, Some, None, unwrap_or, Result, Ok, Err}
+use Rattle.std.specs.Prelude.{◌≡◌, ℕ, Bool, false, not, ◌&&◌, ◌||◌, ◌==◌, nat_lt, if◌then◌else◌, List, [], ◌∷◌, length, codes, Option, Some, None, unwrap_or, Result, Ok, Err}
+use Rattle.qd_base.specs.declared.code.Code.{Code}
 use Rattle.qd_base.specs.declared.code.Code.TheVariants as code
 use Rattle.qd_tokens.specs.declared.token.Kind.TheVariants as kind
-use Rattle.qd_trees.specs.declared.stop.Stop.{Stop}
 use Rattle.qd_trees.specs.declared.stop.Stop.TheVariants as stop
 use Rattle.qd_sql.specs.declared.stmt.SqlFault.{SqlFault}
 use Rattle.qd_sql.specs.declared.stmt.SqlFault.TheVariants as fault
-use Rattle.qd_sql.specs.declared.stmt.TheConstants.{TOO_LARGE, MAX_STRIDE}
+use Rattle.qd_sql.specs.declared.stmt.TheConstants.{TOO_LARGE}
+use Rattle.qd_trees.specs.declared.range.TheConstants.{MAX_STRIDE}
 use Rattle.qd_trees.specs.declared.tree.Stmt.{Stmt}
 use Rattle.qd_trees.specs.declared.tree.Stmt.TheVariants as is
 use Rattle.qd_tokens.specs.Tokens.{Lexeme, tokens}
@@ -82,3 +83,17 @@ abbrev pub Answers : Result Stmt SqlFault → Result Stmt SqlFault → Type 0
 Answers (Ok s) given = given ≡ Ok s
 Answers (Err fault.Memory) given = Unit {0}
 Answers (Err (fault.Refused why place)) given = given ≡ Err (fault.Refused why place)
+
+-- the tokens are those of this statement, and of nothing else
+abbrev pub ReadsSql : List Lexeme → Stmt → Type 0
+ReadsSql ts s = whole_text ts ≡ Ok (s, [])
+
+-- what a text is: a statement, refused, or nested too deep for the stack
+abbrev pub IsStatement : List ℕ → Stmt → Type 0
+IsStatement text s = statement_of text ≡ Ok s
+
+abbrev pub IsRefused : List ℕ → Code → ℕ → Type 0
+IsRefused text why place = statement_of text ≡ Err (fault.Refused why place)
+
+abbrev pub IsTooDeep : List ℕ → Type 0
+IsTooDeep text = statement_of text ≡ Err fault.Memory

@@ -8,7 +8,8 @@ use qd_base::Seq;
 use qd_tokens::Kind;
 use qd_trees::{
     AggOf, AlignTo, Column, Cursor, Expr, FillWith, Fills, Filter, Item, Join, JoinOf, Latest,
-    Limit, Name, OrderKey, Query, Sampled, Selected, Shown, Source, Stop, Text, names_to_bracket,
+    Limit, Name, OrderKey, Query, Sampled, Selected, Shown, Source, Stop, Text, list,
+    names_to_bracket,
 };
 use std::alloc::Global;
 
@@ -102,18 +103,10 @@ fn select_items(alloc: Global, tokens: &mut Cursor<'_, '_>) -> Result<Selected, 
 }
 
 /// item {"," item}
-#[tactic(auto, unfolding(crate::specs::Queries::items))]
 fn items(alloc: Global, tokens: &mut Cursor<'_, '_>) -> Result<Seq<Item>, Stop>
     ensures { Reads (spec.items tokens.old) result tokens.new }
 {
-    let mut found = Seq::new(alloc);
-    for _turn in 0..tokens.len() {
-        found.push(item(alloc, tokens)?)?;
-        if tokens.sign(Kind::Comma).is_none() {
-            return Ok(found);
-        }
-    }
-    Err(tokens.stuck())
+    list(alloc, tokens, item)
 }
 
 /// (agg | expr) ["AS" name]
@@ -290,18 +283,10 @@ fn latest(alloc: Global, tokens: &mut Cursor<'_, '_>) -> Result<Option<Latest>, 
 }
 
 /// column {"," column}
-#[tactic(auto, unfolding(crate::specs::Queries::keys))]
 fn keys(alloc: Global, tokens: &mut Cursor<'_, '_>) -> Result<Seq<Column>, Stop>
     ensures { Reads (spec.keys tokens.old) result tokens.new }
 {
-    let mut found = Seq::new(alloc);
-    for _turn in 0..tokens.len() {
-        found.push(column(alloc, tokens)?)?;
-        if tokens.sign(Kind::Comma).is_none() {
-            return Ok(found);
-        }
-    }
-    Err(tokens.stuck())
+    list(alloc, tokens, column)
 }
 
 /// ["SAMPLE" "BY" Stride [fills] [align]]
@@ -339,18 +324,10 @@ fn fills(alloc: Global, tokens: &mut Cursor<'_, '_>) -> Result<Option<Fills>, St
 }
 
 /// fill {"," fill}
-#[tactic(auto, unfolding(crate::specs::Queries::fill_list))]
 fn fill_list(alloc: Global, tokens: &mut Cursor<'_, '_>) -> Result<Seq<FillWith>, Stop>
     ensures { Reads (spec.fill_list tokens.old) result tokens.new }
 {
-    let mut found = Seq::new(alloc);
-    for _turn in 0..tokens.len() {
-        found.push(fill(tokens)?)?;
-        if tokens.sign(Kind::Comma).is_none() {
-            return Ok(found);
-        }
-    }
-    Err(tokens.stuck())
+    list(alloc, tokens, |_, tokens| fill(tokens))
 }
 
 /// "NONE" | "NULL" | "PREV" | ["-"] Number
@@ -414,18 +391,10 @@ fn order(alloc: Global, tokens: &mut Cursor<'_, '_>) -> Result<Option<Seq<OrderK
 }
 
 /// name ["ASC"|"DESC"] {"," name ["ASC"|"DESC"]}
-#[tactic(auto, unfolding(crate::specs::Queries::order_keys))]
 fn order_keys(alloc: Global, tokens: &mut Cursor<'_, '_>) -> Result<Seq<OrderKey>, Stop>
     ensures { Reads (spec.order_keys tokens.old) result tokens.new }
 {
-    let mut found = Seq::new(alloc);
-    for _turn in 0..tokens.len() {
-        found.push(order_key(alloc, tokens)?)?;
-        if tokens.sign(Kind::Comma).is_none() {
-            return Ok(found);
-        }
-    }
-    Err(tokens.stuck())
+    list(alloc, tokens, order_key)
 }
 
 /// name ["ASC"|"DESC"]

@@ -8,15 +8,13 @@ use crate::query::query;
 use qd_base::{Code, Memory};
 use qd_tokens::{Kind, Token, tokens};
 use qd_trees::{
-    Cursor, Stmt, Stop, create, insert, is_word, number_of, same_kind, show, stride_count,
+    Cursor, MAX_STRIDE, Stmt, Stop, create, insert, is_word, number_of, same_kind, show,
+    stride_count,
 };
 use std::alloc::Global;
 
 /// The first number that is too large for a literal, 2^63.
 const TOO_LARGE: u64 = 1 << 63;
-
-/// The greatest count of a stride.
-const MAX_STRIDE: u64 = 1_000_000;
 
 /// Why a text gives no statement.
 #[derive(Clone, Copy, Debug, PartialEq, Eq)]

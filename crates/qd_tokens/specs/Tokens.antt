@@ -1,7 +1,7 @@
 -- The tokens of a text of SQL. The words, names, texts, numbers and signs are those of QuestDB's SQL reference; which
 -- bytes are none is this project's own rule.
-use Rattle.std.specs.Prelude.{◌≡◌, ℕ, zero, suc, ◌+◌, ◌-◌, Bool, true, false, not, ◌&&◌, ◌||◌, ◌==◌, nat_lt, if◌then◌else◌, List, [], ◌∷◌, length, take, drop, slice_index, Option, Some, None}
-use Rattle.std.specs.List.{prefix_len, list_any}
+use Rattle.std.specs.Prelude.{◌≡◌, ◌≢◌, ◌<◌, ℕ, zero, suc, ◌+◌, ◌-◌, Bool, true, false, not, ◌&&◌, ◌||◌, ◌==◌, nat_lt, if◌then◌else◌, List, [], ◌∷◌, length, take, drop, slice_index, Option, Some, None}
+use Rattle.std.specs.List.{prefix_len}
 use Rattle.std.specs.Char.{is_ascii_digit, is_ascii_alphabetic, is_ascii_alphanumeric}
 use Rattle.std.specs.Str.Lossy.{utf8_valid_len}
 use Rattle.qd_tokens.specs.declared.token.Kind.{Kind}
@@ -153,3 +153,20 @@ tokens_from zero at (b ∷ rest) = with_piece at (cut_at (b ∷ rest)) (tokens_f
 -- the tokens of a text
 unfoldable pub tokens : List ℕ → List Lexeme
 tokens text = tokens_from 0 0 text
+
+-- The text from this offset on is cut into pieces of these lengths, none of them empty and each what stands at the front of
+-- what is left; the tokens are the pieces that are neither a blank nor a comment.
+abbrev pub Cuts : List ℕ → ℕ → List ℕ → List Lexeme → Type 0
+Cuts [] at text ts = (text ≡ []) × (ts ≡ [])
+Cuts (n ∷ lens) at text ts =
+    (more : List Lexeme) × (text ≢ []) × (0 < n) × (n ≡ (cut_at text).len) × (ts ≡ with_piece at (cut_at text) more) × Cuts lens (at + n) (drop n text) more
+
+-- these are the tokens of a text, however it is read
+abbrev pub AreTokens : List ℕ → List Lexeme → Type 0
+AreTokens text ts = (lens : List ℕ) × Cuts lens 0 text ts
+
+abbrev pub TextsHaveTokens : Type 0
+TextsHaveTokens = (text : List ℕ) → AreTokens text (tokens text)
+
+abbrev pub TokensAreTheOnlyOnes : Type 0
+TokensAreTheOnlyOnes = (text : List ℕ) (ts : List Lexeme) → AreTokens text ts → ts ≡ tokens text

@@ -1,8 +1,7 @@
 -- The steps that each rule of the grammar is made of. A rule reads from the front of a list of tokens: it gives what it
 -- reads and the tokens behind, or the offset of the first token that no text has there, or none at the text's end. Where
 -- brackets nest too deep it finds no memory.
-use Rattle.std.specs.Prelude.{◌≡◌, ℕ, zero, suc, length, ◌+◌, ◌-◌, ◌*◌, ◌^◌, Bool, true, false, not, ◌&&◌, ◌||◌, ◌==◌, min, nat_lt, if◌then◌else◌, List, [], ◌∷◌, ◌++◌, map, fold, take, slice_index, Option, Some, None, Result, Ok, Err}
-use Rattle.std.specs.Borrow.{Bor}
+use Rattle.std.specs.Prelude.{◌≡◌, ℕ, zero, suc, length, ◌+◌, ◌-◌, ◌*◌, ◌^◌, Bool, true, false, not, ◌&&◌, ◌||◌, ◌==◌, min, if◌then◌else◌, List, [], ◌∷◌, ◌++◌, map, fold, take, slice_index, Option, Some, None, Result, Ok, Err}
 use Rattle.std.specs.Str.{str_eq_ignore_ascii_case}
 use denote.Enum.Bare.{sameb}
 use Rattle.qd_tokens.specs.contracts.token.Kind.{the_type}
@@ -19,6 +18,8 @@ use Rattle.qd_trees.specs.declared.tree.StrideUnit.{StrideUnit}
 use Rattle.qd_trees.specs.declared.tree.StrideUnit.TheVariants as every
 use Rattle.qd_trees.specs.declared.tree.Text.{Text}
 use Rattle.qd_tokens.specs.Tokens as tokens
+use Rattle.qd_trees.specs.Ranges as range
+use Rattle.qd_trees.specs.Ranges.{magnitude}
 use Rattle.qd_tokens.specs.Tokens.{Lexeme}
 
 abbrev pub seen : Token → Lexeme
@@ -131,7 +132,7 @@ number_of digits = fold next_value 0 digits
 
 unfoldable pub number : List Lexeme → Read Number
 number [] = Err (stuck [])
-number (t ∷ ts) = if same_kind t.kind kind.Number then Ok (record { at = t.at; value = number_of t.content }, ts) else Err (stuck (t ∷ ts))
+number (t ∷ ts) = if same_kind t.kind kind.Number then Ok (record { at = t.at; value = magnitude (number_of t.content) }, ts) else Err (stuck (t ∷ ts))
 
 abbrev pub begins_two : ℕ → Bool → Bool
 begins_two b is_second = b == 39 && not is_second
@@ -151,7 +152,7 @@ stride_unit content = unit_of (slice_index content (length content - 1))
 unfoldable pub stride : List Lexeme → Read StrideOf
 stride [] = Err (stuck [])
 stride (t ∷ ts) =
-    if same_kind t.kind kind.Stride then Ok (record { at = t.at; count = stride_count t.content; unit = stride_unit t.content }, ts) else Err (stuck (t ∷ ts))
+    if same_kind t.kind kind.Stride then Ok (record { at = t.at; count = range.stride_count (stride_count t.content); unit = stride_unit t.content }, ts) else Err (stuck (t ∷ ts))
 
 -- one quote for each two; the test says that the first of two went before
 unfoldable pub unquoted_from : Bool → List ℕ → List ℕ

@@ -1,5 +1,5 @@
 -- The rules of statements that write, and of SHOW.
-use Rattle.std.specs.Prelude.{◌≡◌, ℕ, zero, suc, Bool, true, false, if◌then◌else◌, List, [], ◌∷◌, ◌++◌, length, codes, Option, Some, None, Result, Ok, Err, is_some}
+use Rattle.std.specs.Prelude.{if◌then◌else◌, List, codes, Option, Some, None, Ok, Err}
 use Rattle.qd_base.specs.declared.schema.ColType.{ColType}
 use Rattle.qd_base.specs.declared.schema.ColType.TheVariants as type
 use Rattle.qd_base.specs.declared.schema.PartUnit.{PartUnit}

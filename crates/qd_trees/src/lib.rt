@@ -2,13 +2,17 @@
 //! of the grammar is made of, and the rules of CREATE, INSERT and SHOW.
 #![tactic(auto)]
 
+mod lists;
+mod range;
 mod step;
 mod stop;
 mod tree;
 mod write;
 
+pub use lists::list;
+pub use range::{MAX_NUMBER, MAX_STRIDE, Magnitude, StrideCount};
 pub use sqlite_items::{Boxed, Items};
-pub use step::{Cursor, RESERVED, is_word, number_of, same_kind, stride_count};
+pub use step::{Cursor, is_word, number_of, same_kind, stride_count};
 pub use stop::Stop;
 pub use tree::{
     AddOp, AddTerm, AggOf, AlignTo, AndNeg, Check, Cmp, Column, ColumnDef, Conj, Create, Dedup,

@@ -3,6 +3,7 @@ ghost use Rattle.std.specs.Prelude.{◌≡◌, ◌<◌, ◌≤◌, ◌^◌, leng
 ghost use Rattle.qd_trees.specs.Steps as spec;
 ghost use Rattle.qd_trees.specs.Steps.{Reads, Takes};
 
+use crate::range::{Magnitude, StrideCount};
 use crate::stop::Stop;
 use crate::tree::{Name, Number, StrideOf, StrideUnit, Text};
 use qd_base::{Memory, Txt, same_name};
@@ -11,7 +12,7 @@ use std::alloc::Global;
 use std::marker::Model;
 
 /// The words that are no bare names.
-pub const RESERVED: [(&[u8],); 32] = [
+const RESERVED: [(&[u8],); 32] = [
     (b"ALIGN",),
     (b"AND",),
     (b"AS",),
@@ -46,7 +47,10 @@ pub const RESERVED: [(&[u8],); 32] = [
     (b"WHERE",),
 ];
 
-/// The tokens that are still to be read.
+/// The tokens that are still to be read. Contracts see it as the list of them.
+///
+/// A call costs constant time, and beyond that only the bytes of the one token that it takes or compares. A call that
+/// answers `Err` ends the reading: what is left then isn't said.
 #[derive(Drop)]
 pub struct Cursor<'t, 'a> {
     left: &'t [Token<'a>],
@@ -62,7 +66,7 @@ impl<'t, 'a> Model for Cursor<'t, 'a> {
 }
 
 impl<'t, 'a> Cursor<'t, 'a> {
-    /// Begins to read tokens.
+    /// Begins to read tokens, from the first one on.
     pub fn new(tokens: &'t [Token<'a>]) -> Cursor<'t, 'a>
         ensures { result ≡ spec.lexemes tokens.now }
     {
@@ -76,7 +80,7 @@ impl<'t, 'a> Cursor<'t, 'a> {
         self.left.len()
     }
 
-    /// The place where no text goes on with these tokens.
+    /// Says that no text goes on with these tokens: the offset of the first, or none at the end.
     #[tactic(auto, unfolding(crate::specs::Steps::stuck))]
     pub fn stuck(&self) -> Stop
         ensures { result ≡ spec.stuck self.now }
@@ -101,7 +105,7 @@ impl<'t, 'a> Cursor<'t, 'a> {
         }
     }
 
-    /// Takes a word, where it comes next, and gives its offset.
+    /// Takes a word, which is given in capitals or small letters, where it comes next, and gives its offset.
     #[tactic(auto, unfolding(crate::specs::Steps::word))]
     pub fn word(&mut self, word: &[u8]) -> Option<u64>
         ensures { Takes result (spec.word word.now self.old) self.old self.new }
@@ -115,7 +119,7 @@ impl<'t, 'a> Cursor<'t, 'a> {
         }
     }
 
-    /// Takes a word, where it comes next.
+    /// Takes a word that may stand or not, and gives its offset.
     #[tactic(auto, unfolding(crate::specs::Steps::may))]
     pub fn may(&mut self, word: &[u8]) -> Option<u64>
         ensures at { result ≡ (spec.may word.now self.old).0 }
@@ -150,7 +154,7 @@ impl<'t, 'a> Cursor<'t, 'a> {
         }
     }
 
-    /// Reads a stride.
+    /// Reads a stride. Where its count is out of range, the tree has the nearest one in it.
     #[tactic(auto, unfolding(crate::specs::Steps::stride))]
     pub fn stride(&mut self) -> Result<StrideOf, Stop>
         ensures { Reads (spec.stride self.old) result self.new }
@@ -160,7 +164,7 @@ impl<'t, 'a> Cursor<'t, 'a> {
                 self.left = rest;
                 Ok(StrideOf {
                     at: first.at,
-                    count: stride_count(first.content),
+                    count: StrideCount::nearest(stride_count(first.content)),
                     unit: stride_unit(first.content),
                 })
             }
@@ -168,7 +172,7 @@ impl<'t, 'a> Cursor<'t, 'a> {
         }
     }
 
-    /// Takes a sign that must come next.
+    /// Takes a sign that must come next, and gives its offset.
     #[tactic(auto, unfolding(crate::specs::Steps::want))]
     pub fn want(&mut self, kind: Kind) -> Result<u64, Stop>
         ensures { Reads (spec.want kind self.old) result self.new }
@@ -179,7 +183,7 @@ impl<'t, 'a> Cursor<'t, 'a> {
         }
     }
 
-    /// Takes a word that must come next.
+    /// Takes a word that must come next, and gives its offset.
     #[tactic(auto, unfolding(crate::specs::Steps::want_word))]
     pub fn want_word(&mut self, word: &[u8]) -> Result<u64, Stop>
         ensures { Reads (spec.want_word word.now self.old) result self.new }
@@ -190,7 +194,7 @@ impl<'t, 'a> Cursor<'t, 'a> {
         }
     }
 
-    /// Reads a name.
+    /// Reads a name: a word that isn't reserved, or what stands in double quotes. It takes memory for its bytes.
     #[tactic(auto, unfolding(crate::specs::Steps::name))]
     pub fn name(&mut self, alloc: Global) -> Result<Name, Stop>
         ensures { Reads (spec.name self.old) result self.new }
@@ -205,7 +209,7 @@ impl<'t, 'a> Cursor<'t, 'a> {
         }
     }
 
-    /// Reads a number without a sign.
+    /// Reads a number without a sign. Where it is above 9223372036854775807, the tree has that one.
     #[tactic(auto, unfolding(crate::specs::Steps::number))]
     pub fn number(&mut self) -> Result<Number, Stop>
         ensures { Reads (spec.number self.old) result self.new }
@@ -215,14 +219,14 @@ impl<'t, 'a> Cursor<'t, 'a> {
                 self.left = rest;
                 Ok(Number {
                     at: first.at,
-                    value: number_of(first.content),
+                    value: Magnitude::at_most(number_of(first.content)),
                 })
             }
             _ => Err(self.stuck()),
         }
     }
 
-    /// Reads a text, where one comes next.
+    /// Reads a text, with one quote for each two. It takes memory for its bytes.
     #[tactic(auto, unfolding(crate::specs::Steps::text))]
     pub fn text(&mut self, alloc: Global) -> Result<Text, Stop>
         ensures { Reads (spec.text self.old) result self.new }
@@ -237,7 +241,7 @@ impl<'t, 'a> Cursor<'t, 'a> {
         }
     }
 
-    /// Nothing is left.
+    /// Says that nothing may be left.
     #[tactic(auto, unfolding(crate::specs::Steps::end))]
     pub fn end(&mut self) -> Result<(), Stop>
         ensures { Reads (spec.end self.old) result self.new }
@@ -260,7 +264,7 @@ impl<'t, 'a> Cursor<'t, 'a> {
     }
 }
 
-/// Whether two kinds are one.
+/// Says whether two kinds are one.
 #[tactic(auto, unfolding(crate::specs::Steps::same_kind))]
 pub fn same_kind(a: Kind, b: Kind) -> bool
     ensures { result ≡ spec.same_kind a b }
@@ -268,7 +272,7 @@ pub fn same_kind(a: Kind, b: Kind) -> bool
     a == b
 }
 
-/// Whether a token is this word, which is written in capitals.
+/// Says whether a token is this word, ASCII case aside. A name in quotes is no word.
 #[tactic(auto, unfolding(crate::specs::Steps::is_word))]
 pub fn is_word(token: &Token<'_>, word: &[u8]) -> bool
     ensures { result ≡ spec.is_word word.now (spec.seen token.now) }
@@ -306,7 +310,7 @@ fn is_name(token: &Token<'_>) -> bool
         || (same_kind(token.kind, Kind::Word) && !is_reserved(token.content))
 }
 
-/// The value of digits, or 2^63 where it is above.
+/// Gives the value of digits, or 2^63 where it is above. Leading zeros don't count.
 pub fn number_of(digits: &[u8]) -> u64
     ensures value { result ≡ spec.number_of digits.now }
     ensures bound { result ≤ 2 ^ 63 }
@@ -329,7 +333,7 @@ fn next_value(value: u64, digit: u8) -> u64
     if next < 1 << 63 { next as u64 } else { 1 << 63 }
 }
 
-/// The count of a stride, which stands before its last byte.
+/// Gives the count of a stride, which stands before its last byte, or 2^63 where it is above.
 #[tactic(auto, unfolding(crate::specs::Steps::stride_count))]
 pub fn stride_count(content: &[u8]) -> u64
     ensures { result ≡ spec.stride_count content.now }

@@ -1,7 +1,7 @@
 //! Why reading stops.
 use qd_base::Memory;
 
-/// Why a rule reads no further.
+/// Why a rule reads no further. The reading is over then.
 #[derive(Clone, Copy, Debug, PartialEq, Eq)]
 pub enum Stop {
     /// No memory was found.

@@ -1,5 +1,6 @@
 //! The trees of statements: one type for each rule of the grammar, one field for each part. Offsets are in bytes from
 //! the text's start.
+use crate::range::{Magnitude, StrideCount};
 use qd_base::{ColType, PartUnit, Seq, Txt};
 use sqlite_items::{Boxed, Items};
 
@@ -13,12 +14,12 @@ pub struct Name {
 }
 
 /// A number without a sign.
-#[derive(Clone, Copy)]
+#[derive(Drop)]
 pub struct Number {
     /// Its offset.
     pub at: u64,
-    /// Its value. In a statement that was read it is at most 9223372036854775807.
-    pub value: u64,
+    /// Its value, from 0 to 9223372036854775807.
+    pub value: Magnitude,
 }
 
 /// A text, without quotes around it and with one quote for each two inside.
@@ -417,12 +418,12 @@ pub enum StrideUnit {
 }
 
 /// A count and a unit, as in `15m`.
-#[derive(Clone, Copy)]
+#[derive(Drop)]
 pub struct StrideOf {
     /// Its offset.
     pub at: u64,
-    /// The count. In a statement that was read it is from 1 to 1,000,000.
-    pub count: u64,
+    /// The count, from 1 to 1,000,000.
+    pub count: StrideCount,
     /// The unit.
     pub unit: StrideUnit,
 }

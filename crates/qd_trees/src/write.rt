@@ -3,6 +3,7 @@ ghost use Rattle.std.specs.Prelude.{◌≡◌, map};
 ghost use Rattle.qd_trees.specs.Writes as spec;
 ghost use Rattle.qd_trees.specs.Steps.{Reads};
 
+use crate::lists::list;
 use crate::step::Cursor;
 use crate::stop::Stop;
 use crate::tree::{ColumnDef, Create, Dedup, Insert, Lit, Name, Tuple};
@@ -12,7 +13,7 @@ use std::alloc::Global;
 
 /// Reads a literal of a list.
 #[tactic(auto, unfolding(crate::specs::Writes::lit))]
-pub fn lit(alloc: Global, tokens: &mut Cursor<'_, '_>) -> Result<Lit, Stop>
+fn lit(alloc: Global, tokens: &mut Cursor<'_, '_>) -> Result<Lit, Stop>
     ensures { Reads (spec.lit tokens.old) result tokens.new }
 {
     if let Some(at) = tokens.sign(Kind::Minus) {
@@ -31,66 +32,34 @@ pub fn lit(alloc: Global, tokens: &mut Cursor<'_, '_>) -> Result<Lit, Stop>
 }
 
 /// Reads names with commas between them.
-#[tactic(auto, unfolding(crate::specs::Writes::names))]
-pub fn names(alloc: Global, tokens: &mut Cursor<'_, '_>) -> Result<Seq<Name>, Stop>
+fn names(alloc: Global, tokens: &mut Cursor<'_, '_>) -> Result<Seq<Name>, Stop>
     ensures { Reads (spec.names tokens.old) result tokens.new }
 {
-    let mut found = Seq::new(alloc);
-    for _turn in 0..tokens.len() {
-        found.push(tokens.name(alloc)?)?;
-        if tokens.sign(Kind::Comma).is_none() {
-            return Ok(found);
-        }
-    }
-    Err(tokens.stuck())
+    list(alloc, tokens, |alloc, tokens| tokens.name(alloc))
 }
 
-/// Reads literals with commas between them.
-#[tactic(auto, unfolding(crate::specs::Writes::lits))]
+/// Reads literals with commas between them. It takes memory for each.
 pub fn lits(alloc: Global, tokens: &mut Cursor<'_, '_>) -> Result<Seq<Lit>, Stop>
     ensures { Reads (spec.lits tokens.old) result tokens.new }
 {
-    let mut found = Seq::new(alloc);
-    for _turn in 0..tokens.len() {
-        found.push(lit(alloc, tokens)?)?;
-        if tokens.sign(Kind::Comma).is_none() {
-            return Ok(found);
-        }
-    }
-    Err(tokens.stuck())
+    list(alloc, tokens, lit)
 }
 
 /// Reads the columns of CREATE.
-#[tactic(auto, unfolding(crate::specs::Writes::columns))]
 fn columns(alloc: Global, tokens: &mut Cursor<'_, '_>) -> Result<Seq<ColumnDef>, Stop>
     ensures { Reads (spec.columns tokens.old) result tokens.new }
 {
-    let mut found = Seq::new(alloc);
-    for _turn in 0..tokens.len() {
-        found.push(column(alloc, tokens)?)?;
-        if tokens.sign(Kind::Comma).is_none() {
-            return Ok(found);
-        }
-    }
-    Err(tokens.stuck())
+    list(alloc, tokens, column)
 }
 
 /// Reads the rows of INSERT.
-#[tactic(auto, unfolding(crate::specs::Writes::tuples))]
 fn tuples(alloc: Global, tokens: &mut Cursor<'_, '_>) -> Result<Seq<Tuple>, Stop>
     ensures { Reads (spec.tuples tokens.old) result tokens.new }
 {
-    let mut found = Seq::new(alloc);
-    for _turn in 0..tokens.len() {
-        found.push(tuple(alloc, tokens)?)?;
-        if tokens.sign(Kind::Comma).is_none() {
-            return Ok(found);
-        }
-    }
-    Err(tokens.stuck())
+    list(alloc, tokens, tuple)
 }
 
-/// Reads names in brackets, behind the opening one.
+/// Reads names with commas between them and the bracket behind them. It takes memory for each.
 #[tactic(auto, unfolding(crate::specs::Writes::names_to_bracket))]
 pub fn names_to_bracket(alloc: Global, tokens: &mut Cursor<'_, '_>) -> Result<Seq<Name>, Stop>
     ensures { Reads (spec.names_to_bracket tokens.old) result tokens.new }
@@ -180,7 +149,7 @@ fn table_columns(alloc: Global, tokens: &mut Cursor<'_, '_>) -> Result<(Seq<Colu
     Ok((found, time))
 }
 
-/// Reads a CREATE statement, behind its first word.
+/// Reads a CREATE statement, behind its first word. It takes memory for its names and columns.
 #[tactic(auto, unfolding(crate::specs::Writes::create))]
 pub fn create(alloc: Global, tokens: &mut Cursor<'_, '_>) -> Result<Create, Stop>
     ensures { Reads (spec.create tokens.old) result tokens.new }
@@ -225,7 +194,7 @@ fn tuple(alloc: Global, tokens: &mut Cursor<'_, '_>) -> Result<Tuple, Stop>
     Ok(Tuple { at, lits })
 }
 
-/// Reads an INSERT statement, behind its first word.
+/// Reads an INSERT statement, behind its first word. It takes memory for its names and literals.
 #[tactic(auto, unfolding(crate::specs::Writes::insert))]
 pub fn insert(alloc: Global, tokens: &mut Cursor<'_, '_>) -> Result<Insert, Stop>
     ensures { Reads (spec.insert tokens.old) result tokens.new }
@@ -242,7 +211,7 @@ pub fn insert(alloc: Global, tokens: &mut Cursor<'_, '_>) -> Result<Insert, Stop
     })
 }
 
-/// Reads a SHOW statement, behind its first word: the table's name.
+/// Reads a SHOW statement, behind its first word, and gives the table's name. It takes memory for it.
 #[tactic(auto, unfolding(crate::specs::Writes::show))]
 pub fn show(alloc: Global, tokens: &mut Cursor<'_, '_>) -> Result<Name, Stop>
     ensures { Reads (spec.show tokens.old) result tokens.new }

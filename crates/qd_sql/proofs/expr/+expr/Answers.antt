@@ -1,4 +1,4 @@
-use Rattle.std.proofs.Common.{◌≡◌, ap, arith}
+use Rattle.std.proofs.Common.{arith}
 use Rattle.qd_sql.specs.Exprs.{expr}
 use Rattle.qd_trees.proofs.Turns.{deeper}
 use Rattle.qd_sql.proofs.expr.+expr.Goals as goal

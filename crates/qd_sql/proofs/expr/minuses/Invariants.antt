@@ -1,7 +1,6 @@
-use Rattle.std.proofs.Common.{◌≡◌, ◌-◌, codes}
+use Rattle.std.proofs.Common.{◌≡◌, ◌-◌}
 use Rattle.qd_tokens.specs.declared.token.Kind.TheVariants as kind
-use Rattle.qd_trees.specs.Steps.{offsets, offsets_from, word, sign}
-use Rattle.qd_sql.specs.Exprs.{minuses}
+use Rattle.qd_trees.specs.Steps.{offsets, offsets_from, sign}
 use Rattle.qd_sql.proofs.expr.minuses.Given as goal
 
 abbrev pub invariant-loop-turn : goal.invariant-loop-turn

@@ -1,7 +1,6 @@
 use Rattle.std.proofs.Common.{rules, arith, codes}
 use Rattle.std.proofs.lemmas.Grind.{common_steps}
-use Rattle.qd_tokens.specs.declared.token.Kind.TheVariants as kind
-use Rattle.qd_trees.specs.Steps.{offsets, offsets_from, word, sign}
+use Rattle.qd_trees.specs.Steps.{offsets_from, word}
 use Rattle.qd_sql.specs.Exprs.{nots}
 use Rattle.qd_trees.proofs.Turns.{one_more, no_more}
 use Rattle.qd_sql.proofs.expr.nots.Goals as goal

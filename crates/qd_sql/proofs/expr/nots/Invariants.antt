@@ -1,7 +1,5 @@
 use Rattle.std.proofs.Common.{◌≡◌, ◌-◌, codes}
-use Rattle.qd_tokens.specs.declared.token.Kind.TheVariants as kind
-use Rattle.qd_trees.specs.Steps.{offsets, offsets_from, word, sign}
-use Rattle.qd_sql.specs.Exprs.{nots}
+use Rattle.qd_trees.specs.Steps.{offsets, offsets_from, word}
 use Rattle.qd_sql.proofs.expr.nots.Given as goal
 
 abbrev pub invariant-loop-turn : goal.invariant-loop-turn

@@ -1,30 +1,7 @@
-use Rattle.std.proofs.Common.{rules, arith}
-use Rattle.std.proofs.lemmas.Grind.{common_steps}
-use Rattle.qd_trees.specs.Steps.{list_from}
-use Rattle.qd_sql.specs.Queries.{fill}
-use Rattle.qd_trees.proofs.Turns.{one_more, no_more}
+use Rattle.std.proofs.Common.{rules}
+use Rattle.qd_sql.specs.Queries.{fill, fill_list}
 use Rattle.qd_sql.proofs.query.fill_list.Goals as goal
 
-pub returns-in_err-fill : goal.returns-in_err-fill
-unfolding list_from
-returns-in_err-fill c =
-    let e = one_more (λ n. list_from fill n c.loop-turn.found c.loop-turn.tokens) _ c.loop-turn._turn c.loop-turn-test.true c.loop-turn.invariant in
-    first_of (search rules, grind (arith, common_steps))
-
-pub returns-then-is_none : goal.returns-then-is_none
-unfolding list_from
-returns-then-is_none c =
-    let e = one_more (λ n. list_from fill n c.loop-turn.found c.loop-turn.tokens) _ c.loop-turn._turn c.loop-turn-test.true c.loop-turn.invariant in
-    first_of (search rules, grind (arith, common_steps))
-
-pub loop-turn-preserved : goal.loop-turn-preserved
-unfolding list_from
-loop-turn-preserved c =
-    let e = one_more (λ n. list_from fill n c.loop-turn.found c.loop-turn.tokens) _ c.loop-turn._turn c.loop-turn-test.true c.loop-turn.invariant in
-    first_of (search rules, grind (arith, common_steps))
-
 pub returns : goal.returns
-unfolding list_from
-returns c =
-    let e = no_more (λ n. list_from fill n c.loop-turn.found c.loop-turn.tokens) _ c.loop-turn._turn c.loop-turn-test.false c.loop-turn.invariant in
-    first_of (search rules, grind (arith, common_steps))
+unfolding fill_list
+returns c = c.list.ensures fill (record { reads = search rules })

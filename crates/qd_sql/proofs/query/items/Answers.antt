@@ -1,30 +1,7 @@
-use Rattle.std.proofs.Common.{rules, arith}
-use Rattle.std.proofs.lemmas.Grind.{common_steps}
-use Rattle.qd_trees.specs.Steps.{list_from}
-use Rattle.qd_sql.specs.Queries.{item}
-use Rattle.qd_trees.proofs.Turns.{one_more, no_more}
+use Rattle.std.proofs.Common.{rules}
+use Rattle.qd_sql.specs.Queries.{item, items}
 use Rattle.qd_sql.proofs.query.items.Goals as goal
 
-pub returns-in_err-item : goal.returns-in_err-item
-unfolding list_from
-returns-in_err-item c =
-    let e = one_more (λ n. list_from item n c.loop-turn.found c.loop-turn.tokens) _ c.loop-turn._turn c.loop-turn-test.true c.loop-turn.invariant in
-    first_of (search rules, grind (arith, common_steps))
-
-pub returns-then-is_none : goal.returns-then-is_none
-unfolding list_from
-returns-then-is_none c =
-    let e = one_more (λ n. list_from item n c.loop-turn.found c.loop-turn.tokens) _ c.loop-turn._turn c.loop-turn-test.true c.loop-turn.invariant in
-    first_of (search rules, grind (arith, common_steps))
-
-pub loop-turn-preserved : goal.loop-turn-preserved
-unfolding list_from
-loop-turn-preserved c =
-    let e = one_more (λ n. list_from item n c.loop-turn.found c.loop-turn.tokens) _ c.loop-turn._turn c.loop-turn-test.true c.loop-turn.invariant in
-    first_of (search rules, grind (arith, common_steps))
-
 pub returns : goal.returns
-unfolding list_from
-returns c =
-    let e = no_more (λ n. list_from item n c.loop-turn.found c.loop-turn.tokens) _ c.loop-turn._turn c.loop-turn-test.false c.loop-turn.invariant in
-    first_of (search rules, grind (arith, common_steps))
+unfolding items
+returns c = c.list.ensures item (record { reads = search rules })

@@ -1,4 +1,4 @@
-use Rattle.std.proofs.Common.{◌≡◌, length, sym, ◌∙◌, ap, arith, take}
+use Rattle.std.proofs.Common.{sym, ◌∙◌, ap, take}
 use Rattle.std.proofs.lemmas.Str.{utf8_valid_len-IsUtf8}
 use Rattle.std.specs.Str.Lossy.{utf8_valid_len}
 use Rattle.qd_tokens.specs.Tokens.{comment}

@@ -1,6 +1,6 @@
-use Rattle.std.proofs.Common.{◌≡◌, ℕ, ◌+◌, ◌<◌, ◌≤◌, List, [], ◌∷◌, ◌++◌, length, drop, map, sym, ap, refl, ◌∙◌, arith, append_assoc, append-nil}
+use Rattle.std.proofs.Common.{◌+◌, [], ◌++◌, drop, map, sym, ap, ◌∙◌, arith, append_assoc, append-nil}
 use Rattle.std.proofs.lemmas.List.{take_rest}
-use Rattle.qd_tokens.specs.Tokens.{seen, seen_cut, tokens, tokens_from, cut_at, with_piece}
+use Rattle.qd_tokens.specs.Tokens.{seen, seen_cut, tokens, tokens_from, with_piece}
 use Rattle.qd_tokens.proofs.TokenLemmas.{tokens_from-at, tokens_from-end}
 use Rattle.qd_tokens.proofs.cut.tokens.Goals as goal
 

@@ -1,29 +1,8 @@
-use Rattle.std.proofs.Common.{rules, arith}
-use Rattle.std.proofs.lemmas.Grind.{common_steps}
-use Rattle.qd_trees.specs.Steps.{list_from, name}
-use Rattle.qd_trees.proofs.Turns.{one_more, no_more}
+use Rattle.std.proofs.Common.{rules}
+use Rattle.qd_trees.specs.Steps.{name}
+use Rattle.qd_trees.specs.Writes.{names}
 use Rattle.qd_trees.proofs.write.names.Goals as goal
 
-pub returns-in_err-name : goal.returns-in_err-name
-unfolding list_from
-returns-in_err-name c =
-    let e = one_more (λ n. list_from name n c.loop-turn.found c.loop-turn.tokens) _ c.loop-turn._turn c.loop-turn-test.true c.loop-turn.invariant in
-    first_of (search rules, grind (arith, common_steps))
-
-pub returns-then-is_none : goal.returns-then-is_none
-unfolding list_from
-returns-then-is_none c =
-    let e = one_more (λ n. list_from name n c.loop-turn.found c.loop-turn.tokens) _ c.loop-turn._turn c.loop-turn-test.true c.loop-turn.invariant in
-    first_of (search rules, grind (arith, common_steps))
-
-pub loop-turn-preserved : goal.loop-turn-preserved
-unfolding list_from
-loop-turn-preserved c =
-    let e = one_more (λ n. list_from name n c.loop-turn.found c.loop-turn.tokens) _ c.loop-turn._turn c.loop-turn-test.true c.loop-turn.invariant in
-    first_of (search rules, grind (arith, common_steps))
-
 pub returns : goal.returns
-unfolding list_from
-returns c =
-    let e = no_more (λ n. list_from name n c.loop-turn.found c.loop-turn.tokens) _ c.loop-turn._turn c.loop-turn-test.false c.loop-turn.invariant in
-    first_of (search rules, grind (arith, common_steps))
+unfolding names
+returns c = c.list.ensures name (record { reads = search rules })

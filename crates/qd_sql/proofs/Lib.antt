@@ -1,1 +1,1 @@
-pub mod TokenLemmas
+pub mod Answered

@@ -1,1 +1,5 @@
-pub mod Tokens
+pub mod Exprs
+pub mod Nests
+pub mod Queries
+pub mod Statement
+pub mod Laws

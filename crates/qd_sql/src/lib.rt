@@ -1,11 +1,19 @@
-//! The texts of SQL: what their tokens are.
+//! The statements of SQL: the rules of expressions and queries, and `parse_stmt`, which reads a text or refuses it.
 #![tactic(auto)]
 
-mod cut;
-mod token;
-
-pub use cut::tokens;
-pub use token::{Kind, Token};
-
+mod expr;
+mod laws;
+mod query;
+mod stmt;
 #[cfg(test)]
 mod tests;
+
+pub use laws::{refusals_have_causes, statements_stand, texts_are_answered};
+pub use qd_trees::{
+    AddOp, AddTerm, AggOf, AlignTo, AndNeg, Boxed, Check, Cmp, Column, ColumnDef, Conj, Create,
+    Dedup, Expr, FillWith, Fills, Filter, Insert, Item, Items, Join, JoinOf, Latest, Limit, Lit,
+    MAX_NUMBER, MAX_STRIDE, Magnitude, MulOp, MulSigned, Name, Neg, Number, OrConj, OrderKey, Plus,
+    Prime, Query, Sampled, Selected, Shown, Signed, Source, Stmt, StrideCount, StrideOf,
+    StrideUnit, Term, Test, Text, Tuple,
+};
+pub use stmt::{SqlFault, parse_stmt};

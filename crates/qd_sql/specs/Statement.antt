@@ -1,0 +1,99 @@
+-- What a whole text of SQL says: its statement, or why it is refused.
+use Rattle.std.specs.Prelude.{◌≡◌, ℕ, Bool, false, not, ◌&&◌, ◌||◌, ◌==◌, nat_lt, if◌then◌else◌, List, [], ◌∷◌, length, codes, Option, Some, None, unwrap_or, Result, Ok, Err}
+use Rattle.qd_base.specs.declared.code.Code.{Code}
+use Rattle.qd_base.specs.declared.code.Code.TheVariants as code
+use Rattle.qd_tokens.specs.declared.token.Kind.TheVariants as kind
+use Rattle.qd_trees.specs.declared.stop.Stop.TheVariants as stop
+use Rattle.qd_sql.specs.declared.stmt.SqlFault.{SqlFault}
+use Rattle.qd_sql.specs.declared.stmt.SqlFault.TheVariants as fault
+use Rattle.qd_sql.specs.declared.stmt.TheConstants.{TOO_LARGE}
+use Rattle.qd_trees.specs.declared.range.TheConstants.{MAX_STRIDE}
+use Rattle.qd_trees.specs.declared.tree.Stmt.{Stmt}
+use Rattle.qd_trees.specs.declared.tree.Stmt.TheVariants as is
+use Rattle.qd_tokens.specs.Tokens.{Lexeme, tokens}
+use Rattle.qd_trees.specs.Steps.{Read, ◌>>=◌, if_taken, is_word, same_kind, number_of, stride_count, end, sign, word}
+use Rattle.qd_trees.specs.Writes.{create, insert, show}
+use Rattle.qd_sql.specs.Queries.{query}
+
+-- query | "CREATE" create | "INSERT" insert | "SHOW" show
+unfoldable pub statement : List Lexeme → Read Stmt
+statement ts =
+    if_taken (word (codes "CREATE") ts) (λ x. create x.1 >>= λ s. Ok (is.Create s.0, s.1))
+    (if_taken (word (codes "INSERT") ts) (λ x. insert x.1 >>= λ s. Ok (is.Insert s.0, s.1))
+    (if_taken (word (codes "SHOW") ts) (λ x. show x.1 >>= λ s. Ok (is.Show s.0.text s.0.at, s.1))
+    (query ts >>= λ s. Ok (is.Query s.0, s.1))))
+
+-- [";"] and nothing behind it
+unfoldable pub ended : List Lexeme → Read (Unit {0})
+ended ts = if_taken (sign kind.Semicolon ts) (λ x. end x.1) (end ts)
+
+-- statement [";"]
+unfoldable pub whole_text : List Lexeme → Read Stmt
+whole_text ts = do
+  found ← statement ts
+  done ← ended found.1
+  Ok (found.0, done.1)
+
+-- ALTER DELETE DROP EXPLAIN REFRESH TRUNCATE UPDATE VACUUM WITH
+unfoldable pub is_unbuilt_word : Lexeme → Bool
+is_unbuilt_word t =
+    is_word (codes "ALTER") t || is_word (codes "DELETE") t || is_word (codes "DROP") t || is_word (codes "EXPLAIN") t || is_word (codes "REFRESH") t
+    || is_word (codes "TRUNCATE") t || is_word (codes "UPDATE") t || is_word (codes "VACUUM") t || is_word (codes "WITH") t
+
+-- such a word comes first, or CREATE before a token that isn't TABLE
+unfoldable pub is_unbuilt : List Lexeme → Bool
+is_unbuilt [] = false
+is_unbuilt (t ∷ []) = is_unbuilt_word t
+is_unbuilt (t ∷ u ∷ ts) = is_unbuilt_word t || (is_word (codes "CREATE") t && not (is_word (codes "TABLE") u))
+
+abbrev pub is_far_count : ℕ → Bool
+is_far_count count = count == 0 || nat_lt MAX_STRIDE count
+
+-- a number above 9223372036854775807, or a stride's count outside 1 to 1,000,000
+unfoldable pub is_far : Lexeme → Bool
+is_far t =
+    if same_kind t.kind kind.Number then number_of t.content == TOO_LARGE
+    else (if same_kind t.kind kind.Stride then is_far_count (stride_count t.content) else false)
+
+-- the offset of the first such token
+abbrev pub far_number : List Lexeme → Option ℕ
+far_number [] = None
+far_number (t ∷ ts) = if is_far t then Some t.at else far_number ts
+
+abbrev pub in_range : Stmt → Option ℕ → Result Stmt SqlFault
+in_range s None = Ok s
+in_range s (Some place) = Err (fault.Refused code.NumberRange place)
+
+-- the statement of a text of this length that has these tokens, or its refusal
+abbrev pub judged : ℕ → List Lexeme → Read Stmt → Result Stmt SqlFault
+judged len ts (Ok x) = in_range x.0 (far_number ts)
+judged len ts (Err stop.Memory) = Err fault.Memory
+judged len ts (Err (stop.At place)) = Err (fault.Refused code.SqlSyntax (unwrap_or place len))
+
+abbrev pub statement_at : ℕ → List Lexeme → Result Stmt SqlFault
+statement_at len ts = if is_unbuilt ts then Err (fault.Refused code.NotBuilt 0) else judged len ts (whole_text ts)
+
+-- The statement of a text, or its refusal: first for what is not built, then for what is no statement, then for a number
+-- out of its range. Where brackets nest too deep it finds no memory.
+abbrev pub statement_of : List ℕ → Result Stmt SqlFault
+statement_of text = statement_at (length text) (tokens text)
+
+-- what was answered is so, unless memory ran out
+abbrev pub Answers : Result Stmt SqlFault → Result Stmt SqlFault → Type 0
+Answers (Ok s) given = given ≡ Ok s
+Answers (Err fault.Memory) given = Unit {0}
+Answers (Err (fault.Refused why place)) given = given ≡ Err (fault.Refused why place)
+
+-- the tokens are those of this statement, and of nothing else
+abbrev pub ReadsSql : List Lexeme → Stmt → Type 0
+ReadsSql ts s = whole_text ts ≡ Ok (s, [])
+
+-- what a text is: a statement, refused, or nested too deep for the stack
+abbrev pub IsStatement : List ℕ → Stmt → Type 0
+IsStatement text s = statement_of text ≡ Ok s
+
+abbrev pub IsRefused : List ℕ → Code → ℕ → Type 0
+IsRefused text why place = statement_of text ≡ Err (fault.Refused why place)
+
+abbrev pub IsTooDeep : List ℕ → Type 0
+IsTooDeep text = statement_of text ≡ Err fault.Memory

@@ -1,0 +1,201 @@
+//! Reads a whole text of SQL, or refuses it.
+ghost use Rattle.std.specs.Prelude.{◌≡◌, length};
+ghost use Rattle.qd_sql.specs.Statement as spec;
+ghost use Rattle.qd_sql.specs.Statement.{Answers};
+ghost use Rattle.qd_trees.specs.Steps.{Reads, lexemes, seen};
+
+use crate::query::query;
+use qd_base::{Code, Memory};
+use qd_tokens::{Kind, Token, tokens};
+use qd_trees::{
+    Cursor, MAX_STRIDE, Stmt, Stop, create, insert, is_word, number_of, same_kind, show,
+    stride_count,
+};
+use std::alloc::Global;
+
+/// The first number that is too large for a literal, 2^63.
+const TOO_LARGE: u64 = 1 << 63;
+
+/// Why a text gives no statement.
+#[derive(Clone, Copy, Debug, PartialEq, Eq)]
+pub enum SqlFault {
+    /// No memory was found, or brackets nest deeper than 256.
+    Memory,
+    /// The text is refused.
+    Refused {
+        /// `NotBuilt`, `SqlSyntax` or `NumberRange`.
+        code: Code,
+        /// The offset of the first token that no text has there, or the text's length where all tokens begin one; of the
+        /// first number out of its range; or 0.
+        place: u64,
+    },
+}
+
+impl From<Memory> for SqlFault {
+    ghost use Rattle.std.specs.Prelude.{◌≡◌};
+    ghost use Rattle.qd_sql.specs.declared.stmt.SqlFault.TheVariants.{Memory};
+
+    ghost from_gives = { λ _ e. e ≡ Memory };
+
+    fn from(_: Memory) -> SqlFault {
+        SqlFault::Memory
+    }
+}
+
+/// Reads the one statement that a text of SQL is, of QuestDB's SQL as far as this project builds it.
+///
+/// Refused are, in this order: with `NotBuilt` a text that begins with ALTER, DELETE, DROP, EXPLAIN, REFRESH, TRUNCATE,
+/// UPDATE, VACUUM or WITH, or with CREATE before something else than TABLE; with `SqlSyntax` a text that is no statement;
+/// with `NumberRange` a number above 9223372036854775807, or a stride whose count is not from 1 to 1,000,000.
+///
+/// It costs time and memory linear in the text. Brackets that nest deeper than 256 find no memory.
+pub fn parse_stmt(alloc: Global, text: &[u8]) -> Result<Stmt, SqlFault>
+    ensures { Answers result (spec.statement_of text.now) }
+{
+    let found = tokens(alloc, text)?;
+    judge(alloc, text.len(), found.as_slice())
+}
+
+/// The statement of a text of so many bytes that has these tokens, or its refusal.
+fn judge(alloc: Global, len: usize, list: &[Token<'_>]) -> Result<Stmt, SqlFault>
+    ensures { Answers result (spec.statement_at len (lexemes list.now)) }
+{
+    if is_unbuilt(list) {
+        return Err(SqlFault::Refused {
+            code: Code::NotBuilt,
+            place: 0,
+        });
+    }
+    match whole_text(alloc, &mut Cursor::new(list)) {
+        Ok(stmt) => in_range(stmt, far_number(list)),
+        Err(Stop::At(place)) => Err(SqlFault::Refused {
+            code: Code::SqlSyntax,
+            place: place.unwrap_or(len as u64),
+        }),
+        Err(Stop::Memory) => Err(SqlFault::Memory),
+    }
+}
+
+/// The statement, where no number of its text is out of range.
+fn in_range(stmt: Stmt, far: Option<u64>) -> Result<Stmt, SqlFault>
+    ensures { Answers result (spec.in_range stmt far) }
+{
+    match far {
+        None => Ok(stmt),
+        Some(place) => Err(SqlFault::Refused {
+            code: Code::NumberRange,
+            place,
+        }),
+    }
+}
+
+/// statement [";"], and nothing behind it.
+#[tactic(auto, unfolding(crate::specs::Statement::whole_text))]
+fn whole_text(alloc: Global, tokens: &mut Cursor<'_, '_>) -> Result<Stmt, Stop>
+    ensures { Reads (spec.whole_text tokens.old) result tokens.new }
+{
+    let stmt = statement(alloc, tokens)?;
+    match ended(tokens) {
+        Ok(()) => Ok(stmt),
+        Err(stop) => Err(dropped(stmt, stop)),
+    }
+}
+
+/// Lets a statement go that something else stands behind.
+fn dropped(_stmt: Stmt, stop: Stop) -> Stop
+    ensures { result ≡ stop }
+{
+    stop
+}
+
+/// [";"], and nothing behind it.
+#[tactic(auto, unfolding(crate::specs::Statement::ended))]
+fn ended(tokens: &mut Cursor<'_, '_>) -> Result<(), Stop>
+    ensures { Reads (spec.ended tokens.old) result tokens.new }
+{
+    if tokens.sign(Kind::Semicolon).is_some() {
+        tokens.end()
+    } else {
+        tokens.end()
+    }
+}
+
+/// query | create | insert | "SHOW" ..
+#[tactic(auto, unfolding(crate::specs::Statement::statement))]
+fn statement(alloc: Global, tokens: &mut Cursor<'_, '_>) -> Result<Stmt, Stop>
+    ensures { Reads (spec.statement tokens.old) result tokens.new }
+{
+    if tokens.word(b"CREATE").is_some() {
+        Ok(Stmt::Create(create(alloc, tokens)?))
+    } else if tokens.word(b"INSERT").is_some() {
+        Ok(Stmt::Insert(insert(alloc, tokens)?))
+    } else if tokens.word(b"SHOW").is_some() {
+        let table = show(alloc, tokens)?;
+        Ok(Stmt::Show(table.text, table.at))
+    } else {
+        Ok(Stmt::Query(query(alloc, tokens)?))
+    }
+}
+
+/// Whether a text begins as a statement that is not built.
+#[tactic(auto, unfolding(crate::specs::Statement::is_unbuilt))]
+fn is_unbuilt(list: &[Token<'_>]) -> bool
+    ensures { result ≡ spec.is_unbuilt (lexemes list.now) }
+{
+    match list {
+        [] => false,
+        [first] => is_unbuilt_word(first),
+        [first, second, ..] => {
+            is_unbuilt_word(first) || (is_word(first, b"CREATE") && !is_word(second, b"TABLE"))
+        }
+    }
+}
+
+/// Whether a statement that begins with this word is not built.
+#[tactic(auto, unfolding(crate::specs::Statement::is_unbuilt_word))]
+fn is_unbuilt_word(token: &Token<'_>) -> bool
+    ensures { result ≡ spec.is_unbuilt_word (seen token.now) }
+{
+    is_word(token, b"ALTER")
+        || is_word(token, b"DELETE")
+        || is_word(token, b"DROP")
+        || is_word(token, b"EXPLAIN")
+        || is_word(token, b"REFRESH")
+        || is_word(token, b"TRUNCATE")
+        || is_word(token, b"UPDATE")
+        || is_word(token, b"VACUUM")
+        || is_word(token, b"WITH")
+}
+
+/// The offset of the first number that is out of its range.
+fn far_number(mut list: &[Token<'_>]) -> Option<u64>
+    ensures { result ≡ spec.far_number (lexemes list.entry.now) }
+{
+    while let [first, rest @ ..] = list {
+        if is_far(first) {
+            return Some(first.at);
+        }
+        list = rest;
+    }
+    None
+}
+
+/// Whether a token is a number out of its range.
+#[tactic(auto, unfolding(crate::specs::Statement::is_far))]
+fn is_far(token: &Token<'_>) -> bool
+    ensures { result ≡ spec.is_far (seen token.now) }
+{
+    if same_kind(token.kind, Kind::Number) {
+        number_of(token.content) == TOO_LARGE
+    } else if same_kind(token.kind, Kind::Stride) {
+        is_far_count(stride_count(token.content))
+    } else {
+        false
+    }
+}
+
+fn is_far_count(count: u64) -> bool
+    ensures { result ≡ spec.is_far_count count }
+{
+    count == 0 || MAX_STRIDE < count
+}

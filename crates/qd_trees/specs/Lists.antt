@@ -1,0 +1,11 @@
+-- A function value that reads by a rule.
+use Rattle.std.specs.Prelude.{List, Result}
+use Rattle.std.specs.declared.alloc.Global.{Global}
+use denote.Ref.{MutBor}
+use Rattle.qd_tokens.specs.Tokens.{Lexeme}
+use Rattle.qd_trees.specs.declared.stop.Stop.{Stop}
+use Rattle.qd_trees.specs.Steps.{Read, Reads}
+
+pub record ReadsBy {A : Type 0} (rule : List Lexeme → Read A)
+    (post : Global → MutBor (List Lexeme) → Result A Stop → MutBor (List Lexeme) → Type 0) : Type 0 where
+  pub reads : (alloc : Global) (old new : MutBor (List Lexeme)) (r : Result A Stop) → post alloc old r new → Reads (rule old.now) r new.now

@@ -3,6 +3,8 @@
 
 mod runs;
 mod set;
+#[cfg(test)]
+mod tests;
 
 pub use runs::{Place, Run};
 pub use set::RowSet;

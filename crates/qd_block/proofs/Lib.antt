@@ -3,3 +3,4 @@ pub mod BuildLemmas
 pub mod OrderLemmas
 mod MomentLemmas
 pub mod BlockLemmas
+mod FitLemmas

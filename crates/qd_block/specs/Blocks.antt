@@ -1,13 +1,15 @@
 -- Rows that are kept by columns.
 use Rattle.std.specs.Prelude.{◌≡◌, ◌≢◌, ℕ, ◌+◌, ◌<◌, ◌≤◌, List, [], ◌∷◌, ◌++◌, Option, Some, length, map, fold, take, All, slice_get, slice_index_or, slice_range}
-use Rattle.std.specs.List.{range_with_len, AllByRecursion}
+use Rattle.std.specs.List.{range_with_len, AllByRecursion, AllZip}
 use Rattle.qd_base.specs.declared.cell.Cell.{Cell}
 use Rattle.qd_base.specs.declared.cell.Cell.TheVariants as cell
+use Rattle.qd_base.specs.declared.limits.TheConstants.{MAX_COLUMNS}
 use Rattle.qd_base.specs.declared.schema.ColType.{ColType}
 use Rattle.qd_base.specs.declared.schema.ColType.TheVariants as kind
 use Rattle.qd_base.specs.declared.schema.Col.{Col}
 use Rattle.qd_base.specs.Rows.{Row, cell_at, put}
 use Rattle.qd_base.specs.Laws.{IsInOrder}
+use Rattle.qd_base.specs.Lawful.{Takes}
 use Rattle.qd_column.specs.Cells.{CellsOf, cell_of_row}
 
 -- the row of a number: its cell in each column
@@ -42,7 +44,7 @@ column_in block col = record { kind = slice_index_or block.kinds col kind.Time; 
 -- columns of one length, with rows in order of time
 pub record IsBlock (n time_col : ℕ) (columns : List CellsOf) : Type 0 where
   pub sizes : All (λ c. length c.cells ≡ n) columns
-  pub few : length columns ≤ 256
+  pub few : length columns ≤ MAX_COLUMNS
   pub designated : slice_get (kinds_of columns) time_col ≡ Some kind.Time
   pub order : IsInOrder time_col (rows_of n columns)
   pub timed : AllByRecursion (IsTimed time_col) (rows_of n columns)
@@ -58,6 +60,14 @@ pub record Building : Type 0 where
 abbrev pub with_open : Building → Cell → Building
 with_open b x = record b { open_row = b.open_row ++ x ∷ [] }
 
+-- one cell for each column, that the column takes
+abbrev pub FitsKinds : List ColType → Row → Type 0
+FitsKinds kinds row = AllZip Takes kinds row
+
+-- a builder whose open row is a front of a row, and not the whole of it
+abbrev pub HasFront : Building → Row → Building → Type 0
+HasFront old row new = (n : ℕ) × (n < length row) × (new ≡ record old { open_row = take n row })
+
 -- what the columns of a builder stand for
 abbrev pub building_of : ℕ → ℕ → ℕ → List CellsOf → Building
 building_of n filled time_col columns = record { kinds = kinds_of columns; time_col = time_col; rows = rows_of n columns; open_row = take filled (row_at columns n) }
@@ -71,7 +81,7 @@ pub record IsBuilding (n filled time_col : ℕ) (columns : List CellsOf) : Type 
   pub begun : (k : ℕ) (d : CellsOf) → k < filled → length (slice_index_or columns k d).cells ≡ n + 1
   pub others : (k : ℕ) (d : CellsOf) → filled ≤ k → k < length columns → length (slice_index_or columns k d).cells ≡ n
   pub within : filled ≤ length columns
-  pub few : length columns ≤ 256
+  pub few : length columns ≤ MAX_COLUMNS
   pub designated : slice_get (kinds_of columns) time_col ≡ Some kind.Time
   pub timed : AllByRecursion (IsTimed time_col) (rows_of n columns)
   pub open_timed : time_col < filled → IsTimed time_col (row_at columns n)

@@ -9,7 +9,7 @@ ghost use Rattle.qd_block.specs.Blocks.{kinds_in, with_open, in_time_order};
 
 use crate::block::Block;
 use crate::order::{places_in_order, rises};
-use qd_base::{ColList, ColType, Dictionary, Memory};
+use qd_base::{ColList, ColType, Dictionary, MAX_COLUMNS, MAX_TEXT_BYTES, Memory};
 use qd_column::Column;
 use std::alloc::Global;
 use std::marker::Model;
@@ -41,7 +41,7 @@ impl<D: Dictionary> Model for Builder<D> {
 impl<D: Dictionary> Builder<D> {
     /// Begins a block without rows, with at most 256 columns, a designated timestamp among them.
     pub fn new(alloc: Global, cols: &ColList, time_col: u32) -> Result<Builder<D>, Memory>
-        requires few { length cols.now ≤ 256 }
+        requires few { length cols.now ≤ MAX_COLUMNS }
         requires designated { slice_get (kinds_in cols.now) time_col ≡ Some kind.Time }
         ensures empty { IfOk result (λ b. b ≡ record { kinds = kinds_in cols.now; time_col = time_col; rows = []; open_row = [] }) }
     {
@@ -122,7 +122,7 @@ impl<D: Dictionary> Builder<D> {
     /// Adds a text of at most 65,535 bytes to a SYMBOL or VARCHAR column. Where no memory is found, nothing is changed.
     pub fn push_text(&mut self, text: &[u8]) -> Result<(), Memory>
         requires kind { (slice_get self.old.kinds (length self.old.open_row) ≡ Some kind.Symbol) ⊎ (slice_get self.old.kinds (length self.old.open_row) ≡ Some kind.Varchar) }
-        requires short { length text.now ≤ 65535 }
+        requires short { length text.now ≤ MAX_TEXT_BYTES }
         ensures ok { OnOk result (self.new ≡ with_open self.old (cell.Text text.now)) }
         ensures err { OnErr result (self.new ≡ self.old) }
     {

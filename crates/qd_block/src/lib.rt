@@ -4,6 +4,7 @@
 mod block;
 mod builder;
 mod order;
+mod rows;
 #[cfg(test)]
 mod tests;
 

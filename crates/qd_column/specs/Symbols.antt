@@ -2,7 +2,7 @@
 use Rattle.std.specs.Prelude.{◌≡◌, ℕ, ◌<◌, ◌≤◌, List, [], ◌∷◌, ◌==◌, ◌⊎◌, Option, Some, None, if◌then◌else◌, length, fold, map, All, slice_index_or}
 use Rattle.qd_base.specs.declared.cell.Cell.{Cell}
 use Rattle.qd_base.specs.declared.cell.Cell.TheVariants as cell
-use Rattle.qd_base.specs.declared.limits.TheConstants.{NULL_ID}
+use Rattle.qd_base.specs.declared.limits.TheConstants.{MAX_TEXT_BYTES, NULL_ID}
 use Rattle.qd_base.specs.Dictionary.{with_text}
 
 -- the texts with that of a cell
@@ -35,7 +35,7 @@ IsIdOf texts id = (id ≡ NULL_ID) ⊎ (id < length texts)
 pub record AreSymbols (texts : List (List ℕ)) (ids : List ℕ) : Type 0 where
   pub each : All (IsIdOf texts) ids
   pub appeared : texts_in (map (symbol_cell texts) ids) ≡ texts
-  pub short : All (λ t. length t ≤ 65535) texts
+  pub short : All (λ t. length t ≤ MAX_TEXT_BYTES) texts
 
 -- numbers that lead from the ids of some texts to those of others: NULL, or the id of the same text
 abbrev pub LeadsTo : List (List ℕ) → List (List ℕ) → List ℕ → Type 0

@@ -8,7 +8,7 @@ ghost use Rattle.qd_column.specs.Cells.{no_cells, with_cell};
 
 use crate::symbols::Symbols;
 use crate::texts::Texts;
-use qd_base::{ColType, Dictionary, Memory, NULL_LONG, NULL_TIME};
+use qd_base::{ColType, Dictionary, MAX_TEXT_BYTES, Memory, NULL_LONG, NULL_TIME};
 use std::alloc::{AllocError, Global};
 use std::marker::Model;
 
@@ -129,7 +129,7 @@ impl<D: Dictionary> Column<D> {
     /// is changed.
     pub fn push_text(&mut self, text: &[u8]) -> Result<(), Memory>
         requires kind { (self.old.kind ≡ kind.Symbol) ⊎ (self.old.kind ≡ kind.Varchar) }
-        requires short { length text.now ≤ 65535 }
+        requires short { length text.now ≤ MAX_TEXT_BYTES }
         ensures ok { OnOk result (self.new ≡ with_cell self.old (cell.Text text.now)) }
         ensures err { OnErr result (self.new ≡ self.old) }
     {

@@ -6,7 +6,7 @@ ghost use Rattle.qd_column.specs.Cells.{long_cell, time_cell, long_or_null, time
 ghost use Rattle.qd_column.specs.Symbols.{texts_in, symbol_cell, id_or_null, IsIdOf};
 
 use crate::column::{Column, Data};
-use qd_base::{Dictionary, NULL_LONG, NULL_TIME};
+use qd_base::{Dictionary, MAX_TEXT_BYTES, NULL_LONG, NULL_TIME};
 
 impl<D: Dictionary> Column<D> {
     /// Lends the numbers of a LONG column, the least for NULL, in constant time.
@@ -115,7 +115,7 @@ impl<D: Dictionary> Column<D> {
         requires kind { (self.now.kind ≡ kind.Symbol) ⊎ (self.now.kind ≡ kind.Varchar) }
         requires row { i < length self.now.cells }
         ensures cell { slice_get self.now.cells i ≡ Some (text_or_null (option_map (λ t. t.now) result)) }
-        ensures short { IfSome result (λ t. length t.now ≤ 65535) }
+        ensures short { IfSome result (λ t. length t.now ≤ MAX_TEXT_BYTES) }
     {
         match &self.data {
             Data::Symbols(symbols) => symbols.text(i),

@@ -6,7 +6,7 @@ ghost use Rattle.qd_column.specs.Cells.{text_or_null};
 ghost use Rattle.qd_column.specs.Symbols.{texts_in, symbol_cell, id_or_null, IsIdOf, AreSymbols, LeadsTo};
 
 use crate::gather::gathered;
-use qd_base::{Dictionary, Memory, NULL_ID};
+use qd_base::{Dictionary, MAX_TEXT_BYTES, Memory, NULL_ID};
 use std::alloc::Global;
 use std::marker::Model;
 
@@ -79,7 +79,7 @@ impl<D: Dictionary> Symbols<D> {
     pub fn text(&self, i: usize) -> Option<&[u8]>
         requires { i < length self.now }
         ensures text { slice_get self.now i ≡ Some (text_or_null (option_map (λ t. t.now) result)) }
-        ensures short { IfSome result (λ t. length t.now ≤ 65535) }
+        ensures short { IfSome result (λ t. length t.now ≤ MAX_TEXT_BYTES) }
     {
         let id = self.ids[i];
         if id == NULL_ID {
@@ -100,7 +100,7 @@ impl<D: Dictionary> Symbols<D> {
     /// Adds a row with a text of at most 65,535 bytes. Where no memory is found, nothing is changed. It costs what
     /// the dictionary's `intern` does.
     pub fn push_text(&mut self, text: &[u8]) -> Result<(), Memory>
-        requires { length text.now ≤ 65535 }
+        requires { length text.now ≤ MAX_TEXT_BYTES }
         ensures ok { OnOk result (self.new ≡ self.old ++ cell.Text text.now ∷ []) }
         ensures err { OnErr result (self.new ≡ self.old) }
     {
@@ -110,7 +110,7 @@ impl<D: Dictionary> Symbols<D> {
 
     /// Adds a row with a text, and gives the id that it has.
     fn push_named(&mut self, text: &[u8]) -> Result<u64, Memory>
-        requires { length text.now ≤ 65535 }
+        requires { length text.now ≤ MAX_TEXT_BYTES }
         ensures id { IfOk result (λ id. id ≡ id_for (texts_in self.old) text.now) }
         ensures ok { OnOk result (self.new ≡ self.old ++ cell.Text text.now ∷ []) }
         ensures err { OnErr result (self.new ≡ self.old) }
@@ -137,7 +137,7 @@ impl<D: Dictionary> Symbols<D> {
     /// once. It costs time and memory linear in the number of ids and of the dictionary's texts.
     pub fn of_ids(alloc: Global, dictionary: &D, ids: &[u64]) -> Result<Symbols<D>, Memory>
         requires known { All (IsIdOf (D.texts dictionary.now)) ids.now }
-        requires short { All (λ t. length t ≤ 65535) (D.texts dictionary.now) }
+        requires short { All (λ t. length t ≤ MAX_TEXT_BYTES) (D.texts dictionary.now) }
         ensures cells { IfOk result (λ symbols. symbols ≡ map (symbol_cell (D.texts dictionary.now)) ids.now) }
     {
         let mut symbols = Symbols::new(alloc)?;
@@ -152,7 +152,7 @@ impl<D: Dictionary> Symbols<D> {
     /// column, as far as they are known.
     fn push_from(&mut self, dictionary: &D, table: &mut Vec<u64>, id: u64) -> Result<(), Memory>
         requires known { IsIdOf (D.texts dictionary.now) id }
-        requires short { All (λ t. length t ≤ 65535) (D.texts dictionary.now) }
+        requires short { All (λ t. length t ≤ MAX_TEXT_BYTES) (D.texts dictionary.now) }
         requires size { length table.old.items ≡ length (D.texts dictionary.now) }
         requires leads { LeadsTo (D.texts dictionary.now) (texts_in self.old) table.old.items }
         ensures ok { OnOk result (self.new ≡ self.old ++ symbol_cell (D.texts dictionary.now) id ∷ []) }

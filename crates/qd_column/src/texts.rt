@@ -4,7 +4,7 @@ ghost use Rattle.qd_base.specs.declared.cell.Cell.TheVariants as cell;
 ghost use Rattle.qd_column.specs.Cells.{text_or_null};
 ghost use Rattle.qd_column.specs.Texts.{cells_from, start_at, Tile};
 
-use qd_base::Memory;
+use qd_base::{MAX_TEXT_BYTES, Memory};
 use std::alloc::Global;
 use std::marker::Model;
 
@@ -53,7 +53,7 @@ impl Texts {
     pub fn text(&self, i: usize) -> Option<&[u8]>
         requires { i < length self.now }
         ensures text { slice_get self.now i ≡ Some (text_or_null (option_map (λ t. t.now) result)) }
-        ensures short { IfSome result (λ t. length t.now ≤ 65535) }
+        ensures short { IfSome result (λ t. length t.now ≤ MAX_TEXT_BYTES) }
     {
         text_in(self.bytes.as_slice(), self.marks.as_slice(), i)
     }
@@ -70,7 +70,7 @@ impl Texts {
 
     /// Adds a row with a text of at most 65,535 bytes. Where no memory is found, nothing is changed.
     pub fn push_text(&mut self, text: &[u8]) -> Result<(), Memory>
-        requires { length text.now ≤ 65535 }
+        requires { length text.now ≤ MAX_TEXT_BYTES }
         ensures ok { OnOk result (self.new ≡ self.old ++ cell.Text text.now ∷ []) }
         ensures err { OnErr result (self.new ≡ self.old) }
     {
@@ -125,7 +125,7 @@ fn text_in<'a>(bytes: &'a [u8], marks: &[u64], i: usize) -> Option<&'a [u8]>
     requires row { i < length marks.now }
     requires tiled { Tile 0 marks.now (length bytes.now) }
     ensures text { slice_get (cells_from bytes.now 0 marks.now) i ≡ Some (text_or_null (option_map (λ t. t.now) result)) }
-    ensures short { IfSome result (λ t. length t.now ≤ 65535) }
+    ensures short { IfSome result (λ t. length t.now ≤ MAX_TEXT_BYTES) }
 {
     let mark = marks[i];
     if mark % 2 == 1 {

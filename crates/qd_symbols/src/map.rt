@@ -3,7 +3,7 @@ ghost use Rattle.std.specs.Prelude.{◌≡◌, ◌<◌, ◌≤◌, ◌^◌, [], 
 ghost use Rattle.qd_base.specs.Dictionary.{id_in, id_for, with_text, AreDistinct};
 
 use indexmap::IndexSet;
-use qd_base::{Dictionary, Memory};
+use qd_base::{Dictionary, MAX_TEXT_BYTES, Memory};
 use std::alloc::Global;
 use std::marker::Model;
 
@@ -68,7 +68,7 @@ impl SymbolMap {
     /// others. Where no memory is found, nothing is changed. It costs time linear in the text, amortised and on
     /// average.
     pub fn intern(&mut self, text: &[u8]) -> Result<u64, Memory>
-        requires { length text.now ≤ 65535 }
+        requires { length text.now ≤ MAX_TEXT_BYTES }
         ensures id { IfOk result (λ id. id ≡ id_for self.old text.now) }
         ensures texts { OnOk result (self.new ≡ with_text self.old text.now) }
         ensures few { OnOk result (length self.new < 2 ^ 64) }

@@ -1,0 +1,10 @@
+//! Result rows over shared blocks: each row is known by its place, and its cells are read where they lie.
+#![tactic(auto)]
+
+mod runs;
+mod set;
+#[cfg(test)]
+mod tests;
+
+pub use runs::{Place, Run};
+pub use set::RowSet;

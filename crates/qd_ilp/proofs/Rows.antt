@@ -1,6 +1,6 @@
 -- Reading a line that gives a row.
 use Rattle.std.proofs.Common.{◌≡◌, ◌≢◌, ℕ, ◌+◌, ◌-◌, true, false, List, [], ◌∷◌, ◌++◌, length, length-append, take, drop, refl, sym, ap, subst, ◌∙◌, Option, Some, None, append_assoc, map, arith}
-use Rattle.std.specs.Prelude.{if◌then◌else◌, option_map}
+use Rattle.std.specs.Prelude.{if◌then◌else◌}
 use Rattle.std.specs.List.{AllByRecursion}
 use Rattle.std.proofs.lemmas.List.{drop_at, take_all, map-append}
 use Rattle.qd_ilp.specs.declared.stop.Stop.{Stop}
@@ -115,11 +115,11 @@ row_empty text table tags r goes empty = goes ∙ (rw empty refl)
 pub row_is : (t u : List ℕ) (is js : List Item) (m : Option Moment) → t ≡ u → is ≡ js → (let r : Row = record { table = t; items = is; moment = m } in r) ≡ record { table = u; items = js; moment = m }
 row_is t u is js m table items = ap (λ (x : List ℕ). let r : Row = record { table = x; items = is; moment = m } in r) table ∙ ap (λ (x : List Item). let r : Row = record { table = u; items = x; moment = m } in r) items
 
-pub row_done : (text table after bytes : List ℕ) (pairs : List Pair) (head : Head) (tags fields : List Item) → row_at text ≡ finished table tags (rest_of fields (option_map moment_in head.when) after) → is_empty (tags ++ fields) ≡ false
+pub row_done : (text table after bytes : List ℕ) (pairs : List Pair) (head : Head) (tags fields : List Item) → row_at text ≡ finished table tags (rest_of fields (moment_in head.when) after) → is_empty (tags ++ fields) ≡ false
     → bytes_in bytes head.table ≡ table → map (item_in bytes) (pairs_in pairs head) ≡ tags ++ fields → row_at text ≡ Some (row_in bytes pairs head, after)
 row_done text table after bytes pairs head tags fields goes some name items =
-    let one : finished table tags (rest_of fields (option_map moment_in head.when) after) ≡ Some (record { table = table; items = tags ++ fields; moment = option_map moment_in head.when }, after) = rw some refl in
-    goes ∙ one ∙ ap (λ (r : Row). let o : Option (Row × List ℕ) = Some (r, after) in o) (sym (row_is (bytes_in bytes head.table) table (map (item_in bytes) (pairs_in pairs head)) (tags ++ fields) (option_map moment_in head.when) name items))
+    let one : finished table tags (rest_of fields (moment_in head.when) after) ≡ Some (record { table = table; items = tags ++ fields; moment = moment_in head.when }, after) = rw some refl in
+    goes ∙ one ∙ ap (λ (r : Row). let o : Option (Row × List ℕ) = Some (r, after) in o) (sym (row_is (bytes_in bytes head.table) table (map (item_in bytes) (pairs_in pairs head)) (tags ++ fields) (moment_in head.when) name items))
 
 -- what is kept of a row lies within the buffers
 pub fits_head : (a b : List ℕ) (p q : List Pair) (is : List Item) (head : Head) → PutsItems a b p q is → SpanFits (length b) head.table → head.first ≡ length p → head.end ≡ length q → HeadFits b q head

@@ -1,36 +1,41 @@
 //! A batch of lines.
-ghost use Rattle.std.specs.Prelude.{◌≡◌, IfOk};
+ghost use Rattle.std.specs.Prelude.{◌≡◌, ◌<◌, ◌^◌, IfOk};
 ghost use Rattle.std.specs.List.{list_any};
-ghost use Rattle.qd_ilp.specs.Whole.{IsReading, lacks_time, is_timeless_kept};
+ghost use Rattle.qd_ilp.specs.Whole.{Adds, IsReading, lacks_time, is_timeless_kept};
 
 use crate::item::Pair;
-use crate::row::{Head, KeptLine, push_next};
+use crate::row::{KeptLine, KeptRow, push_next};
 use crate::stop::Stop;
+use crate::value::{When, place};
 use qd_base::Memory;
 use std::alloc::{AllocError, Global};
 use std::marker::Model;
 
 /// The lines of a text, up to its end or up to the first that is outside the grammar. Contracts see that list.
 ///
-/// It is kept as three flat vectors and one buffer of the bytes that names and texts stand for.
+/// It is kept as the rows alone, each with the number of lines before it that give none, as flat vectors: 40 bytes for a
+/// row, 24 for each of its tags and fields, and the bytes that names and texts stand for. Lines that give no row take
+/// nothing.
 #[derive(Debug, Drop)]
 pub struct Batch {
     bytes: Vec<u8>,
     pairs: Vec<Pair>,
-    lines: Vec<KeptLine>,
+    rows: Vec<KeptRow>,
+    /// How many lines stand behind the last row.
+    behind: usize,
+    /// The number of the line behind the last one, counted from 1.
+    next: u64,
     whole: bool,
 }
 
 impl Model for Batch {
-    ghost use Rattle.std.specs.Prelude.{map};
-    ghost use Rattle.std.specs.List.{AllByRecursion};
-    ghost use Rattle.qd_ilp.specs.Whole.{Reading, line_in, LineFits};
+    ghost use Rattle.qd_ilp.specs.Whole.{Reading, BatchFits, lines_in};
 
     ghost Value = { Reading };
 
-    ghost view = { λ b. record { lines = map (line_in b.bytes.items b.pairs.items) b.lines.items; whole = b.whole } };
+    ghost view = { λ b. record { lines = lines_in b.bytes.items b.pairs.items b.rows.items b.behind; whole = b.whole } };
 
-    ghost invariant = { λ b. AllByRecursion (LineFits b.bytes.items b.pairs.items) b.lines.items };
+    ghost invariant = { λ b. BatchFits b.bytes.items b.pairs.items b.rows.items b.behind b.next };
 }
 
 impl Batch {
@@ -41,16 +46,16 @@ impl Batch {
     pub fn faulty_line(&self) -> Option<u64>
         ensures line { result ≡ faulty_line self.now }
     {
-        if self.whole {
-            None
-        } else {
-            Some(self.lines.len() as u64 + 1)
-        }
+        if self.whole { None } else { Some(self.next) }
     }
 }
 
-/// Reads a batch of lines of InfluxDB's line protocol, in one pass and in time linear in its bytes. It takes memory for
-/// the bytes that names and texts stand for, and for each line, tag and field.
+/// Reads a batch of lines of InfluxDB's line protocol, in one pass and in time linear in its bytes.
+///
+/// It takes memory for the bytes that names and texts stand for, 40 bytes for each line that gives a row and 24 for each
+/// tag and field, and for none else, whatever the text says: at most three times as much while a vector grows. Want of
+/// memory is also answered where names and texts have 2^32 bytes or more, or the batch as many tags and fields, or lines
+/// without a row one after another.
 ///
 /// Lines are numbered from 1, and end at LF, at CR and LF, or at the end of the text. Reading ends before the first line
 /// that is outside the grammar.
@@ -59,20 +64,25 @@ pub fn parse_batch(alloc: Global, text: &[u8]) -> Result<Batch, Memory>
 {
     let mut bytes = Vec::with_capacity(alloc, text.len())?;
     let mut pairs = Vec::new(alloc);
-    let mut lines = Vec::new(alloc);
+    let mut rows = Vec::new(alloc);
+    let mut behind = 0;
+    let mut next = 1;
     let mut rest = text;
     while !rest.is_empty() {
         match push_next(&mut bytes, &mut pairs, rest) {
-            Ok((line, behind)) => {
-                lines.push(line)?;
-                rest = behind;
+            Ok((line, after)) => {
+                behind = push_line(&mut rows, behind, line)?;
+                next += 1;
+                rest = after;
             }
             Err(Stop::Memory) => return Err(AllocError),
             Err(Stop::Syntax) => {
                 return Ok(Batch {
                     bytes,
                     pairs,
-                    lines,
+                    rows,
+                    behind,
+                    next,
                     whole: false,
                 });
             }
@@ -81,34 +91,51 @@ pub fn parse_batch(alloc: Global, text: &[u8]) -> Result<Batch, Memory>
     Ok(Batch {
         bytes,
         pairs,
-        lines,
+        rows,
+        behind,
+        next,
         whole: true,
     })
 }
 
+/// Adds a line to the rows, behind which so many lines stand that give none, and gives how many stand there then.
+fn push_line(rows: &mut Vec<KeptRow>, behind: usize, line: KeptLine) -> Result<usize, Memory>
+    requires few { behind < 2 ^ 63 }
+    ensures added { IfOk result (λ after. Adds rows.old.items behind line rows.new.items after) }
+{
+    match line {
+        KeptLine::Blank => Ok(behind + 1),
+        KeptLine::Row(head) => {
+            let blanks = place(behind)?;
+            rows.push(KeptRow { blanks, head })?;
+            Ok(0)
+        }
+    }
+}
+
 /// Says whether a batch needs the time of a clock: whether it has no line outside the grammar, and one that gives a row
-/// and has no stamp. It costs time linear in the number of lines.
+/// and has no stamp. It costs time linear in the number of rows.
 pub fn lacks_time(batch: &Batch) -> bool
     ensures lacks { result ≡ lacks_time batch.now }
 {
-    batch.whole && has_timeless(&batch.lines)
+    batch.whole && has_timeless(&batch.rows)
 }
 
-/// Whether a line gives a row and has no stamp.
-fn is_timeless(line: KeptLine) -> bool
-    ensures timeless { result ≡ is_timeless_kept line }
+/// Whether a row has no stamp.
+fn is_timeless(row: KeptRow) -> bool
+    ensures timeless { result ≡ is_timeless_kept row }
 {
-    match line {
-        KeptLine::Row(Head { when: None, .. }) => true,
+    match row.head.when {
+        When::Missing => true,
         _ => false,
     }
 }
 
-fn has_timeless(lines: &[KeptLine]) -> bool
-    ensures any { result ≡ list_any is_timeless_kept lines.now }
+fn has_timeless(rows: &[KeptRow]) -> bool
+    ensures any { result ≡ list_any is_timeless_kept rows.now }
 {
-    for line in lines {
-        if is_timeless(*line) {
+    for row in rows {
+        if is_timeless(*row) {
             return true;
         }
     }

@@ -6,7 +6,7 @@ ghost use Rattle.qd_ilp.specs.Kept.{Puts, ValueFits, PairFits, PutsItems, value_
 
 use crate::cut::{after, push_closed, push_cut, split_word};
 use crate::stop::Stop;
-use crate::value::{Kept, Span, bare};
+use crate::value::{Kept, Span, bare, place};
 use qd_base::Memory;
 
 /// A tag or a field, as a batch keeps it.
@@ -25,9 +25,9 @@ pub(crate) fn push_name<'a>(bytes: &mut Vec<u8>, text: &'a [u8]) -> Result<(Span
     ensures shorter { IfOk result (λ x. x.0.end + length x.1.now ≤ x.0.start + length text.now) }
     ensures grows { Grows bytes.old.items bytes.new.items }
 {
-    let start = bytes.len();
+    let start = place(bytes.len())?;
     let rest = push_cut(bytes, text)?;
-    let end = bytes.len();
+    let end = place(bytes.len())?;
     Ok((Span { start, end }, rest))
 }
 
@@ -38,9 +38,9 @@ fn push_text<'a>(bytes: &mut Vec<u8>, text: &'a [u8]) -> Result<(Span, &'a [u8])
     ensures shorter { IfOk result (λ x. length x.1.now ≤ length text.now) }
     ensures grows { Grows bytes.old.items bytes.new.items }
 {
-    let start = bytes.len();
+    let start = place(bytes.len())?;
     let rest = push_closed(bytes, text)?;
-    let end = bytes.len();
+    let end = place(bytes.len())?;
     Ok((Span { start, end }, rest))
 }
 

@@ -1,5 +1,5 @@
 //! One line.
-ghost use Rattle.std.specs.Prelude.{◌≡◌, ◌≤◌, ◌+◌, ◌<◌, List, length, None, Some, IfOk, IfErr, option_map};
+ghost use Rattle.std.specs.Prelude.{◌≡◌, ◌≤◌, ◌+◌, ◌<◌, List, length, None, Some, IfOk, IfErr};
 ghost use Rattle.std.specs.Str.{is_utf8};
 ghost use Rattle.qd_ilp.specs.Cut.{Fails, Gives, Grows};
 ghost use Rattle.qd_ilp.specs.Line.{Item, tags_at, fields_at, rest_at, row_at, line_at, read_line};
@@ -10,7 +10,7 @@ use crate::cut::{after, at_end, begins_with};
 use crate::item::{Pair, push_items, push_name};
 use crate::stop::Stop;
 use crate::tail::{Tail, after_spaces, behind_end, tail_at, to_end};
-use crate::value::{Span, When};
+use crate::value::{Span, When, place};
 
 /// A line that gives a row, as a batch keeps it.
 #[derive(Clone, Copy, Debug)]
@@ -18,14 +18,23 @@ pub(crate) struct Head {
     /// The name of the table.
     pub(crate) table: Span,
     /// The place of its first tag or field in the batch.
-    pub(crate) first: usize,
+    pub(crate) first: u32,
     /// The place behind its last one.
-    pub(crate) end: usize,
-    /// Its stamp, where it has one.
-    pub(crate) when: Option<When>,
+    pub(crate) end: u32,
+    /// Its stamp, or that it has none.
+    pub(crate) when: When,
 }
 
-/// A line, as a batch keeps it.
+/// A row with the lines before it that give none, as a batch keeps them.
+#[derive(Clone, Copy, Debug)]
+pub(crate) struct KeptRow {
+    /// How many lines stand between the row before and this one.
+    pub(crate) blanks: u32,
+    /// The row's own line.
+    pub(crate) head: Head,
+}
+
+/// A line, as it is read.
 #[derive(Clone, Copy, Debug)]
 pub(crate) enum KeptLine {
     /// A line that gives no row.
@@ -61,7 +70,7 @@ fn push_fields<'a>(
     text: &'a [u8],
 ) -> Result<Tail<'a>, Stop>
     ensures fields { IfOk result (λ tail. (fields : List Item)
-        × (fields_at text.now ≡ Some (record { fields = fields; moment = option_map moment_in tail.when; after = tail.rest.now }))
+        × (fields_at text.now ≡ Some (record { fields = fields; moment = moment_in tail.when; after = tail.rest.now }))
         × PutsItems bytes.old.items bytes.new.items pairs.old.items pairs.new.items fields) }
     ensures fault { IfErr result (λ e. Fails e (fields_at text.now)) }
     ensures grows { Grows bytes.old.items bytes.new.items }
@@ -86,7 +95,7 @@ fn push_rest<'a>(
     text: &'a [u8],
 ) -> Result<Tail<'a>, Stop>
     ensures rest { IfOk result (λ tail. (fields : List Item)
-        × (rest_at text.now ≡ Some (record { fields = fields; moment = option_map moment_in tail.when; after = tail.rest.now }))
+        × (rest_at text.now ≡ Some (record { fields = fields; moment = moment_in tail.when; after = tail.rest.now }))
         × PutsItems bytes.old.items bytes.new.items pairs.old.items pairs.new.items fields) }
     ensures fault { IfErr result (λ e. Fails e (rest_at text.now)) }
     ensures grows { Grows bytes.old.items bytes.new.items }
@@ -116,10 +125,10 @@ fn push_row<'a>(
     if table.start == table.end {
         return Err(Stop::Syntax);
     }
-    let first = pairs.len();
+    let first = place(pairs.len())?;
     let rest = push_tags(bytes, pairs, rest)?;
     let tail = push_rest(bytes, pairs, rest)?;
-    let end = pairs.len();
+    let end = place(pairs.len())?;
     if first == end {
         return Err(Stop::Syntax);
     }

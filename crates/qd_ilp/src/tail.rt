@@ -10,8 +10,8 @@ use crate::value::{When, stamp};
 /// What stands behind the tags and fields of a line.
 #[derive(Clone, Copy, Debug)]
 pub(crate) struct Tail<'a> {
-    /// The stamp, where there is one.
-    pub(crate) when: Option<When>,
+    /// The stamp, or that there is none.
+    pub(crate) when: When,
     /// The text behind the line's end.
     pub(crate) rest: &'a [u8],
 }
@@ -56,7 +56,7 @@ fn begins_numeral(text: &[u8]) -> bool
 /// Reads a stamp, spaces and the end of a line.
 #[tactic(auto, unfolding(crate::specs::Line::stamp_at), using(crate::proofs::Numerals::no_stamp_here))]
 fn stamp_at(text: &[u8]) -> Option<Tail<'_>>
-    ensures tail { option_map (λ tail. (option_map moment_in tail.when, tail.rest.now)) result ≡ stamp_at text.now }
+    ensures tail { option_map (λ tail. (moment_in tail.when, tail.rest.now)) result ≡ stamp_at text.now }
     ensures shorter { IfSome result (λ tail. length tail.rest.now ≤ length text.now) }
 {
     if !begins_numeral(text) {
@@ -65,22 +65,22 @@ fn stamp_at(text: &[u8]) -> Option<Tail<'_>>
     let (word, rest) = split_word(text);
     let when = stamp(word)?;
     let rest = behind_end(after_spaces(rest))?;
-    Some(Tail {
-        when: Some(when),
-        rest,
-    })
+    Some(Tail { when, rest })
 }
 
 /// Reads spaces and a stamp, or neither, and the end of a line.
 #[tactic(auto, unfolding(crate::specs::Line::tail_at))]
 pub(crate) fn tail_at(text: &[u8]) -> Option<Tail<'_>>
-    ensures tail { option_map (λ tail. (option_map moment_in tail.when, tail.rest.now)) result ≡ tail_at text.now }
+    ensures tail { option_map (λ tail. (moment_in tail.when, tail.rest.now)) result ≡ tail_at text.now }
     ensures shorter { IfSome result (λ tail. length tail.rest.now ≤ length text.now) }
 {
     let rest = after_spaces(text);
     if at_end(rest) {
         let rest = behind_end(rest)?;
-        return Some(Tail { when: None, rest });
+        return Some(Tail {
+            when: When::Missing,
+            rest,
+        });
     }
     if begins_with(text, b' ') {
         stamp_at(rest)

@@ -5,7 +5,7 @@ use std::test::Fail;
 
 #[test]
 fn lines_are_read(rt: HostRuntime) -> Result<(), Fail> {
-    let cases: [(&[u8], Option<u64>, bool); 48] = [
+    let cases: [(&[u8], Option<u64>, bool); 50] = [
         (b"", None, false),
         (b"\n", None, false),
         (b"  \n\r\n# c\n", None, false),
@@ -54,6 +54,8 @@ fn lines_are_read(rt: HostRuntime) -> Result<(), Fail> {
         (b"t v=\"\xc3\xa4\" 1", None, false),
         (b"t v=1i 1\nt v=1i\nt v\nt v=1i 1", Some(3), false),
         (b"\0=", Some(1), false),
+        (b"\n# c\n  \r\nt v=1i\n\nt,", Some(6), false),
+        (b"\n# c\n  \r\nt v=1i 1\n\nt,a=b\n#", None, true),
     ];
     for (text, line, lacks) in cases {
         let batch = parse_batch(rt.alloc(), text)?;

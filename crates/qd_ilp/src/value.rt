@@ -1,5 +1,5 @@
 //! What the value of a field says, and what a stamp does.
-ghost use Rattle.std.specs.Prelude.{◌≡◌, ℕ, ◌+◌, ◌-◌, ◌*◌, ◌/◌, ◌<◌, ◌≤◌, true, false, List, fold, nat_lt, if◌then◌else◌, MatchOption, min};
+ghost use Rattle.std.specs.Prelude.{◌≡◌, ℕ, ◌+◌, ◌-◌, ◌*◌, ◌/◌, ◌<◌, ◌≤◌, true, false, List, fold, nat_lt, if◌then◌else◌, MatchOption, min, IfOk, Some};
 ghost use Rattle.std.specs.List.{list_all};
 ghost use Rattle.std.specs.Str.{bytes_eq};
 ghost use Rattle.qd_ilp.specs.Cut.{begins};
@@ -7,13 +7,24 @@ ghost use Rattle.qd_ilp.specs.Value.{is_true, is_false, is_digit, are_digits, nu
 ghost use Rattle.qd_ilp.specs.Kept.{value_in, moment_in, ValueFits};
 
 use crate::cut::{begins_with, behind};
-use qd_base::MAX_TIME;
+use qd_base::{MAX_TIME, Memory};
+use std::alloc::AllocError;
 
-/// Where a text lies in a batch's buffer.
+/// Where a text lies in a batch's buffer, which has fewer than 2^32 bytes.
 #[derive(Clone, Copy, Debug)]
 pub(crate) struct Span {
-    pub(crate) start: usize,
-    pub(crate) end: usize,
+    pub(crate) start: u32,
+    pub(crate) end: u32,
+}
+
+/// A place in a buffer of a batch, where it is one below 2^32; else memory is said to be out.
+pub(crate) fn place(index: usize) -> Result<u32, Memory>
+    ensures place { IfOk result (λ p. p ≡ index) }
+{
+    match u32::try_from(index) {
+        Ok(place) => Ok(place),
+        Err(_) => Err(AllocError),
+    }
 }
 
 /// What a batch keeps of a value.
@@ -33,9 +44,11 @@ pub(crate) enum Kept {
     Other,
 }
 
-/// What a batch keeps of a stamp.
+/// What a batch keeps of a row's stamp.
 #[derive(Clone, Copy, Debug)]
 pub(crate) enum When {
+    /// It has none.
+    Missing,
     /// Microseconds since 1970-01-01T00:00Z, at most `MAX_TIME`.
     At(u64),
     /// A moment out of range.
@@ -171,7 +184,7 @@ fn long(negative: bool, number: u64) -> Kept
 /// Gives the moment of a stamp, where the word is one. It costs time linear in the word.
 #[tactic(auto, unfolding(crate::specs::Value::stamp))]
 pub(crate) fn stamp(word: &[u8]) -> Option<When>
-    ensures stamp { MatchOption result (is_stamp word.now ≡ false) (λ when. (is_stamp word.now ≡ true) × (moment_in when ≡ stamp word.now)) }
+    ensures stamp { MatchOption result (is_stamp word.now ≡ false) (λ when. (is_stamp word.now ≡ true) × (moment_in when ≡ Some (stamp word.now))) }
 {
     let digits = unsigned(word);
     if !are_digits(digits) {
@@ -195,7 +208,7 @@ fn micros(nanos: &[u8]) -> u64
 }
 
 fn moment(micros: u64) -> When
-    ensures moment { moment_in result ≡ moment_of false (1000 * micros) }
+    ensures moment { moment_in result ≡ Some (moment_of false (1000 * micros)) }
 {
     if micros <= MAX_TIME {
         When::At(micros)

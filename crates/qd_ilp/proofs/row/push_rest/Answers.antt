@@ -1,5 +1,5 @@
 use Rattle.std.proofs.Common.{◌≡◌, [], List, Option, Some, subst, sym}
-use Rattle.std.specs.Prelude.{IfOk, IfErr, option_map}
+use Rattle.std.specs.Prelude.{IfOk, IfErr}
 use Rattle.qd_ilp.specs.Cut.{Fails}
 use Rattle.qd_ilp.specs.Line.{Item, Rest}
 use Rattle.qd_ilp.specs.Kept.{PutsItems, moment_in}
@@ -12,7 +12,7 @@ returns-in-Some-clause-rest c = ([], rest_tail c.args.text.now _ _ c.in-Some.ens
 
 pub returns-in-None-clause-rest : goal.returns-in-None-clause-rest
 returns-in-None-clause-rest c =
-    let P : Option Rest → Type 0 = λ o. IfOk c.push_fields.result (λ tail. (fields : List Item) × (o ≡ Some (rest_of fields (option_map moment_in tail.when) tail.rest.now)) × PutsItems c.args.bytes.now.items c.push_fields.new.bytes.items c.args.pairs.now.items c.push_fields.new.pairs.items fields) in
+    let P : Option Rest → Type 0 = λ o. IfOk c.push_fields.result (λ tail. (fields : List Item) × (o ≡ Some (rest_of fields (moment_in tail.when) tail.rest.now)) × PutsItems c.args.bytes.now.items c.push_fields.new.bytes.items c.args.pairs.now.items c.push_fields.new.pairs.items fields) in
     subst P (sym (rest_fields c.args.text.now (sym c.in-None.ensures.tail))) c.push_fields.ensures.fields
 
 pub returns-in-None-clause-fault : goal.returns-in-None-clause-fault

@@ -25,8 +25,8 @@ returns-in_err-tail-clause-row c =
 
 pub returns-then-first-end-clause-row : goal.returns-then-first-end-clause-row
 returns-then-first-end-clause-row c =
-    let first : length c.args.pairs.now.items ≡ c.len-first.result = omega (arith, c.len-first.ensures, c.args.pairs.now.ok) in
-    let end : length c.push_rest.new.pairs.items ≡ c.len-end.result = omega (arith, c.len-end.ensures, c.push_rest.new.pairs.ok) in
+    let first : length c.args.pairs.now.items ≡ c.in_ok-first.first = omega (arith, c.in_ok-first.ensures.place, c.len.ensures, c.args.pairs.now.ok) in
+    let end : length c.push_rest.new.pairs.items ≡ c.in_ok-end.end = omega (arith, c.in_ok-end.ensures.place, c.len-2.ensures, c.push_rest.new.pairs.ok) in
     let goes = row_named c.args.text.now c.args.bytes.now.items c.push_name.new.bytes.items c.in_ok-table.rest.now c.in_ok-table.table c.in_ok-table.ensures.name c.in_ok-table.ensures.rest c.if-table.false in
     let tags = c.in_ok-rest.ensures.tags in
     let rest = c.in_ok-tail.ensures.rest in
@@ -38,8 +38,8 @@ returns-then-first-end-clause-row c =
 
 pub returns-clause-row : goal.returns-clause-row
 returns-clause-row c =
-    let first : length c.args.pairs.now.items ≡ c.len-first.result = omega (arith, c.len-first.ensures, c.args.pairs.now.ok) in
-    let end : length c.push_rest.new.pairs.items ≡ c.len-end.result = omega (arith, c.len-end.ensures, c.push_rest.new.pairs.ok) in
+    let first : length c.args.pairs.now.items ≡ c.in_ok-first.first = omega (arith, c.in_ok-first.ensures.place, c.len.ensures, c.args.pairs.now.ok) in
+    let end : length c.push_rest.new.pairs.items ≡ c.in_ok-end.end = omega (arith, c.in_ok-end.ensures.place, c.len-2.ensures, c.push_rest.new.pairs.ok) in
     let goes = row_named c.args.text.now c.args.bytes.now.items c.push_name.new.bytes.items c.in_ok-table.rest.now c.in_ok-table.table c.in_ok-table.ensures.name c.in_ok-table.ensures.rest c.if-table.false in
     let tags = c.in_ok-rest.ensures.tags in
     let rest = c.in_ok-tail.ensures.rest in
@@ -47,15 +47,15 @@ returns-clause-row c =
     let finished = row_finished c.args.text.now _ c.in_ok-rest.rest.now tags.0 (rest_of rest.0 _ _) tagged rest.1 in
     let puts = puts_twice _ _ _ _ _ _ tags.0 rest.0 tags.2 rest.2 in
     let differ : length c.args.pairs.now.items ≢ length c.push_rest.new.pairs.items = λ same. c.if-first-end.false (sym first ∙ same ∙ end) in
-    let head : Head = record { table = c.in_ok-table.table; first = c.len-first.result; end = c.len-end.result; when = c.in_ok-tail.tail.when } in
+    let head : Head = record { table = c.in_ok-table.table; first = c.in_ok-first.first; end = c.in_ok-end.end; when = c.in_ok-tail.tail.when } in
     let grows = grows_twice _ _ _ c.in_ok-rest.ensures.grows c.in_ok-tail.ensures.grows in
     let name = (grow_span c.push_name.new.bytes.items c.push_rest.new.bytes.items c.in_ok-table.table grows (puts_fits _ _ _ c.in_ok-table.table c.in_ok-table.ensures.name)).0 ∙ puts_in _ _ _ c.in_ok-table.table c.in_ok-table.ensures.name in
     row_done c.args.text.now _ _ c.push_rest.new.bytes.items c.push_rest.new.pairs.items head tags.0 rest.0 finished ((nothing_put _ _ _ _ _ puts).1 differ) name (items_put _ _ _ _ _ head puts (sym first) (sym end))
 
 pub returns-clause-fits : goal.returns-clause-fits
 returns-clause-fits c =
-    let first : length c.args.pairs.now.items ≡ c.len-first.result = omega (arith, c.len-first.ensures, c.args.pairs.now.ok) in
-    let end : length c.push_rest.new.pairs.items ≡ c.len-end.result = omega (arith, c.len-end.ensures, c.push_rest.new.pairs.ok) in
+    let first : length c.args.pairs.now.items ≡ c.in_ok-first.first = omega (arith, c.in_ok-first.ensures.place, c.len.ensures, c.args.pairs.now.ok) in
+    let end : length c.push_rest.new.pairs.items ≡ c.in_ok-end.end = omega (arith, c.in_ok-end.ensures.place, c.len-2.ensures, c.push_rest.new.pairs.ok) in
     let tags = c.in_ok-rest.ensures.tags in
     let rest = c.in_ok-tail.ensures.rest in
     let puts = puts_twice _ _ _ _ _ _ tags.0 rest.0 tags.2 rest.2 in

@@ -1,4 +1,5 @@
 pub mod Growing
+pub mod Places
 pub mod Cuts
 pub mod Numbers
 pub mod Numerals

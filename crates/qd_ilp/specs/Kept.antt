@@ -37,11 +37,11 @@ moment_in when.Missing = None
 moment_in (when.At micros) = Some (At micros)
 moment_in when.Outside = Some Outside
 
--- a text was put at the end, and lies in this span
+-- the buffer has grown, or is the same, and a text lies in this span of it
 pub record Puts (before now : List ℕ) (span : Span) (text : List ℕ) : Type 0 where
-  pub whole : now ≡ before ++ text
-  pub start : span.start ≡ length before
-  pub finish : span.end ≡ length now
+  pub grows : Grows before now
+  pub is : bytes_in now span ≡ text
+  pub fits : SpanFits (length now) span
 
 abbrev pub item_in : List ℕ → Pair → Item
 item_in bytes pair = record { name = bytes_in bytes pair.name; value = value_in bytes pair.value }

@@ -11,6 +11,9 @@ use qd_base::Memory;
 use std::alloc::{AllocError, Global};
 use std::marker::Model;
 
+/// The most bytes of a text that is read: places in it have 32 bits.
+const LONGEST: usize = 4_294_967_295;
+
 /// The lines of a text, up to its end or up to the first that is outside the grammar. Contracts see that list.
 ///
 /// It is kept as the rows alone, each with the number of lines before it that give none, as flat vectors: 40 bytes for a
@@ -24,7 +27,7 @@ pub struct Batch {
     /// How many lines stand behind the last row.
     behind: usize,
     /// The number of the line behind the last one, counted from 1.
-    next: u64,
+    number: u64,
     whole: bool,
 }
 
@@ -35,7 +38,7 @@ impl Model for Batch {
 
     ghost view = { λ b. record { lines = lines_in b.bytes.items b.pairs.items b.rows.items b.behind; whole = b.whole } };
 
-    ghost invariant = { λ b. BatchFits b.bytes.items b.pairs.items b.rows.items b.behind b.next };
+    ghost invariant = { λ b. BatchFits b.bytes.items b.pairs.items b.rows.items b.behind b.number };
 }
 
 impl Batch {
@@ -46,7 +49,7 @@ impl Batch {
     pub fn faulty_line(&self) -> Option<u64>
         ensures line { result ≡ faulty_line self.now }
     {
-        if self.whole { None } else { Some(self.next) }
+        if self.whole { None } else { Some(self.number) }
     }
 }
 
@@ -62,18 +65,21 @@ impl Batch {
 pub fn parse_batch(alloc: Global, text: &[u8]) -> Result<Batch, Memory>
     ensures reading { IfOk result (λ batch. IsReading text.now batch) }
 {
-    let mut bytes = Vec::with_capacity(alloc, text.len())?;
+    if text.len() > LONGEST {
+        return Err(AllocError);
+    }
+    let mut bytes = Vec::from_slice(alloc, text)?;
     let mut pairs = Vec::new(alloc);
     let mut rows = Vec::new(alloc);
     let mut behind = 0;
-    let mut next = 1;
-    let mut rest = text;
-    while !rest.is_empty() {
-        match push_next(&mut bytes, &mut pairs, rest) {
-            Ok((line, after)) => {
+    let mut number = 1;
+    let mut at = 0;
+    while at < text.len() {
+        match push_next(&mut bytes, &mut pairs, text, at) {
+            Ok((line, next)) => {
                 behind = push_line(&mut rows, behind, line)?;
-                next += 1;
-                rest = after;
+                number += 1;
+                at = next;
             }
             Err(Stop::Memory) => return Err(AllocError),
             Err(Stop::Syntax) => {
@@ -82,7 +88,7 @@ pub fn parse_batch(alloc: Global, text: &[u8]) -> Result<Batch, Memory>
                     pairs,
                     rows,
                     behind,
-                    next,
+                    number,
                     whole: false,
                 });
             }
@@ -93,7 +99,7 @@ pub fn parse_batch(alloc: Global, text: &[u8]) -> Result<Batch, Memory>
         pairs,
         rows,
         behind,
-        next,
+        number,
         whole: true,
     })
 }

@@ -2,6 +2,7 @@
 ghost use Rattle.std.specs.Prelude.{◌≡◌, ℕ, List, ◌||◌, ◌+◌, ◌≤◌, ◌&&◌, ◌==◌, ◌++◌, [], ◌∷◌, ◌-◌, ◌<◌, not, false, take, drop, length, IfOk, OnOk, OnErr, true, if◌then◌else◌};
 ghost use Rattle.qd_ilp.specs.Cut.{at_end, begins, is_special, is_quoted_special, is_plain, stops, ends_word, escapes, cut, fronted, word, closed, closed_behind, Gives, Grows};
 
+use crate::lanes::{inner_run, plain_run, unquoted_run};
 use crate::stop::Stop;
 use qd_base::Memory;
 
@@ -63,12 +64,13 @@ pub(crate) fn plain_end(text: &[u8], at: usize) -> usize
 }
 
 /// How many bytes stand for themselves, before the first that may end a name or be a backslash.
+#[tactic(auto, using(crate::proofs::Runs::cut_run))]
 fn plain_bytes(text: &[u8]) -> usize
     ensures within { result ≤ length text.now }
     ensures cut { cut false text.now ≡ fronted (take result text.now) (cut false (drop result text.now)) }
 {
-    for (i, byte) in text.iter().enumerate() {
-        if !is_plain(*byte) {
+    for i in plain_run(text)..text.len() {
+        if !is_plain(text[i]) {
             return i;
         }
     }
@@ -171,11 +173,12 @@ pub(crate) fn split_word(text: &[u8], at: usize) -> (&[u8], usize)
 }
 
 /// Cuts a value that is no text: its bytes, and the text from its end on.
+#[tactic(auto, using(crate::proofs::Runs::word_run))]
 fn first_word(text: &[u8]) -> (&[u8], &[u8])
     ensures word { word text.now ≡ (result.0.now, result.1.now) }
     ensures shorter { length result.0.now + length result.1.now ≡ length text.now }
 {
-    for i in 0..text.len() {
+    for i in inner_run(text)..text.len() {
         if ends_word(behind(text, i)) {
             return text.split_at(i);
         }
@@ -219,13 +222,14 @@ pub(crate) fn unquoted_end(text: &[u8], at: usize) -> usize
 }
 
 /// How many bytes of a quoted text stand for themselves, before the first quote or backslash.
+#[tactic(auto, using(crate::proofs::Runs::closed_run))]
 fn unquoted_bytes(text: &[u8]) -> usize
     ensures within { result ≤ length text.now }
     ensures closed { (front : List ℕ) → closed_behind front false text.now
         ≡ closed_behind (front ++ take result text.now) false (drop result text.now) }
 {
-    for (i, byte) in text.iter().enumerate() {
-        if is_quote_or_backslash(*byte) {
+    for i in unquoted_run(text)..text.len() {
+        if is_quote_or_backslash(text[i]) {
             return i;
         }
     }

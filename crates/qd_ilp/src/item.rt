@@ -23,6 +23,7 @@ pub(crate) struct Pair {
 /// Finds a name or a tag's value from a place on, and gives where its bytes lie in the buffer, and its end. They lie in
 /// the text itself, with which the buffer begins, unless a backslash or a CR stands in them.
 #[tactic(auto, using(crate::proofs::Growing::grows_not))]
+#[inline]
 pub(crate) fn push_name(
     bytes: &mut Vec<u8>,
     text: &[u8],
@@ -53,6 +54,7 @@ pub(crate) fn push_name(
 
 /// Puts the bytes that a name stands for at the end of the buffer, and gives their place and the text behind it.
 #[tactic(auto, using(crate::proofs::Kepts::put_behind, crate::proofs::Growing::grows_not))]
+#[cold]
 fn push_unescaped<'a>(bytes: &mut Vec<u8>, text: &'a [u8]) -> Result<(Span, &'a [u8]), Memory>
     ensures name { IfOk result (λ x. Puts bytes.old.items bytes.new.items x.0 (cut false text.now).0) }
     ensures rest { IfOk result (λ x. x.1.now ≡ (cut false text.now).1) }
@@ -95,6 +97,7 @@ fn push_text(bytes: &mut Vec<u8>, text: &[u8], at: usize) -> Result<(Span, usize
 
 /// Puts the bytes that a quoted text stands for at the end of the buffer, and gives their place and the text behind it.
 #[tactic(auto, using(crate::proofs::Kepts::put_behind, crate::proofs::Growing::grows_not))]
+#[cold]
 fn push_unquoted<'a>(bytes: &mut Vec<u8>, text: &'a [u8]) -> Result<(Span, &'a [u8]), Stop>
     ensures text { IfOk result (λ x. (t : List ℕ) × (closed false text.now ≡ Some (t, x.1.now)) × Puts bytes.old.items bytes.new.items x.0 t) }
     ensures fault { IfErr result (λ e. Fails e (closed false text.now)) }

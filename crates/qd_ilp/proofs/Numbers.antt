@@ -124,6 +124,6 @@ pub micros_are : (ds front last : List ℕ) (n : ℕ) → 3 ≤ length ds → fr
 micros_are ds front last n long left right first rest is =
     let k = length ds - 3 in
     let all : list_all is_digit ds ≡ true =
-        all_split k ds ∙ ap (λ (b : Bool). b && list_all is_digit (drop k ds)) (ap (list_all is_digit) (sym left) ∙ first) ∙ (ap (list_all is_digit) (sym right) ∙ rest)
+    all_split k ds ∙ ap (λ (b : Bool). b && list_all is_digit (drop k ds)) (ap (list_all is_digit) (sym left) ∙ first) ∙ (ap (list_all is_digit) (sym right) ∙ rest)
     in
     (some_digits ds (omega (arith, long)) ∙ all, is ∙ ap (λ (l : List ℕ). min CAP (number_of l)) left ∙ ap (λ (m : ℕ). min CAP m) (sym (thousandth ds long all)))

@@ -1,10 +1,10 @@
 -- From the lanes of one load to the bytes that pass a test, and from these to where a cut goes on.
-use Rattle.std.proofs.Common.{◌≡◌, ℕ, zero, suc, ◌+◌, ◌%◌, ◌^◌, ◌<◌, ◌≤◌, Bool, true, false, List, [], ◌∷◌, ◌++◌, map, length, get_or, replicate, take, drop, Fits, w8, refl, sym, ap, ◌∙◌, append_assoc, arith}
+use Rattle.std.proofs.Common.{◌≡◌, ℕ, zero, suc, ◌+◌, ◌%◌, ◌^◌, ◌<◌, ◌≤◌, Bool, true, false, List, [], ◌∷◌, ◌++◌, map, length, get_or, length-drop, replicate, take, drop, Fits, w8, ◌-◌, inl, inr, refl, sym, ap, ◌∙◌, append_assoc, arith}
 use Rattle.std.specs.Prelude.{not, ◌||◌, ◌==◌}
 use Rattle.std.specs.List.{prefix_len}
-use Rattle.std.proofs.lemmas.Bool.{agree_below, agree_below_at, not-true}
+use Rattle.std.proofs.lemmas.Bool.{agree_below, agree_below_at, not-true, cases_lt}
 use Rattle.std.proofs.lemmas.Simd.{map-map, mask_l-mod, length-chunk, get_or-chunk, first_set_mask_l, zip2_splat, zip2-map}
-use Rattle.std.proofs.lemmas.List.{length-map, append-nil}
+use Rattle.std.proofs.lemmas.List.{length-map, append-nil, get_or-drop}
 use Rattle.std.proofs.lemmas.List.Sums.{prefix_len-le-length, prefix_len_passes}
 use lib.Lanes.{chunk, zip2, mask_l, top}
 use Rattle.qd_ilp.specs.Cut.{is_plain, is_inner, is_unquoted, fronted, cut, word, closed_behind}
@@ -62,3 +62,22 @@ closed_run (suc n) text front all =
     let w = all.within in
     let one : suc n ≡ n + 1 = omega arith in
     closed_run n text front (fewer is_unquoted text n all) ∙ unquoted_more n text front (omega (arith, w)) (not-true _ (all.pass n (omega arith))) ∙ ap (λ (k : ℕ). closed_behind (front ++ take k text) false (drop k text)) (sym one)
+
+-- bytes that pass, and those that pass behind them
+pub passes_on : (test : ℕ → Bool) (text rest : List ℕ) (a n : ℕ) → Passes test text a → rest ≡ drop a text → Passes test rest n → Passes test text (a + n)
+passes_on test text rest a n front here back =
+    let w = front.within in
+    let v = back.within in
+    let size : length rest ≡ length text - a = ap length here ∙ length-drop a text in
+    record {
+      within = omega (arith, w, v, size);
+      pass =
+          λ k less.
+          elim (cases_lt k a) [
+            | inl early ↦ front.pass k early
+            | inr late ↦
+                let on : a + (k - a) ≡ k = omega (arith, late) in
+                let same : get_or rest (k - a) 0 ≡ get_or text k 0 = ap (λ (l : List ℕ). get_or l (k - a) 0) here ∙ get_or-drop a text (k - a) 0 ∙ ap (λ (j : ℕ). get_or text j 0) on in
+                ap test (sym same) ∙ back.pass (k - a) (omega (arith, late, less))
+          ];
+    }

@@ -53,6 +53,12 @@ impl Batch {
     }
 }
 
+/// How many rows, tags and fields, and bytes a batch keeps.
+#[cfg(test)]
+pub(crate) fn kept(batch: &Batch) -> (usize, usize, usize) {
+    (batch.rows.len(), batch.pairs.len(), batch.bytes.len())
+}
+
 /// Reads a batch of lines of InfluxDB's line protocol, in one pass and in time linear in its bytes.
 ///
 /// It takes memory for the bytes that names and texts stand for, 40 bytes for each line that gives a row and 24 for each

@@ -2,7 +2,7 @@
 ghost use Rattle.std.specs.Prelude.{◌≡◌, ℕ, List, ◌||◌, ◌+◌, ◌≤◌, ◌&&◌, ◌==◌, ◌++◌, [], ◌∷◌, ◌-◌, ◌<◌, not, false, take, drop, length, IfOk, OnOk, OnErr, true, if◌then◌else◌};
 ghost use Rattle.qd_ilp.specs.Cut.{at_end, begins, is_special, is_quoted_special, is_plain, stops, ends_word, escapes, cut, fronted, word, closed, closed_behind, Gives, Grows};
 
-use crate::lanes::{inner_run, plain_run, unquoted_run};
+use crate::lanes::{inner_run, plain_run, unquoted_runs};
 use crate::stop::Stop;
 use qd_base::Memory;
 
@@ -228,7 +228,7 @@ fn unquoted_bytes(text: &[u8]) -> usize
     ensures closed { (front : List ℕ) → closed_behind front false text.now
         ≡ closed_behind (front ++ take result text.now) false (drop result text.now) }
 {
-    for i in unquoted_run(text)..text.len() {
+    for i in unquoted_runs(text)..text.len() {
         if is_quote_or_backslash(text[i]) {
             return i;
         }

@@ -1,9 +1,10 @@
-//! How many bytes at the start of a text are of a class, as one load of 16 bytes tells. Each count may stop early: what
+//! How many bytes at the start of a text are of a class, as loads of 16 bytes tell. Each count may stop early: what
 //! follows is looked at byte by byte.
 ghost use Rattle.std.specs.Prelude.{◌≡◌};
 ghost use Rattle.qd_ilp.specs.Cut.{is_plain, is_inner, is_unquoted};
 ghost use Rattle.qd_ilp.specs.Run.{Passes, first_set};
 
+use crate::cut::behind;
 use std::simd::prelude::*;
 
 const LANES: usize = 16;
@@ -47,9 +48,24 @@ pub(crate) fn inner_run(text: &[u8]) -> usize
     first_set(stops.to_bitmask())
 }
 
+/// Bytes of a quoted text that stand for themselves, by as many loads as it takes.
+pub(crate) fn unquoted_runs(text: &[u8]) -> usize
+    ensures run { Passes is_unquoted text.now result }
+{
+    let mut at = 0;
+    for _ in 0..text.len() / LANES {
+        let run = unquoted_run(behind(text, at));
+        at += run;
+        if run < LANES {
+            return at;
+        }
+    }
+    at
+}
+
 /// Bytes of a quoted text that stand for themselves.
 #[inline(always)]
-pub(crate) fn unquoted_run(text: &[u8]) -> usize
+fn unquoted_run(text: &[u8]) -> usize
     ensures run { Passes is_unquoted text.now result }
 {
     if text.len() < LANES {

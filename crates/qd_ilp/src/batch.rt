@@ -16,9 +16,9 @@ const LONGEST: usize = 4_294_967_295;
 
 /// The lines of a text, up to its end or up to the first that is outside the grammar. Contracts see that list.
 ///
-/// It is kept as the rows alone, each with the number of lines before it that give none, as flat vectors: 40 bytes for a
-/// row, 24 for each of its tags and fields, and the bytes that names and texts stand for. Lines that give no row take
-/// nothing.
+/// It is kept as the rows alone, each with the number of lines before it that give none, and as flat vectors: 40 bytes
+/// for a row, 24 for each of its tags and fields, and a buffer. This begins with the text; names and texts without an
+/// escape are places in it, and what the others stand for lies behind. Lines that give no row take nothing.
 #[derive(Debug, Drop)]
 pub struct Batch {
     bytes: Vec<u8>,
@@ -61,10 +61,10 @@ pub(crate) fn kept(batch: &Batch) -> (usize, usize, usize) {
 
 /// Reads a batch of lines of InfluxDB's line protocol, in one pass and in time linear in its bytes.
 ///
-/// It takes memory for the bytes that names and texts stand for, 40 bytes for each line that gives a row and 24 for each
-/// tag and field, and for none else, whatever the text says: at most three times as much while a vector grows. Want of
-/// memory is also answered where names and texts have 2^32 bytes or more, or the batch as many tags and fields, or lines
-/// without a row one after another.
+/// It takes memory for a copy of the text, for the bytes that names and texts with escapes stand for, 40 bytes for each
+/// line that gives a row and 24 for each tag and field, and for nothing else, whatever the text says. That is at most 12
+/// bytes for a byte of text (the line `t,a=b` and its end are 6), and three times as much while the vectors grow. Want of
+/// memory is also answered where the buffer would have 2^32 bytes or more.
 ///
 /// Lines are numbered from 1, and end at LF, at CR and LF, or at the end of the text. Reading ends before the first line
 /// that is outside the grammar.

@@ -4,7 +4,7 @@ ghost use Rattle.std.specs.List.{list_any};
 ghost use Rattle.qd_ilp.specs.Whole.{Adds, IsReading, lacks_time, is_timeless_kept};
 
 use crate::item::Pair;
-use crate::row::{KeptLine, KeptRow, push_next};
+use crate::row::{KeptLine, KeptRow, is_text, push_next};
 use crate::stop::Stop;
 use crate::value::{When, place};
 use qd_base::Memory;
@@ -59,7 +59,8 @@ pub(crate) fn kept(batch: &Batch) -> (usize, usize, usize) {
     (batch.rows.len(), batch.pairs.len(), batch.bytes.len())
 }
 
-/// Reads a batch of lines of InfluxDB's line protocol, in one pass and in time linear in its bytes.
+/// Reads a batch of lines of InfluxDB's line protocol, in time linear in its bytes: in one pass, behind one
+/// that tests whether they are UTF-8.
 ///
 /// It takes memory for a copy of the text, for the bytes that names and texts with escapes stand for, 40 bytes for each
 /// line that gives a row and 24 for each tag and field, and for nothing else, whatever the text says. That is at most 12
@@ -74,6 +75,7 @@ pub fn parse_batch(alloc: Global, text: &[u8]) -> Result<Batch, Memory>
     if text.len() > LONGEST {
         return Err(AllocError);
     }
+    let sound = is_text(text);
     let mut bytes = Vec::from_slice(alloc, text)?;
     let mut pairs = Vec::new(alloc);
     let mut rows = Vec::new(alloc);
@@ -81,7 +83,7 @@ pub fn parse_batch(alloc: Global, text: &[u8]) -> Result<Batch, Memory>
     let mut number = 1;
     let mut at = 0;
     while at < text.len() {
-        match push_next(&mut bytes, &mut pairs, text, at) {
+        match push_next(&mut bytes, &mut pairs, sound, text, at) {
             Ok((line, next)) => {
                 behind = push_line(&mut rows, behind, line)?;
                 number += 1;

@@ -1,6 +1,6 @@
 //! One line.
-ghost use Rattle.std.specs.Prelude.{◌≡◌, ◌≤◌, ◌-◌, ◌<◌, ◌^◌, List, length, take, drop, Some, IfOk, IfErr};
-ghost use Rattle.std.specs.Str.{is_utf8};
+ghost use Rattle.std.specs.Prelude.{◌≡◌, ◌≤◌, ◌-◌, ◌<◌, ◌^◌, List, length, take, drop, Some, IfOk, IfErr, true};
+ghost use Rattle.std.specs.Str.{is_utf8, IsCharBoundary};
 ghost use Rattle.qd_ilp.specs.Cut.{Fails, Gives, Grows};
 ghost use Rattle.qd_ilp.specs.Line.{Item, tags_at, fields_at, rest_at, row_at, line_at, read_line};
 ghost use Rattle.qd_ilp.specs.Kept.{PutsItems, moment_in};
@@ -197,14 +197,17 @@ fn push_line(
     Ok((KeptLine::Row(head), next))
 }
 
-/// Puts the next line into a batch, and gives what is kept of it and the place behind its end. Its bytes are UTF-8.
+/// Puts the next line into a batch, and gives what is kept of it and the place behind its end. Its bytes are UTF-8. The
+/// caller says whether those of the whole text are, so that they are looked at once.
 #[tactic(auto, unfolding(crate::specs::Line::read_line))]
 pub(crate) fn push_next(
     bytes: &mut Vec<u8>,
     pairs: &mut Vec<Pair>,
+    sound: bool,
     text: &[u8],
     at: usize,
 ) -> Result<(KeptLine, usize), Stop>
+    requires sound { sound ≡ is_utf8 text.now }
     requires some { at < length text.now }
     requires small { length text.now < 2 ^ 32 }
     requires begins { Grows text.now bytes.old.items }
@@ -216,10 +219,32 @@ pub(crate) fn push_next(
     ensures inside { IfOk result (λ x. x.1 ≤ length text.now) }
 {
     let (line, next) = push_line(bytes, pairs, text, at)?;
-    if !is_text(part(text, at, next)) {
+    if !is_part_text(sound, text, at, next) {
         return Err(Stop::Syntax);
     }
     Ok((line, next))
+}
+
+/// Whether the bytes from a place up to another are UTF-8, in a text of which it is known whether it is.
+#[tactic(auto, using(crate::proofs::Texts::sound_part))]
+fn is_part_text(sound: bool, text: &[u8], at: usize, end: usize) -> bool
+    requires sound { sound ≡ is_utf8 text.now }
+    requires order { at ≤ end }
+    requires within { end ≤ length text.now }
+    ensures text { result ≡ is_utf8 (take (length (drop at text.now) - length (drop end text.now)) (drop at text.now)) }
+{
+    if sound && begins_char(text, at) && begins_char(text, end) {
+        return true;
+    }
+    is_text(part(text, at, end))
+}
+
+/// Whether a character begins at a place, or the text ends there.
+fn begins_char(text: &[u8], at: usize) -> bool
+    requires within { at ≤ length text.now }
+    ensures boundary { result ≡ true → IsCharBoundary text.now at }
+{
+    at == text.len() || text[at] < 0x80 || text[at] >= 0xc0
 }
 
 /// The bytes from a place up to another.
@@ -234,7 +259,7 @@ fn part(text: &[u8], at: usize, end: usize) -> &[u8]
 
 /// Whether bytes are UTF-8.
 #[tactic(auto, using(crate::proofs::Texts::utf8_ok, crate::proofs::Texts::utf8_bad))]
-fn is_text(bytes: &[u8]) -> bool
+pub(crate) fn is_text(bytes: &[u8]) -> bool
     ensures text { result ≡ is_utf8 bytes.now }
 {
     match std::str::from_utf8(bytes) {

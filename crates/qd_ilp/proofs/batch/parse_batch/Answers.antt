@@ -1,5 +1,4 @@
 use Rattle.std.proofs.Common.{◌<◌, length, length-drop, drop, refl, arith}
-use Rattle.std.proofs.lemmas.List.{drop_all}
 use Rattle.qd_ilp.proofs.Growing.{grows_twice}
 use Rattle.qd_ilp.proofs.Wholes.{step_on, step_fault, no_line}
 use Rattle.qd_ilp.proofs.batch.parse_batch.Goals as goal

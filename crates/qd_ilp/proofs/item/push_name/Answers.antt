@@ -1,4 +1,4 @@
-use Rattle.std.proofs.Common.{◌≡◌, ◌-◌, ◌∙◌, ap, sym, false, take, drop, refl}
+use Rattle.std.proofs.Common.{◌∙◌, ap, sym, false, drop, refl}
 use Rattle.qd_ilp.specs.Cut.{cut}
 use Rattle.qd_ilp.proofs.Places.{cut_here, span_here, name_from}
 use Rattle.qd_ilp.proofs.item.push_name.Goals as goal

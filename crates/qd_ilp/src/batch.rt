@@ -59,8 +59,8 @@ pub(crate) fn kept(batch: &Batch) -> (usize, usize, usize) {
     (batch.rows.len(), batch.pairs.len(), batch.bytes.len())
 }
 
-/// Reads a batch of lines of InfluxDB's line protocol, in time linear in its bytes: in one pass, behind one
-/// that tests whether they are UTF-8.
+/// Reads a batch of lines of InfluxDB's line protocol, in time linear in its bytes: one pass tests whether they are UTF-8,
+/// and another reads them.
 ///
 /// It takes memory for a copy of the text, for the bytes that names and texts with escapes stand for, 40 bytes for each
 /// line that gives a row and 24 for each tag and field, and for nothing else, whatever the text says. That is at most 12

@@ -30,6 +30,7 @@ pub(crate) fn plain_run(text: &[u8]) -> usize
         return 0;
     }
     let bytes = u8x16::from_slice(text);
+    // Comma, space, LF and CR lie below the hyphen, and so do some bytes that stand for themselves.
     let stops = bytes.simd_lt(u8x16::splat(b'-'))
         | bytes.simd_eq(u8x16::splat(b'='))
         | bytes.simd_eq(u8x16::splat(b'\\'));
@@ -44,6 +45,7 @@ pub(crate) fn inner_run(text: &[u8]) -> usize
     if text.len() < LANES {
         return 0;
     }
+    // As above, with bytes among those below the hyphen that end none.
     let stops = u8x16::from_slice(text).simd_lt(u8x16::splat(b'-'));
     first_set(stops.to_bitmask())
 }

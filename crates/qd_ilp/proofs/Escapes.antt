@@ -1,13 +1,12 @@
 -- What is written with its escapes is read back.
 use Rattle.std.proofs.Common.{◌≡◌, ℕ, Bool, true, false, List, [], ◌∷◌, ◌++◌, refl, sym, ap, subst, ◌∙◌, append_assoc, inl, inr}
-use Rattle.std.specs.Prelude.{not, ◌||◌, ◌&&◌, ◌==◌, if◌then◌else◌}
-use Rattle.std.specs.List.{list_all}
+use Rattle.std.specs.Prelude.{not, ◌||◌, ◌==◌}
 use Rattle.std.proofs.lemmas.Bool.{cases_Bool}
-use Rattle.qd_ilp.specs.Cut.{begins, is_separator, is_special, is_quoted_special, escapes, stops, ends_word}
-use Rattle.qd_ilp.specs.Value.{Value, Tag, Text, Long, Huge, Truth, Other, bare, is_empty}
+use Rattle.qd_ilp.specs.Cut.{is_separator, is_special, is_quoted_special, escapes, stops, ends_word}
+use Rattle.qd_ilp.specs.Value.{Value, Tag, Text, Long, Huge, Truth, Other}
 use Rattle.qd_ilp.specs.Line.{Item}
-use Rattle.qd_ilp.specs.Grammar.{Name, Quoted, Word, IsSome, FieldValue, HasValue, IsItem}
-use Rattle.qd_ilp.specs.Printed.{escaped, is_one_line, is_word, IsBare, TagIn, FieldIn, ValueIn, ItemIn}
+use Rattle.qd_ilp.specs.Grammar.{Name, Quoted, Word, FieldValue, HasValue, IsItem}
+use Rattle.qd_ilp.specs.Printed.{escaped, is_one_line, is_word, IsBare, FieldIn, ValueIn, ItemIn}
 use Rattle.qd_ilp.proofs.Numbers.{and_true}
 use Rattle.qd_ilp.proofs.Cuts.{or_false, not_true, goes_on, no_escape, no_quoted_escape}
 

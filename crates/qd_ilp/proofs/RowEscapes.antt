@@ -1,15 +1,15 @@
 -- A row that is written as a line with its escapes is read back.
-use Rattle.std.proofs.Common.{◌≡◌, ℕ, zero, suc, ◌≤◌, Bool, true, false, List, [], ◌∷◌, ◌++◌, refl, sym, ap, subst, ◌∙◌, append_assoc, Option, Some, None, inl, inr, arith}
-use Rattle.std.specs.Prelude.{not, ◌||◌, ◌&&◌, ◌==◌, if◌then◌else◌}
+use Rattle.std.proofs.Common.{◌≡◌, ℕ, Bool, true, false, List, [], ◌∷◌, ◌++◌, refl, sym, ap, subst, ◌∙◌, append_assoc, Option, Some, None, inl, inr, arith}
+use Rattle.std.specs.Prelude.{not, ◌||◌, ◌==◌}
 use Rattle.std.specs.List.{list_all}
 use Rattle.std.proofs.lemmas.Bool.{cases_Bool, ne_eqb}
 use Rattle.qd_ilp.specs.Cut.{begins, is_separator, is_special, stops, ends_word}
-use Rattle.qd_ilp.specs.Value.{Moment, is_empty, is_stamp, is_numeral, stamp}
+use Rattle.qd_ilp.specs.Value.{Moment, is_numeral}
 use Rattle.qd_ilp.specs.Line.{Item, Row}
-use Rattle.qd_ilp.specs.Grammar.{Word, IsSome, IsItem, Items, Parted, spaces, Spaced, EndsLine, Tail, Fields, IsRow}
-use Rattle.qd_ilp.specs.Printed.{escaped, is_one_line, is_word, ItemIn, ItemsIn, FieldsIn, StampIn, RowIn}
+use Rattle.qd_ilp.specs.Grammar.{IsSome, Items, Tail, Fields, IsRow}
+use Rattle.qd_ilp.specs.Printed.{escaped, is_word, ItemIn, ItemsIn, FieldsIn, StampIn, RowIn}
 use Rattle.qd_ilp.proofs.Numbers.{and_true}
-use Rattle.qd_ilp.proofs.Numerals.{stamp_numerals, both_ways, and_both}
+use Rattle.qd_ilp.proofs.Numerals.{stamp_numerals, and_both}
 use Rattle.qd_ilp.proofs.Cuts.{or_false}
 use Rattle.qd_ilp.proofs.Spelled.{numeral_low}
 use Rattle.qd_ilp.proofs.Escapes.{name_again, item_again, word_again, escaped_first, plain_first}

@@ -1,8 +1,8 @@
 -- How a tag or a field is written with every escape that it needs.
-use Rattle.std.specs.Prelude.{◌≡◌, ℕ, Bool, true, false, not, ◌||◌, ◌&&◌, ◌==◌, List, [], ◌∷◌, ◌++◌, Option, Some, None, if◌then◌else◌}
+use Rattle.std.specs.Prelude.{◌≡◌, ℕ, Bool, true, false, not, ◌||◌, ◌==◌, List, [], ◌∷◌, ◌++◌, Option, Some, None, if◌then◌else◌}
 use Rattle.std.specs.List.{list_all}
-use Rattle.qd_ilp.specs.Cut.{begins, is_special, is_quoted_special, stops}
-use Rattle.qd_ilp.specs.Value.{Value, Tag, Text, Long, Huge, Truth, Other, Moment, bare, is_empty, is_stamp, stamp}
+use Rattle.qd_ilp.specs.Cut.{begins, is_special, is_quoted_special}
+use Rattle.qd_ilp.specs.Value.{Value, Tag, Text, Moment, bare, is_empty, is_stamp, stamp}
 use Rattle.qd_ilp.specs.Line.{Item, Row}
 use Rattle.qd_ilp.specs.Grammar.{IsSome}
 

@@ -1,12 +1,13 @@
 //! Lines of InfluxDB's line protocol: how a batch of them is read.
 //!
 //! The definitions stand in `specs/`: `Cut` (where a name, a value or a text ends, and what it stands for), `Line`
-//! (what a line is) and `Batch` (what a whole text is).
+//! (what a line is) and `Whole` (what a whole text is).
 #![tactic(auto)]
 
 mod batch;
 mod cut;
 mod item;
+mod lanes;
 mod laws;
 mod row;
 mod stop;

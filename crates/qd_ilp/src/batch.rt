@@ -1,11 +1,12 @@
 //! A batch of lines.
-ghost use Rattle.std.specs.Prelude.{◌≡◌, IfOk};
+ghost use Rattle.std.specs.Prelude.{◌≡◌, ◌<◌, ◌==◌, length, IfOk, IfSome, IfNone, Some, slice_get};
 ghost use Rattle.std.specs.List.{list_any};
 ghost use Rattle.qd_ilp.specs.Whole.{IsReading, lacks_time, is_timeless_kept};
 
 use crate::item::Pair;
 use crate::row::{Head, KeptLine, push_next};
 use crate::stop::Stop;
+use crate::view::RowView;
 use qd_base::Memory;
 use std::alloc::{AllocError, Global};
 use std::marker::Model;
@@ -35,6 +36,7 @@ impl Model for Batch {
 
 impl Batch {
     ghost use Rattle.qd_ilp.specs.Whole.{faulty_line};
+    ghost use Rattle.qd_ilp.specs.Line.{Blank, Gives};
 
     /// Gives the number of the first line that is outside the grammar, counted from 1, where there is one. It takes
     /// constant time.
@@ -45,6 +47,38 @@ impl Batch {
             None
         } else {
             Some(self.lines.len() as u64 + 1)
+        }
+    }
+
+    /// Gives the number of lines that were read, in constant time.
+    pub fn len(&self) -> usize
+        ensures count { result ≡ length self.now.lines }
+    {
+        self.lines.len()
+    }
+
+    /// Says whether no line was read, in constant time.
+    pub fn is_empty(&self) -> bool
+        ensures empty { result ≡ (length self.now.lines == 0) }
+    {
+        self.lines.is_empty()
+    }
+
+    /// Lends the row that the line at position `i` gives, counted from 0, in constant time; none where the line is blank
+    /// or a comment.
+    pub fn row(&self, i: usize) -> Option<RowView<'_>>
+        requires { i < length self.now.lines }
+        ensures row { IfSome result (λ row. slice_get self.now.lines i ≡ Some (Gives row)) }
+        ensures none { IfNone result (slice_get self.now.lines i ≡ Some Blank) }
+    {
+        match self.lines[i] {
+            KeptLine::Blank => None,
+            KeptLine::Row(head) => Some(RowView {
+                bytes: self.bytes.as_slice(),
+                pairs: &self.pairs[head.first..head.end],
+                table: head.table,
+                when: head.when,
+            }),
         }
     }
 }

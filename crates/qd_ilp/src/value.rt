@@ -33,9 +33,9 @@ pub(crate) enum Kept {
     Other,
 }
 
-/// What a batch keeps of a stamp.
+/// What a stamp says.
 #[derive(Clone, Copy, Debug)]
-pub(crate) enum When {
+pub enum When {
     /// Microseconds since 1970-01-01T00:00Z, at most `MAX_TIME`.
     At(u64),
     /// A moment out of range.

@@ -1,0 +1,7 @@
+//! What batches of lines do: the transaction of a batch over the tables that are there.
+//!
+//! The definitions stand in `qd_ilp`'s `specs/Transaction` (what a line does, its codes, and what all lines say).
+#![tactic(auto)]
+
+mod changes;
+mod overlay;

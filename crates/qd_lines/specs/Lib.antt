@@ -1,1 +1,1 @@
-pub mod Overlays
+pub mod Drafts

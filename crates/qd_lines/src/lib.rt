@@ -3,5 +3,5 @@
 //! The definitions stand in `qd_ilp`'s `specs/Transaction` (what a line does, its codes, and what all lines say).
 #![tactic(auto)]
 
-mod changes;
-mod overlay;
+mod draft;
+mod values;

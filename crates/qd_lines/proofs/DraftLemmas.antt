@@ -22,7 +22,8 @@ use Rattle.qd_ilp.specs.Transaction.{name_at, misfits, suits, with_items}
 use Rattle.qd_lines.specs.declared.draft.Columns.{Columns}
 use Rattle.qd_lines.specs.declared.draft.Draft.{Draft}
 use Rattle.qd_lines.specs.Drafts.{IsUsable, mark, time_name, clashes_in, column_made, ValuesSeen, NamesSeen, AreTwice, TwiceSeen, Marked, Draws}
-use Rattle.qd_lines.proofs.MarkLemmas.{names_equal, joins, turned, all_at, all_of, name_at-there, place_is, others_differ, none_before, none_at, none_from, found_none, marks_met, marks_kept, mark_met}
+use Rattle.qd_lines.proofs.NameLemmas.{names_equal}
+use Rattle.qd_lines.proofs.MarkLemmas.{joins, turned, all_at, all_of, name_at-there, place_is, others_differ, none_before, none_at, none_from, found_none, marks_met, marks_kept, mark_met}
 
 -- a name more is fair or not
 pub named : (items : List Item) (i : Item) (old fair new : Bool) → (fair ≡ true → IsColumnName i.name) → (IsColumnName i.name → fair ≡ true) → new ≡ (old || not fair) → NamesSeen items old → NamesSeen (items ++ i ∷ []) new

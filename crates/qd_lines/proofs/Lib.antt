@@ -1,2 +1,5 @@
+pub mod NameLemmas
+pub mod ChangesLemmas
+pub mod OverlayLemmas
 pub mod MarkLemmas
 pub mod DraftLemmas

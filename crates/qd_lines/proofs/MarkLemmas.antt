@@ -2,9 +2,6 @@
 use Rattle.std.proofs.Common.{◌≡◌, ℕ, zero, suc, ◌+◌, ◌-◌, ◌<◌, ◌≤◌, ◌||◌, ◌&&◌, inl, inr, ◌⊎◌, Bool, true, false, not, cond, eqb, ltb, List, [], ◌∷◌, ◌++◌, Option, Some, None, length, map, get_or, set, refl, sym, ap, ap₂, ◌∙◌, arith, slice_get, length-append, subst, true≢false, le_of_suc-le-suc}
 use Rattle.std.specs.List.{list_any, position_or_len, position, find, IsDistinct, AllByRecursion}
 use Rattle.std.specs.Option.{option_or, is_some}
-use Rattle.std.specs.Str.{str_eq_ignore_ascii_case, str_to_ascii_lowercase}
-use Rattle.std.specs.Cmp.{IsEquivalence}
-use Rattle.std.specs.Cmp.Lexicographic.{on_texts_equal}
 use Rattle.std.proofs.lemmas.Bool.{ltb-true, ltb-false, lt-ltb, le-ltb, false≢true, cases_lt}
 use Rattle.std.proofs.lemmas.Bool.Decides.{eqb_tells}
 use Rattle.std.proofs.lemmas.List.{get_or_append_left, get_or-append_right}
@@ -19,9 +16,7 @@ use Rattle.qd_base.proofs.Tables.{position-none, find-position}
 use Rattle.qd_ilp.specs.Line.{Item}
 use Rattle.qd_ilp.specs.Transaction.{name_at}
 use Rattle.qd_lines.specs.Drafts.{mark}
-
-pub names_equal : IsEquivalence same_name
-names_equal = on_texts_equal str_to_ascii_lowercase
+use Rattle.qd_lines.proofs.NameLemmas.{names_equal}
 
 -- what is one with a name, or isn't, is so with each name that is one with it
 pub joins : (a b c : List ℕ) (v : Bool) → same_name a b ≡ true → same_name a c ≡ v → same_name b c ≡ v

@@ -3,5 +3,7 @@
 //! The definitions stand in `qd_ilp`'s `specs/Transaction` (what a line does, its codes, and what all lines say).
 #![tactic(auto)]
 
+mod changes;
 mod draft;
+mod overlay;
 mod values;

@@ -3,3 +3,5 @@ pub mod ChangesLemmas
 pub mod OverlayLemmas
 pub mod MarkLemmas
 pub mod DraftLemmas
+pub mod CodeLemmas
+pub mod FoundLemmas

@@ -1,3 +1,4 @@
 pub mod Changes
 pub mod Overlays
 pub mod Drafts
+pub mod Codes

@@ -4,6 +4,7 @@
 #![tactic(auto)]
 
 mod changes;
+mod codes;
 mod draft;
 mod overlay;
 mod values;

@@ -5,3 +5,4 @@ pub mod MarkLemmas
 pub mod DraftLemmas
 pub mod CodeLemmas
 pub mod FoundLemmas
+pub mod CellLemmas

@@ -2,3 +2,4 @@ pub mod Changes
 pub mod Overlays
 pub mod Drafts
 pub mod Codes
+pub mod Cells

@@ -3,6 +3,7 @@
 //! The definitions stand in `qd_ilp`'s `specs/Transaction` (what a line does, its codes, and what all lines say).
 #![tactic(auto)]
 
+mod cells;
 mod changes;
 mod codes;
 mod draft;

@@ -10,15 +10,6 @@ ghost use Rattle.qd_lines.specs.Overlays.{Covers, Overlays, spotted};
 use qd_base::{Col, Duplicate, Memory, Schema, Schemas, same_name};
 use std::alloc::Global;
 
-/// Where a table is kept.
-#[derive(Clone, Copy)]
-enum Spot<'a> {
-    /// At a position among those that lines have made or changed.
-    Own(usize),
-    /// Among those that were there before the batch.
-    Base(&'a Schema),
-}
-
 /// The tables that the lines of a batch find: those that were there before the batch, which are lent, and over them those
 /// that lines have made or changed, which are copied when first changed.
 #[derive(Drop)]
@@ -29,6 +20,15 @@ pub(crate) struct Overlay<'a> {
     tables: usize,
     /// The table that was sought last, where none was made or changed since.
     recent: Option<Spot<'a>>,
+}
+
+/// Where a table is kept.
+#[derive(Clone, Copy)]
+enum Spot<'a> {
+    /// At a position among those that lines have made or changed.
+    Own(usize),
+    /// Among those that were there before the batch.
+    Base(&'a Schema),
 }
 
 impl<'a> Overlay<'a> {

@@ -37,6 +37,7 @@ pub(crate) struct Faults {
 }
 
 /// What a line does to the columns of its table. Its vectors are used again for the next line.
+#[derive(Drop)]
 pub(crate) struct Draft {
     /// The columns that the line adds.
     pub(crate) added: Vec<Col>,

@@ -7,5 +7,10 @@ mod cells;
 mod changes;
 mod codes;
 mod draft;
+mod fault;
 mod overlay;
 mod values;
+mod walk;
+
+pub use fault::LineFault;
+pub use walk::entry_of;

@@ -3,3 +3,4 @@ pub mod Overlays
 pub mod Drafts
 pub mod Codes
 pub mod Cells
+pub mod Laws

@@ -7,5 +7,8 @@ mod cells;
 mod changes;
 mod codes;
 mod draft;
+mod laws;
 mod overlay;
 mod values;
+
+pub use laws::{every_batch_is_answered, one_answer};

@@ -105,10 +105,10 @@ keeps p d cells f le columns fits tables twice (Some c) e = tt
 keeps p d cells f le columns fits tables twice None e =
     let no = none_found f (sym e) in
     let short : length d.marks.items ≤ MAX_COLUMNS = ltb-false MAX_COLUMNS (length d.marks.items) (sym columns ∙ no.0) in
-    let some : length d.marks.items ≤ MAX_BATCH_CELLS - cells = ltb-false (MAX_BATCH_CELLS - cells) (length d.marks.items) (sym fits ∙ no.2.1) in
+    let some : length d.marks.items ≤ MAX_BATCH_CELLS - cells = ltb-false (MAX_BATCH_CELLS - cells) (length d.marks.items) (sym fits ∙ no.3) in
     record {
       few = short;
-      once = sym twice ∙ no.2.0;
+      once = sym twice ∙ no.2;
       room = λ is. let free : leb MAX_TABLES p.tables ≡ false = ap (λ b. b && leb MAX_TABLES p.tables) (sym is) ∙ sym tables ∙ no.1 in let lt = leb-false MAX_TABLES p.tables free in omega arith;
       fits = omega (arith, le);
     }

@@ -6,3 +6,8 @@ pub mod DraftLemmas
 pub mod CodeLemmas
 pub mod FoundLemmas
 pub mod CellLemmas
+pub mod DecisionLemmas
+pub mod CleanLemmas
+pub mod AnswerLemmas
+pub mod ColumnLemmas
+pub mod SchemaLemmas

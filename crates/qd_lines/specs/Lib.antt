@@ -4,3 +4,4 @@ pub mod Drafts
 pub mod Codes
 pub mod Cells
 pub mod Walks
+pub mod Laws

@@ -8,9 +8,11 @@ mod changes;
 mod codes;
 mod draft;
 mod fault;
+mod laws;
 mod overlay;
 mod values;
 mod walk;
 
 pub use fault::LineFault;
+pub use laws::{every_batch_is_answered, one_answer};
 pub use walk::entry_of;

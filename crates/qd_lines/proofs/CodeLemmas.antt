@@ -1,5 +1,5 @@
 -- The first code that is found is the least.
-use Rattle.std.proofs.Common.{◌≡◌, ℕ, ◌+◌, ◌-◌, ◌<◌, ◌≤◌, ◌&&◌, leb, ltb, length, IfNone, ◌⊎◌, inl, inr, Bool, true, false, cond, List, Option, Some, None, refl, sym, ap, ◌∙◌, arith, true≢false}
+use Rattle.std.proofs.Common.{◌≡◌, ℕ, ◌-◌, ◌≤◌, ◌&&◌, leb, ltb, length, IfNone, Bool, true, false, cond, List, Option, Some, None, refl, sym, ap, ◌∙◌, arith, true≢false}
 use Rattle.std.specs.Bool.{Decides}
 use Rattle.std.proofs.lemmas.Bool.{ltb-false, leb-false}
 use Rattle.std.proofs.lemmas.Option.{none-some}
@@ -11,7 +11,7 @@ use Rattle.qd_base.specs.declared.code.Code.TheVariants as code
 use Rattle.qd_base.specs.declared.schema.Schema.{Schema}
 use Rattle.qd_base.specs.Codes.{number_of}
 use Rattle.qd_ilp.specs.Line.{Row}
-use Rattle.qd_ilp.specs.Transaction.{HasCode, LeastCode}
+use Rattle.qd_ilp.specs.Transaction.{HasCode}
 use Rattle.qd_lines.specs.declared.codes.Found.{Found}
 use Rattle.qd_lines.specs.Codes.{first_of, Finds, IsCodeOf, KeepsTo}
 

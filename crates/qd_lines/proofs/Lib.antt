@@ -11,3 +11,4 @@ pub mod CleanLemmas
 pub mod AnswerLemmas
 pub mod ColumnLemmas
 pub mod SchemaLemmas
+pub mod WalkLemmas

@@ -1,5 +1,5 @@
 -- How far the lines of a batch have been gone over.
-use Rattle.std.specs.Prelude.{◌≡◌, ℕ, ◌+◌, ◌<◌, ◌≤◌, Bool, true, false, List, [], ◌∷◌, ◌++◌, Option, is_none, Some, None, Result, Ok, Err, length, fold, map}
+use Rattle.std.specs.Prelude.{◌≡◌, ℕ, ◌+◌, ◌<◌, ◌≤◌, true, List, [], ◌∷◌, ◌++◌, is_none, Result, Err, length}
 use Rattle.qd_base.specs.declared.limits.TheConstants.{MAX_BATCH_CELLS, MAX_COLUMNS, MAX_TABLES}
 use Rattle.qd_base.specs.declared.code.Code.{Code}
 use Rattle.qd_base.specs.declared.schema.Col.{Col}
@@ -7,10 +7,9 @@ use Rattle.qd_base.specs.declared.schema.Schema.{Schema}
 use Rattle.qd_base.specs.declared.op.Entry.{Entry}
 use Rattle.qd_base.specs.Lawful.{AreSchemas}
 use Rattle.qd_base.specs.Schemas.{schema_of}
-use Rattle.qd_ilp.specs.Line.{Line, Row, Gives}
+use Rattle.qd_ilp.specs.Line.{Line, Row}
 use Rattle.qd_ilp.specs.Whole.{Reading}
-use Rattle.qd_ilp.specs.Transaction.{Work, Refuses, LeastCode, HasCode, Says, columns_after, columns_before, stamp_column, start, with_items}
-use Rattle.qd_lines.specs.declared.codes.Place.{Place}
+use Rattle.qd_ilp.specs.Transaction.{Work, LeastCode, HasCode, Says, columns_after, columns_before, stamp_column, start, with_items}
 use Rattle.qd_lines.specs.declared.draft.Draft.{Draft}
 use Rattle.qd_lines.specs.declared.walk.Walk.{Walk}
 use Rattle.qd_lines.specs.declared.walk.Drawn.{Drawn}

@@ -38,7 +38,13 @@ pub(crate) struct Found {
 }
 
 /// Gives the least code of a line, where it has one. The lines before it insert so many cells.
-pub(crate) fn code_of(place: Place<'_>, row: &RowView<'_>, draft: &Draft, when: When, cells: u64) -> Option<Code>
+pub(crate) fn code_of(
+    place: Place<'_>,
+    row: &RowView<'_>,
+    draft: &Draft,
+    when: When,
+    cells: u64,
+) -> Option<Code>
     requires few { cells ≤ MAX_BATCH_CELLS }
     requires draws { Draws place.columns row.now.items draft.now }
     ensures code { (schemas : List Schema) (now : ℕ) → IsPlaceOf schemas row.now place.entry → moment_in when ≡ moment_of now row.now.moment →

@@ -20,7 +20,10 @@ use crate::codes::{Place, code_of};
 use crate::draft::{Columns, Draft};
 use crate::fault::{LineFault, RowFault};
 use crate::overlay::Overlay;
-use qd_base::{Code, Col, ColList, ColType, Duplicate, Entry, KeyList, MAX_TIME, Memory, PartUnit, Row, Schema, Schemas, Txt};
+use qd_base::{
+    Code, Col, ColList, ColType, Duplicate, Entry, KeyList, MAX_TIME, Memory, PartUnit, Row,
+    Schema, Schemas, Txt,
+};
 use qd_ilp::{Batch, RowView, When};
 use std::alloc::Global;
 
@@ -49,7 +52,12 @@ pub(crate) struct Walk<'a> {
 ///
 /// It costs time linear in the batch, in the columns of the tables of its rows for each row, and in the number of tables
 /// for each line that isn't of the table of the line before. A table's schema is copied where a line changes it.
-pub fn entry_of(alloc: Global, schemas: &Schemas, batch: &Batch, now: u64) -> Result<Entry, LineFault>
+pub fn entry_of(
+    alloc: Global,
+    schemas: &Schemas,
+    batch: &Batch,
+    now: u64,
+) -> Result<Entry, LineFault>
     requires lawful { AreSchemas schemas.now }
     ensures entry { IfOk result (λ entry. SaysOf schemas.now now batch.now (Ok entry)) }
     ensures refused { IfErr result (λ fault. IsLineFault schemas.now now batch.now fault) }
@@ -245,7 +253,12 @@ fn name_in(alloc: Global, overlay: &Overlay<'_>, table: &[u8]) -> Result<Txt, Me
 }
 
 /// Adds columns behind the others of the table of a name.
-fn widen(overlay: &mut Overlay<'_>, changes: &mut Changes, table: &Txt, added: &[Col]) -> Result<(), Memory>
+fn widen(
+    overlay: &mut Overlay<'_>,
+    changes: &mut Changes,
+    table: &Txt,
+    added: &[Col],
+) -> Result<(), Memory>
     ensures overlay { (all : List Schema) → Covers overlay.old all → OnOk result (Covers overlay.new (fold schemas_step all (map (op.AddColumn table.now) added.now))) }
     ensures changes { OnOk result (changes.new ≡ fold joined changes.old (map (op.AddColumn table.now) added.now)) }
 {

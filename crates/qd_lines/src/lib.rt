@@ -10,6 +10,8 @@ mod draft;
 mod fault;
 mod laws;
 mod overlay;
+#[cfg(test)]
+mod tests;
 mod values;
 mod walk;
 

@@ -2,7 +2,7 @@
 use Rattle.std.proofs.Common.{◌≡◌, ℕ, ◌+◌, ◌<◌, ◌≤◌, Bool, true, false, List, [], ◌∷◌, ◌++◌, length, length-append, get_or, take, drop, refl, sym, ap, ◌∙◌, append_assoc, Option, Some, None, arith}
 use Rattle.std.specs.Prelude.{not, ◌&&◌, ◌==◌, ◌||◌, if◌then◌else◌}
 use Rattle.std.proofs.lemmas.List.{drop_more, take_more, drop_all, take_all, append-nil}
-use Rattle.qd_ilp.specs.Cut.{◌>>=◌, is_special, is_quoted_special, is_plain, is_separator, stops, escapes, ends_word, fronted, cut, word, closed, closed_behind}
+use Rattle.qd_ilp.specs.Cut.{◌>>=◌, is_special, is_quoted_special, is_plain, is_inner, is_separator, stops, escapes, ends_word, fronted, cut, word, closed, closed_behind}
 
 pub fronted_twice : (a b : List ℕ) (c : List ℕ × List ℕ) → fronted a (fronted b c) ≡ fronted (a ++ b) c
 fronted_twice a b c = ap (λ (l : List ℕ). let p : List ℕ × List ℕ = (l, c.1) in p) (sym (append_assoc a b c.0))
@@ -70,6 +70,17 @@ word_more i text rest h here ends =
     let ends' : ends_word (get_or text i 0 ∷ drop (i + 1) text) ≡ false = ap ends_word (sym (here ∙ at)) ∙ ends in
     ap (λ (l : List ℕ). fronted (take i text) (word l)) at ∙ ap (fronted (take i text)) (word_goes (get_or text i 0) (drop (i + 1) text) ends')
     ∙ fronted_twice (take i text) (get_or text i 0 ∷ []) (word (drop (i + 1) text)) ∙ ap (λ (l : List ℕ). fronted l (word (drop (i + 1) text))) (sym (take_more text i 0 h))
+
+-- a byte that ends no value
+inner_goes : (b : ℕ) (bs : List ℕ) → is_inner b ≡ true → ends_word (b ∷ bs) ≡ false
+inner_goes b bs h =
+    let cr = or_false (b == 44 || b == 32 || b == 10) (b == 13) (not_true (b == 44 || b == 32 || b == 10 || b == 13) h) in
+    let lf = or_false (b == 44 || b == 32) (b == 10) cr.0 in
+    let both = or_false (b == 44) (b == 32) lf.0 in
+    rw (both.0, both.1, lf.1, cr.1) refl
+
+pub inner_more : (i : ℕ) (text : List ℕ) → i < length text → is_inner (get_or text i 0) ≡ true → fronted (take i text) (word (drop i text)) ≡ fronted (take (i + 1) text) (word (drop (i + 1) text))
+inner_more i text h inner = word_more i text (drop i text) h refl (ap ends_word (drop_more text i 0 h) ∙ inner_goes (get_or text i 0) (drop (i + 1) text) inner)
 
 pub closed_here : (plain : Bool) (b : ℕ) (bs bytes : List ℕ) → (not plain && b == 34) ≡ true → closed_behind bytes plain (b ∷ bs) ≡ Some (bytes, bs)
 unfolding closed

@@ -1,6 +1,6 @@
 -- What a batch keeps stays what it is while its buffer grows.
 use Rattle.std.proofs.Common.{◌≡◌, ◌≢◌, ℕ, ◌+◌, ◌-◌, ◌≤◌, true, false, List, [], ◌∷◌, ◌++◌, length, length-append, length-drop, take, drop, refl, sym, ap, ◌∙◌, append_assoc, map, arith}
-use Rattle.std.proofs.lemmas.List.{append-nil, take-append-le, drop-append-le, drop_at, map-append, take_all}
+use Rattle.std.proofs.lemmas.List.{append-nil, length-take-le, take-append-le, drop-append-le, drop_at, map-append, take_all}
 use Rattle.std.specs.List.{AllByRecursion}
 use Rattle.qd_ilp.specs.declared.value.Span.{Span}
 use Rattle.qd_ilp.specs.declared.value.Kept.{Kept}
@@ -12,28 +12,37 @@ use Rattle.qd_ilp.specs.Kept.{bytes_in, SpanFits, value_in, ValueFits, Puts, ite
 use Rattle.qd_ilp.specs.Cut.{Grows}
 use Rattle.qd_ilp.proofs.Growing.{grows_twice}
 
+-- a text that was put at the end
+pub put_behind : (before now text : List ℕ) (span : Span) → now ≡ before ++ text → span.start ≡ length before → span.end ≡ length now → Puts before now span text
+put_behind before now text span whole start finish =
+    let size : length now ≡ length before + length text = ap length whole ∙ length-append before text in
+    let begin : drop span.start now ≡ text = ap (λ (n : ℕ). drop n now) start ∙ ap (drop (length before)) whole ∙ drop_at before text (length before) refl in
+    let count : span.end - span.start ≡ length text = omega (arith, size, start, finish) in
+    record {
+      grows = record { more = text; whole = whole };
+      is = ap (λ (n : ℕ). take n (drop span.start now)) count ∙ ap (take (length text)) begin ∙ take_all (length text) text (omega arith);
+      fits = (omega (arith, size, start, finish), omega (arith, finish));
+    }
+
 pub puts_in : (before now text : List ℕ) (span : Span) → Puts before now span text → bytes_in now span ≡ text
-puts_in before now text span puts =
-    let size : length now ≡ length before + length text = ap length puts.whole ∙ length-append before text in
-    let begin : drop span.start now ≡ text = ap (λ (n : ℕ). drop n now) puts.start ∙ ap (drop (length before)) puts.whole ∙ drop_at before text (length before) refl in
-    let count : span.end - span.start ≡ length text = omega (arith, size, puts.start, puts.finish) in
-    ap (λ (n : ℕ). take n (drop span.start now)) count ∙ ap (take (length text)) begin ∙ take_all (length text) text (omega arith)
+puts_in before now text span puts = puts.is
 
 pub puts_fits : (before now text : List ℕ) (span : Span) → Puts before now span text → SpanFits (length now) span
-puts_fits before now text span puts =
-    let size : length now ≡ length before + length text = ap length puts.whole ∙ length-append before text in
-    (omega (arith, size, puts.start, puts.finish), omega (arith, puts.finish))
+puts_fits before now text span puts = puts.fits
 
 pub puts_grows : (before now text : List ℕ) (span : Span) → Puts before now span text → Grows before now
-puts_grows before now text span puts = record { more = text; whole = puts.whole }
+puts_grows before now text span puts = puts.grows
+
+span_size : (now : List ℕ) (span : Span) → SpanFits (length now) span → length (bytes_in now span) ≡ span.end - span.start
+span_size now span fits = length-take-le (span.end - span.start) (drop span.start now) (omega (arith, length-drop span.start now, fits))
 
 pub empty_span : (before now text : List ℕ) (span : Span) → Puts before now span text → (span.start ≡ span.end → is_empty text ≡ true) × (span.start ≢ span.end → is_empty text ≡ false)
 empty_span before now [] span puts =
-    let size : length now ≡ length before + 0 = ap length puts.whole ∙ length-append before [] in
-    ((λ _. refl), λ differ. absurd (differ (omega (arith, size, puts.start, puts.finish))))
+    let size : 0 ≡ span.end - span.start = ap length (sym puts.is) ∙ span_size now span puts.fits in
+    ((λ _. refl), λ differ. absurd (differ (omega (arith, size, puts.fits))))
 empty_span before now (x ∷ xs) span puts =
-    let size : length now ≡ length before + length (x ∷ xs) = ap length puts.whole ∙ length-append before (x ∷ xs) in
-    ((λ same. absurd (omega (arith, size, puts.start, puts.finish, same))), λ _. refl)
+    let size : length (x ∷ xs) ≡ span.end - span.start = ap length (sym puts.is) ∙ span_size now span puts.fits in
+    ((λ same. absurd (omega (arith, size, same))), λ _. refl)
 
 pub grow_span : (before now : List ℕ) (span : Span) → Grows before now → SpanFits (length before) span → (bytes_in now span ≡ bytes_in before span) × SpanFits (length now) span
 grow_span before now span grows fits =

@@ -1,5 +1,7 @@
 pub mod Growing
+pub mod Places
 pub mod Cuts
+pub mod Runs
 pub mod Numbers
 pub mod Numerals
 pub mod Kepts
@@ -16,3 +18,4 @@ pub mod Spelled
 pub mod LineSpelled
 pub mod Escapes
 pub mod RowEscapes
+pub mod Viewed

@@ -92,8 +92,10 @@ front_none : (read : Option (List Item × List ℕ)) → with_items [] read ≡ 
 front_none (Some r) = refl
 front_none None = refl
 
-pub items_none : (text : List ℕ) (tag : Bool) → with_items [] (items_at tag (length text) text) ≡ items_at tag (length text) text
-items_none text tag = front_none (items_at tag (length text) text)
+pub items_none : (tag : Bool) (n : ℕ) (text : List ℕ) → with_items [] (items_at tag (n - 0) text) ≡ items_at tag n text
+items_none tag n text =
+    let same : n - 0 ≡ n = omega arith in
+    front_none (items_at tag (n - 0) text) ∙ ap (λ (k : ℕ). items_at tag k text) same
 
 pub items_goes_on : (tag : Bool) (front : List Item) (most k : ℕ) (text behind more : List ℕ) (i : Item) (total : Option (List Item × List ℕ)) → k < most → item_at tag text ≡ Some (i, behind) → begins 44 behind ≡ true → more ≡ drop 1 behind
     → with_items front (items_at tag (most - k) text) ≡ total → with_items (front ++ i ∷ []) (items_at tag (most - (k + 1)) more) ≡ total

@@ -6,7 +6,7 @@ use Rattle.std.proofs.lemmas.Bool.{cases_lt, lt-ltb, le-ltb, leb-true}
 use Rattle.std.proofs.lemmas.List.Sums.{fold_more, fold-append}
 use Rattle.std.proofs.lemmas.List.{take-append-drop, length-drop}
 use Rattle.qd_ilp.specs.declared.value.TheConstants.{LIMIT, CAP}
-use Rattle.qd_ilp.specs.Value.{is_digit, number_of}
+use Rattle.qd_ilp.specs.Value.{is_digit, are_digits, number_of}
 
 abbrev step : ℕ → ℕ → ℕ
 step n b = if nat_lt n LIMIT then 10 * n + (b - 48) else CAP
@@ -98,3 +98,32 @@ list_all_left (x ∷ xs) ys all =
 
 pub list_all_take : (k : ℕ) (ds : List ℕ) → list_all is_digit ds ≡ true → list_all is_digit (take k ds) ≡ true
 list_all_take k ds all = list_all_left (take k ds) (drop k ds) (ap (λ (l : List ℕ). list_all is_digit l) (take-append-drop k ds) ∙ all)
+
+-- digits in two parts
+and_parts : (p q r : Bool) → (p && (q && r)) ≡ ((p && q) && r)
+and_parts true q r = refl
+and_parts false q r = refl
+
+all_parts : (xs ys : List ℕ) → list_all is_digit (xs ++ ys) ≡ (list_all is_digit xs && list_all is_digit ys)
+all_parts [] ys = refl
+all_parts (x ∷ xs) ys = ap (λ (b : Bool). is_digit x && b) (all_parts xs ys) ∙ and_parts (is_digit x) (list_all is_digit xs) (list_all is_digit ys)
+
+pub all_split : (k : ℕ) (ds : List ℕ) → list_all is_digit ds ≡ (list_all is_digit (take k ds) && list_all is_digit (drop k ds))
+all_split k ds = ap (list_all is_digit) (sym (take-append-drop k ds)) ∙ all_parts (take k ds) (drop k ds)
+
+pub some_digits : (ds : List ℕ) → 0 < length ds → are_digits ds ≡ list_all is_digit ds
+some_digits [] some = absurd (omega (arith, some))
+some_digits (d ∷ ds) some = refl
+
+pub no_digits : (ds : List ℕ) → length ds ≡ 0 → are_digits ds ≡ false
+no_digits [] none = refl
+no_digits (d ∷ ds) none = absurd (omega (arith, none))
+
+pub micros_are : (ds front last : List ℕ) (n : ℕ) → 3 ≤ length ds → front ≡ take (length ds - 3) ds → last ≡ drop (length ds - 3) ds → list_all is_digit front ≡ true → list_all is_digit last ≡ true → n ≡ min CAP (number_of front)
+    → (are_digits ds ≡ true) × (n ≡ min CAP (number_of ds / 1000))
+micros_are ds front last n long left right first rest is =
+    let k = length ds - 3 in
+    let all : list_all is_digit ds ≡ true =
+    all_split k ds ∙ ap (λ (b : Bool). b && list_all is_digit (drop k ds)) (ap (list_all is_digit) (sym left) ∙ first) ∙ (ap (list_all is_digit) (sym right) ∙ rest)
+    in
+    (some_digits ds (omega (arith, long)) ∙ all, is ∙ ap (λ (l : List ℕ). min CAP (number_of l)) left ∙ ap (λ (m : ℕ). min CAP m) (sym (thousandth ds long all)))

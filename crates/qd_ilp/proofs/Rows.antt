@@ -1,6 +1,6 @@
 -- Reading a line that gives a row.
-use Rattle.std.proofs.Common.{◌≡◌, ◌≢◌, ℕ, ◌+◌, ◌-◌, true, false, List, [], ◌∷◌, ◌++◌, length, length-append, take, drop, refl, sym, ap, subst, ◌∙◌, Option, Some, None, append_assoc, map, arith}
-use Rattle.std.specs.Prelude.{if◌then◌else◌, option_map}
+use Rattle.std.proofs.Common.{◌≡◌, ◌≢◌, ℕ, ◌+◌, ◌-◌, true, false, List, [], ◌∷◌, ◌++◌, length, length-append, length-drop, take, drop, refl, sym, ap, subst, ◌∙◌, Option, Some, None, append_assoc, map, arith}
+use Rattle.std.specs.Prelude.{if◌then◌else◌}
 use Rattle.std.specs.List.{AllByRecursion}
 use Rattle.std.proofs.lemmas.List.{drop_at, take_all, map-append}
 use Rattle.qd_ilp.specs.declared.stop.Stop.{Stop}
@@ -14,7 +14,20 @@ use Rattle.qd_ilp.specs.Line.{Item, Row, Rest, items_at, after_spaces, tail_at, 
 use Rattle.qd_ilp.specs.Kept.{Puts, bytes_in, item_in, moment_in, SpanFits, PairFits, PutsItems}
 use Rattle.qd_ilp.specs.Whole.{pairs_in, row_in, HeadFits}
 use Rattle.qd_ilp.proofs.Growing.{grows_twice}
+use Rattle.qd_ilp.proofs.Places.{drop_on}
 use Rattle.qd_ilp.proofs.Kepts.{empty_span, grow_pairs, each_append}
+
+-- tags
+pub tags_none : (text : List ℕ) → begins 44 text ≡ false → tags_at text ≡ Some ([], text)
+unfolding tags_at
+tags_none text h = rw h refl
+
+pub tags_behind : (text : List ℕ) (at : ℕ) → begins 44 (drop at text) ≡ true → tags_at (drop at text) ≡ items_at true (length text - (at + 1)) (drop (at + 1) text)
+unfolding tags_at
+tags_behind text at h =
+    let on = drop_on 1 at text in
+    let size : length (drop 1 (drop at text)) ≡ length text - (at + 1) = ap length (sym on) ∙ length-drop (at + 1) text in
+    rw h (ap (λ (k : ℕ). items_at true k (drop 1 (drop at text))) size ∙ ap (items_at true (length text - (at + 1))) (sym on))
 
 abbrev pub rest_of : List Item → Option Moment → List ℕ → Rest
 rest_of fields moment after = record { fields = fields; moment = moment; after = after }
@@ -24,19 +37,22 @@ pub fields_unspaced : (text : List ℕ) → begins 32 text ≡ false → fields_
 unfolding fields_at
 fields_unspaced text h = rw h refl
 
-pub fields_fault : (text rest : List ℕ) (e : Stop) → begins 32 text ≡ true → rest ≡ after_spaces text → Fails e (items_at false (length rest) rest) → Fails e (fields_at text)
-unfolding fields_at
-fields_fault text rest stop.Memory space here fails = tt
-fields_fault text rest stop.Syntax space here fails = rw (space, ← here, fails) refl
+sized : {A : Type 0} (f : ℕ → A) (n m : ℕ) (a : A) → n ≡ m → f n ≡ a → f m ≡ a
+sized f n m a same is = ap f (sym same) ∙ is
 
-pub fields_untailed : (text rest behind : List ℕ) (fields : List Item) → begins 32 text ≡ true → rest ≡ after_spaces text → items_at false (length rest) rest ≡ Some (fields, behind) → tail_at behind ≡ None → fields_at text ≡ None
+pub fields_fault : (text rest : List ℕ) (n : ℕ) (e : Stop) → begins 32 text ≡ true → rest ≡ after_spaces text → n ≡ length rest → Fails e (items_at false n rest) → Fails e (fields_at text)
 unfolding fields_at
-fields_untailed text rest behind fields space here items tail = rw (space, ← here, items, tail) refl
+fields_fault text rest n stop.Memory space here size fails = tt
+fields_fault text rest n stop.Syntax space here size fails = let fails' = sized (λ (k : ℕ). items_at false k rest) n (length rest) None size fails in rw (space, ← here, fails') refl
 
-pub fields_are : (text rest behind after : List ℕ) (fields : List Item) (moment : Option Moment) → begins 32 text ≡ true → rest ≡ after_spaces text → items_at false (length rest) rest ≡ Some (fields, behind) → Some (moment, after) ≡ tail_at behind
+pub fields_untailed : (text rest behind : List ℕ) (n : ℕ) (fields : List Item) → begins 32 text ≡ true → rest ≡ after_spaces text → n ≡ length rest → items_at false n rest ≡ Some (fields, behind) → tail_at behind ≡ None → fields_at text ≡ None
+unfolding fields_at
+fields_untailed text rest behind n fields space here size items tail = let items' = sized (λ (k : ℕ). items_at false k rest) n (length rest) (Some (fields, behind)) size items in rw (space, ← here, items', tail) refl
+
+pub fields_are : (text rest behind after : List ℕ) (n : ℕ) (fields : List Item) (moment : Option Moment) → begins 32 text ≡ true → rest ≡ after_spaces text → n ≡ length rest → items_at false n rest ≡ Some (fields, behind) → Some (moment, after) ≡ tail_at behind
     → fields_at text ≡ Some (rest_of fields moment after)
 unfolding fields_at
-fields_are text rest behind after fields moment space here items tail = rw (space, ← here, items, ← tail) refl
+fields_are text rest behind after n fields moment space here size items tail = let items' = sized (λ (k : ℕ). items_at false k rest) n (length rest) (Some (fields, behind)) size items in rw (space, ← here, items', ← tail) refl
 
 -- what stands behind the tags
 pub rest_tail : (text after : List ℕ) (moment : Option Moment) → Some (moment, after) ≡ tail_at text → rest_at text ≡ Some (rest_of [] moment after)
@@ -115,11 +131,11 @@ row_empty text table tags r goes empty = goes ∙ (rw empty refl)
 pub row_is : (t u : List ℕ) (is js : List Item) (m : Option Moment) → t ≡ u → is ≡ js → (let r : Row = record { table = t; items = is; moment = m } in r) ≡ record { table = u; items = js; moment = m }
 row_is t u is js m table items = ap (λ (x : List ℕ). let r : Row = record { table = x; items = is; moment = m } in r) table ∙ ap (λ (x : List Item). let r : Row = record { table = u; items = x; moment = m } in r) items
 
-pub row_done : (text table after bytes : List ℕ) (pairs : List Pair) (head : Head) (tags fields : List Item) → row_at text ≡ finished table tags (rest_of fields (option_map moment_in head.when) after) → is_empty (tags ++ fields) ≡ false
+pub row_done : (text table after bytes : List ℕ) (pairs : List Pair) (head : Head) (tags fields : List Item) → row_at text ≡ finished table tags (rest_of fields (moment_in head.when) after) → is_empty (tags ++ fields) ≡ false
     → bytes_in bytes head.table ≡ table → map (item_in bytes) (pairs_in pairs head) ≡ tags ++ fields → row_at text ≡ Some (row_in bytes pairs head, after)
 row_done text table after bytes pairs head tags fields goes some name items =
-    let one : finished table tags (rest_of fields (option_map moment_in head.when) after) ≡ Some (record { table = table; items = tags ++ fields; moment = option_map moment_in head.when }, after) = rw some refl in
-    goes ∙ one ∙ ap (λ (r : Row). let o : Option (Row × List ℕ) = Some (r, after) in o) (sym (row_is (bytes_in bytes head.table) table (map (item_in bytes) (pairs_in pairs head)) (tags ++ fields) (option_map moment_in head.when) name items))
+    let one : finished table tags (rest_of fields (moment_in head.when) after) ≡ Some (record { table = table; items = tags ++ fields; moment = moment_in head.when }, after) = rw some refl in
+    goes ∙ one ∙ ap (λ (r : Row). let o : Option (Row × List ℕ) = Some (r, after) in o) (sym (row_is (bytes_in bytes head.table) table (map (item_in bytes) (pairs_in pairs head)) (tags ++ fields) (moment_in head.when) name items))
 
 -- what is kept of a row lies within the buffers
 pub fits_head : (a b : List ℕ) (p q : List Pair) (is : List Item) (head : Head) → PutsItems a b p q is → SpanFits (length b) head.table → head.first ≡ length p → head.end ≡ length q → HeadFits b q head

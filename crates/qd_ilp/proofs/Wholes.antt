@@ -1,18 +1,18 @@
 -- Reading line after line.
-use Rattle.std.proofs.Common.{◌≡◌, ℕ, zero, suc, ◌+◌, ◌-◌, ◌<◌, ◌≤◌, Bool, true, false, List, [], ◌∷◌, ◌++◌, length, length-append, length-drop, take, drop, refl, sym, ap, subst, ◌∙◌, Option, Some, None, map, arith}
-use Rattle.std.specs.Prelude.{is_none, option_map, ◌||◌, ◌&&◌, ◌==◌}
+use Rattle.std.proofs.Common.{◌≡◌, ℕ, zero, suc, ◌+◌, ◌-◌, ◌<◌, ◌≤◌, Bool, true, false, List, [], ◌∷◌, ◌++◌, length, length-append, length-drop, take, drop, refl, sym, ap, subst, ◌∙◌, Option, Some, None, map, append_assoc, arith}
+use Rattle.std.specs.Prelude.{◌||◌, ◌&&◌, ◌==◌}
 use Rattle.std.specs.List.{AllByRecursion, list_any}
 use Rattle.std.proofs.lemmas.Bool.{eqb-false, eqb-true}
 use Rattle.std.proofs.lemmas.List.{take-append-le, drop-append-le, map-append}
-use Rattle.qd_ilp.specs.declared.value.When.{When}
 use Rattle.qd_ilp.specs.declared.item.Pair.{Pair}
 use Rattle.qd_ilp.specs.declared.row.Head.{Head}
+use Rattle.qd_ilp.specs.declared.row.KeptRow.{KeptRow}
 use Rattle.qd_ilp.specs.declared.row.KeptLine.{KeptLine}
 use Rattle.qd_ilp.specs.declared.row.KeptLine.TheVariants as kept
 use Rattle.qd_ilp.specs.Cut.{Grows}
-use Rattle.qd_ilp.specs.Line.{Line, Gives, read_line}
+use Rattle.qd_ilp.specs.Line.{Line, Blank, Gives, read_line}
 use Rattle.qd_ilp.specs.Kept.{bytes_in, item_in, moment_in, PairFits}
-use Rattle.qd_ilp.specs.Whole.{pairs_in, row_in, line_in, HeadFits, LineFits, BeginsWith, Reading, EndsSo, IsReading, is_timeless, is_timeless_kept, lacks_time}
+use Rattle.qd_ilp.specs.Whole.{pairs_in, row_in, line_in, blanks, lines_in, HeadFits, LineFits, RowFits, Adds, BatchFits, BeginsWith, Reading, EndsSo, IsReading, is_timeless, is_timeless_kept, lacks_time}
 use Rattle.qd_ilp.proofs.Kepts.{grow_span, grow_pairs, each_append}
 use Rattle.qd_ilp.specs.Grammar.{ReadsLine}
 use Rattle.qd_ilp.proofs.Grammars.{no_some, some_both, some}
@@ -31,7 +31,7 @@ grow_head a b p q head bytes pairs fits =
     let same = same_pairs p q head pairs fits.order fits.within in
     let table = grow_span a b head.table bytes fits.table in
     let each = grow_pairs a b (pairs_in p head) bytes fits.each in (
-      row_is (bytes_in b head.table) (bytes_in a head.table) (map (item_in b) (pairs_in q head)) (map (item_in a) (pairs_in p head)) (option_map moment_in head.when) table.0 (ap (map (item_in b)) same ∙ each.0),
+      row_is (bytes_in b head.table) (bytes_in a head.table) (map (item_in b) (pairs_in q head)) (map (item_in a) (pairs_in p head)) (moment_in head.when) table.0 (ap (map (item_in b)) same ∙ each.0),
       record {
         table = table.1;
         order = fits.order;
@@ -40,19 +40,50 @@ grow_head a b p q head bytes pairs fits =
       },
     )
 
-grow_line : (a b : List ℕ) (p q : List Pair) (line : KeptLine) → Grows a b → Grows p q → LineFits a p line → (line_in b q line ≡ line_in a p line) × LineFits b q line
-grow_line a b p q kept.Blank bytes pairs fits = (refl, tt)
-grow_line a b p q (kept.Row head) bytes pairs fits = let h = grow_head a b p q head bytes pairs fits in (ap Gives h.0, h.1)
-
 lines_are : (i j : Line) (is js : List Line) → i ≡ j → is ≡ js → i ∷ is ≡ j ∷ js
 lines_are i j is js head tail = ap (λ (x : Line). x ∷ is) head ∙ ap (λ (l : List Line). j ∷ l) tail
 
-pub grow_lines : (a b : List ℕ) (p q : List Pair) (lines : List KeptLine) → Grows a b → Grows p q → AllByRecursion (LineFits a p) lines → (map (line_in b q) lines ≡ map (line_in a p) lines) × AllByRecursion (LineFits b q) lines
-grow_lines a b p q [] bytes pairs fits = (refl, tt)
-grow_lines a b p q (line ∷ lines) bytes pairs fits =
-    let head = grow_line a b p q line bytes pairs fits.0 in
-    let tail = grow_lines a b p q lines bytes pairs fits.1 in
-    (lines_are (line_in b q line) (line_in a p line) (map (line_in b q) lines) (map (line_in a p) lines) head.0 tail.0, (head.1, tail.1))
+pub grow_rows : (a b : List ℕ) (p q : List Pair) (rows : List KeptRow) (n : ℕ) → Grows a b → Grows p q → AllByRecursion (RowFits a p) rows → (lines_in b q rows n ≡ lines_in a p rows n) × AllByRecursion (RowFits b q) rows
+grow_rows a b p q [] n bytes pairs fits = (refl, tt)
+grow_rows a b p q (row ∷ rows) n bytes pairs fits =
+    let head = grow_head a b p q row.head bytes pairs fits.0 in
+    let tail = grow_rows a b p q rows n bytes pairs fits.1 in
+    let same = lines_are (Gives (row_in b q row.head)) (Gives (row_in a p row.head)) (lines_in b q rows n) (lines_in a p rows n) (ap Gives head.0) tail.0 in
+    (ap (λ (ls : List Line). blanks row.blanks ++ ls) same, (head.1, tail.1))
+
+-- one line more
+blank_more : (n : ℕ) → blanks (suc n) ≡ blanks n ++ Blank ∷ []
+blank_more zero = refl
+blank_more (suc n) = ap (λ (ls : List Line). Blank ∷ ls) (blank_more n)
+
+lines_blank : (a : List ℕ) (p : List Pair) (rows : List KeptRow) (n : ℕ) → lines_in a p rows (suc n) ≡ lines_in a p rows n ++ Blank ∷ []
+lines_blank a p [] n = blank_more n
+lines_blank a p (row ∷ rows) n =
+    let r = Gives (row_in a p row.head) in
+    ap (λ (ls : List Line). blanks row.blanks ++ r ∷ ls) (lines_blank a p rows n) ∙ sym (append_assoc (blanks row.blanks) (r ∷ lines_in a p rows n) (Blank ∷ []))
+
+lines_row : (a : List ℕ) (p : List Pair) (rows : List KeptRow) (last : KeptRow) → lines_in a p (rows ++ last ∷ []) 0 ≡ lines_in a p rows last.blanks ++ Gives (row_in a p last.head) ∷ []
+lines_row a p [] last = refl
+lines_row a p (row ∷ rows) last =
+    let r = Gives (row_in a p row.head) in
+    ap (λ (ls : List Line). blanks row.blanks ++ r ∷ ls) (lines_row a p rows last) ∙ sym (append_assoc (blanks row.blanks) (r ∷ lines_in a p rows last.blanks) (Gives (row_in a p last.head) ∷ []))
+
+lines_added : (a : List ℕ) (p : List Pair) (rows rows' : List KeptRow) (n n' : ℕ) (line : KeptLine) → Adds rows n line rows' n' → lines_in a p rows' n' ≡ lines_in a p rows n ++ line_in a p line ∷ []
+lines_added a p rows rows' n n' kept.Blank adds =
+    let more : n' ≡ suc n = omega (arith, adds.1) in
+    ap (λ (rs : List KeptRow). lines_in a p rs n') adds.0 ∙ ap (lines_in a p rows) more ∙ lines_blank a p rows n
+lines_added a p rows rows' n n' (kept.Row head) adds =
+    ap (λ (rs : List KeptRow). lines_in a p rs n') adds.0 ∙ ap (lines_in a p (rows ++ record { blanks = n; head = head } ∷ [])) adds.1 ∙ lines_row a p rows (record { blanks = n; head = head })
+
+rows_added : (a : List ℕ) (p : List Pair) (rows rows' : List KeptRow) (n n' : ℕ) (line : KeptLine) → AllByRecursion (RowFits a p) rows → LineFits a p line → Adds rows n line rows' n' → AllByRecursion (RowFits a p) rows'
+rows_added a p rows rows' n n' kept.Blank all fits adds = let P : List KeptRow → Type 0 = AllByRecursion (RowFits a p) in subst P (sym adds.0) all
+rows_added a p rows rows' n n' (kept.Row head) all fits adds =
+    let P : List KeptRow → Type 0 = AllByRecursion (RowFits a p) in
+    subst P (sym adds.0) (each_append (RowFits a p) rows (record { blanks = n; head = head } ∷ []) all (fits, tt))
+
+behind_added : (rows rows' : List KeptRow) (n n' : ℕ) (line : KeptLine) → Adds rows n line rows' n' → n' ≤ n + 1
+behind_added rows rows' n n' kept.Blank adds = omega (arith, adds.1)
+behind_added rows rows' n n' (kept.Row head) adds = omega (arith, adds.1)
 
 pub one_more : (text : List ℕ) (lines : List Line) (line : Line) (rest behind : List ℕ) → BeginsWith text lines rest → 0 < length rest → ReadsLine rest line behind → BeginsWith text (lines ++ line ∷ []) behind
 one_more text [] line rest behind whole some read =
@@ -61,41 +92,51 @@ one_more text [] line rest behind whole some read =
 one_more text (l ∷ ls) line rest behind begins some read = (begins.0, begins.1, begins.2, one_more begins.1 ls line rest behind begins.3 some read)
 
 -- the step of a loop over lines
-pub record Step (text : List ℕ) (b : List ℕ) (q : List Pair) (lines : List KeptLine) (rest : List ℕ) : Type 0 where
-  pub so_far : BeginsWith text (map (line_in b q) lines) rest
-  pub fit : AllByRecursion (LineFits b q) lines
+pub record Step (text : List ℕ) (b : List ℕ) (q : List Pair) (rows : List KeptRow) (n next : ℕ) (rest : List ℕ) : Type 0 where
+  pub so_far : BeginsWith text (lines_in b q rows n) rest
+  pub fit : BatchFits b q rows n next
+  pub few : n + length rest ≤ length text
+  pub small : next + length rest ≤ length text + 1
 
-pub step_on : (text a b : List ℕ) (p q : List Pair) (lines lines' : List KeptLine) (line : KeptLine) (rest behind : List ℕ) → Step text a p lines rest → Grows a b → Grows p q → 0 < length rest → read_line rest ≡ Some (line_in b q line, behind) → LineFits b q line
-    → lines' ≡ lines ++ line ∷ [] → Step text b q lines' behind
-step_on text a b p q lines lines' line rest behind step bytes pairs some read fits pushed =
-    let grown = grow_lines a b p q lines bytes pairs step.fit in
+pub step_on : (text a b : List ℕ) (p q : List Pair) (rows rows' : List KeptRow) (n n' next next' : ℕ) (line : KeptLine) (rest behind : List ℕ) → Step text a p rows n next rest → Grows a b → Grows p q → length behind < length rest
+    → read_line rest ≡ Some (line_in b q line, behind) → LineFits b q line → Adds rows n line rows' n' → next' ≡ next + 1 → Step text b q rows' n' next' behind
+step_on text a b p q rows rows' n n' next next' line rest behind step bytes pairs shorter read fits adds number =
+    let grown = grow_rows a b p q rows n bytes pairs step.fit.each in
     let P : List Line → Type 0 = λ ls. BeginsWith text ls behind in
-    let Q : List KeptLine → Type 0 = AllByRecursion (LineFits b q) in
-    let more = one_more text (map (line_in a p) lines) (line_in b q line) rest behind step.so_far some (read_spelled rest (line_in b q line) behind read) in
-    let same : map (line_in b q) lines' ≡ map (line_in a p) lines ++ line_in b q line ∷ [] = ap (map (line_in b q)) pushed ∙ map-append (line_in b q) lines (line ∷ []) ∙ ap (λ (ls : List Line). ls ++ line_in b q line ∷ []) grown.0 in
+    let more = one_more text (lines_in a p rows n) (line_in b q line) rest behind step.so_far (omega (arith, shorter)) (read_spelled rest (line_in b q line) behind read) in
+    let same : lines_in b q rows' n' ≡ lines_in a p rows n ++ line_in b q line ∷ [] = lines_added b q rows rows' n n' line adds ∙ ap (λ (ls : List Line). ls ++ line_in b q line ∷ []) grown.0 in
+    let count : length (lines_in b q rows' n') ≡ length (lines_in a p rows n) + 1 = ap length same ∙ length-append (lines_in a p rows n) (line_in b q line ∷ []) in
+    let fewer = behind_added rows rows' n n' line adds in
     record {
       so_far = subst P (sym same) more;
-      fit = subst Q (sym pushed) (each_append (LineFits b q) lines (line ∷ []) grown.1 (fits, tt));
+      fit = record { each = rows_added b q rows rows' n n' line grown.1 fits adds; counted = omega (arith, number, step.fit.counted, count) };
+      few = omega (arith, fewer, step.few, shorter);
+      small = omega (arith, number, step.small, shorter);
     }
 
-pub step_fault : (text a b : List ℕ) (p q : List Pair) (lines : List KeptLine) (rest : List ℕ) → Step text a p lines rest → Grows a b → Grows p q → Step text b q lines rest
-step_fault text a b p q lines rest step bytes pairs =
-    let grown = grow_lines a b p q lines bytes pairs step.fit in
+pub step_fault : (text a b : List ℕ) (p q : List Pair) (rows : List KeptRow) (n next : ℕ) (rest : List ℕ) → Step text a p rows n next rest → Grows a b → Grows p q → Step text b q rows n next rest
+step_fault text a b p q rows n next rest step bytes pairs =
+    let grown = grow_rows a b p q rows n bytes pairs step.fit.each in
     let P : List Line → Type 0 = λ ls. BeginsWith text ls rest in
-    record { so_far = subst P (sym grown.0) step.so_far; fit = grown.1 }
+    record {
+      so_far = subst P (sym grown.0) step.so_far;
+      fit = record { each = grown.1; counted = step.fit.counted ∙ ap (λ (ls : List Line). length ls + 1) (sym grown.0) };
+      few = step.few;
+      small = step.small;
+    }
 
 -- lines without a stamp
-none_mapped : (o : Option When) → is_none (option_map moment_in o) ≡ is_none o
-none_mapped None = refl
-none_mapped (Some x) = refl
+no_blank : (n : ℕ) (ls : List Line) → list_any is_timeless (blanks n ++ ls) ≡ list_any is_timeless ls
+no_blank zero ls = refl
+no_blank (suc n) ls = no_blank n ls
 
-same_timeless : (a : List ℕ) (p : List Pair) (line : KeptLine) → is_timeless (line_in a p line) ≡ is_timeless_kept line
-same_timeless a p kept.Blank = refl
-same_timeless a p (kept.Row head) = none_mapped head.when
+no_blank_alone : (n : ℕ) → list_any is_timeless (blanks n) ≡ false
+no_blank_alone zero = refl
+no_blank_alone (suc n) = no_blank_alone n
 
-pub any_timeless : (a : List ℕ) (p : List Pair) (lines : List KeptLine) → list_any is_timeless (map (line_in a p) lines) ≡ list_any is_timeless_kept lines
-any_timeless a p [] = refl
-any_timeless a p (line ∷ lines) = ap (λ (b : Bool). b || list_any is_timeless (map (line_in a p) lines)) (same_timeless a p line) ∙ ap (λ (b : Bool). is_timeless_kept line || b) (any_timeless a p lines)
+pub any_timeless : (a : List ℕ) (p : List Pair) (rows : List KeptRow) (n : ℕ) → list_any is_timeless (lines_in a p rows n) ≡ list_any is_timeless_kept rows
+any_timeless a p [] n = no_blank_alone n
+any_timeless a p (row ∷ rows) n = no_blank row.blanks (Gives (row_in a p row.head) ∷ lines_in a p rows n) ∙ ap (λ (b : Bool). is_timeless_kept row || b) (any_timeless a p rows n)
 
 pub not_empty : (text : List ℕ) (b : Bool) → b ≡ (length text == 0) → b ≡ false → 0 < length text
 not_empty text b is not = let differ = eqb-false (length text) 0 (sym is ∙ not) in omega (arith, differ)
@@ -107,9 +148,8 @@ is_nothing (x ∷ xs) b is so = let same = eqb-true (length (x ∷ xs)) 0 (sym i
 abbrev reading_of : List Line → Bool → Reading
 reading_of lines whole = record { lines = lines; whole = whole }
 
-pub lacks_is : (a : List ℕ) (p : List Pair) (lines : List KeptLine) (whole b : Bool) (r : Reading) → reading_of (map (line_in a p) lines) whole ≡ r → whole ≡ true → b ≡ list_any is_timeless_kept lines → b ≡ lacks_time r
-lacks_is a p lines whole b r is all any =
-    any ∙ sym (any_timeless a p lines) ∙ ap (λ (w : Bool). w && list_any is_timeless (map (line_in a p) lines)) (sym all) ∙ ap lacks_time is
+pub lacks_is : (a : List ℕ) (p : List Pair) (rows : List KeptRow) (n : ℕ) (whole b : Bool) (r : Reading) → reading_of (lines_in a p rows n) whole ≡ r → whole ≡ true → b ≡ list_any is_timeless_kept rows → b ≡ lacks_time r
+lacks_is a p rows n whole b r is all any = any ∙ sym (any_timeless a p rows n) ∙ ap (λ (w : Bool). w && list_any is_timeless (lines_in a p rows n)) (sym all) ∙ ap lacks_time is
 
 pub no_line : (rest : List ℕ) → 0 < length rest → read_line rest ≡ None → EndsSo false rest
 no_line rest something unread = (something, λ line behind spelled. no_some (lined line behind) (sym unread ∙ read_is rest line behind spelled))

@@ -44,6 +44,14 @@ is_quoted_special b = b == 34 || b == 92 || b == 10 || b == 13
 abbrev pub is_plain : ℕ → Bool
 is_plain b = not (is_special b || b == 10 || b == 13)
 
+-- what ends no value that is no text
+abbrev pub is_inner : ℕ → Bool
+is_inner b = not (b == 44 || b == 32 || b == 10 || b == 13)
+
+-- what stands for itself in a quoted text, whatever stands behind it
+abbrev pub is_unquoted : ℕ → Bool
+is_unquoted b = not (b == 34 || b == 92)
+
 -- the first byte is a backslash, and makes the one behind it plain
 abbrev pub escapes : (ℕ → Bool) → List ℕ → Bool
 escapes special [] = false

@@ -1,5 +1,5 @@
 -- What a batch keeps of values, as the definitions have them: texts lie in one list of bytes.
-use Rattle.std.specs.Prelude.{◌≡◌, ℕ, ◌-◌, ◌≤◌, List, ◌++◌, take, drop, length, map}
+use Rattle.std.specs.Prelude.{◌≡◌, ℕ, ◌-◌, ◌≤◌, List, ◌++◌, take, drop, length, map, Option, Some, None}
 use Rattle.std.specs.List.{AllByRecursion}
 use Rattle.qd_ilp.specs.declared.value.Span.{Span}
 use Rattle.qd_ilp.specs.declared.value.Kept.{Kept}
@@ -32,15 +32,16 @@ ValueFits len (kept.Tag span) = SpanFits len span
 ValueFits len (kept.Text span) = SpanFits len span
 ValueFits len _ = Unit {0}
 
-abbrev pub moment_in : When → Moment
-moment_in (when.At micros) = At micros
-moment_in when.Outside = Outside
+abbrev pub moment_in : When → Option Moment
+moment_in when.Missing = None
+moment_in (when.At micros) = Some (At micros)
+moment_in when.Outside = Some Outside
 
--- a text was put at the end, and lies in this span
+-- the buffer has grown, or is the same, and a text lies in this span of it
 pub record Puts (before now : List ℕ) (span : Span) (text : List ℕ) : Type 0 where
-  pub whole : now ≡ before ++ text
-  pub start : span.start ≡ length before
-  pub finish : span.end ≡ length now
+  pub grows : Grows before now
+  pub is : bytes_in now span ≡ text
+  pub fits : SpanFits (length now) span
 
 abbrev pub item_in : List ℕ → Pair → Item
 item_in bytes pair = record { name = bytes_in bytes pair.name; value = value_in bytes pair.value }

@@ -1,7 +1,8 @@
 //! Where a part of a line ends, and the bytes that it stands for.
-ghost use Rattle.std.specs.Prelude.{◌≡◌, ℕ, List, ◌||◌, ◌+◌, ◌≤◌, ◌&&◌, ◌==◌, ◌++◌, [], ◌∷◌, not, false, take, drop, length, IfOk, OnOk, OnErr, MatchOption, true, if◌then◌else◌};
-ghost use Rattle.qd_ilp.specs.Cut.{at_end, begins, is_special, is_quoted_special, is_plain, stops, ends_word, escapes, cut, fronted, word, closed_behind, Gives, Grows};
+ghost use Rattle.std.specs.Prelude.{◌≡◌, ℕ, List, ◌||◌, ◌+◌, ◌≤◌, ◌&&◌, ◌==◌, ◌++◌, [], ◌∷◌, ◌-◌, ◌<◌, not, false, take, drop, length, IfOk, OnOk, OnErr, true, if◌then◌else◌};
+ghost use Rattle.qd_ilp.specs.Cut.{at_end, begins, is_special, is_quoted_special, is_plain, stops, ends_word, escapes, cut, fronted, word, closed, closed_behind, Gives, Grows};
 
+use crate::lanes::{inner_run, plain_run, unquoted_runs};
 use crate::stop::Stop;
 use qd_base::Memory;
 
@@ -25,16 +26,22 @@ pub(crate) fn begins_with(text: &[u8], byte: u8) -> bool
     }
 }
 
-/// The text behind a byte, where it begins with it.
-pub(crate) fn after(text: &[u8], byte: u8) -> Option<&[u8]>
-    ensures after { MatchOption result (begins byte text.now ≡ false)
-        (λ rest. (begins byte text.now ≡ true) × (rest.now ≡ drop 1 text.now) × (length rest.now + 1 ≡ length text.now)) }
+/// Whether a line ends at a place.
+pub(crate) fn ends_at(text: &[u8], at: usize) -> bool
+    requires within { at ≤ length text.now }
+    ensures ends { result ≡ at_end (drop at text.now) }
 {
-    if begins_with(text, byte) {
-        Some(behind(text, 1))
-    } else {
-        None
-    }
+    at_end(behind(text, at))
+}
+
+/// Whether this byte stands at a place.
+#[tactic(auto, using(crate::proofs::Places::begins_inside))]
+pub(crate) fn is_at(text: &[u8], at: usize, byte: u8) -> bool
+    requires within { at ≤ length text.now }
+    ensures begins { result ≡ begins byte (drop at text.now) }
+    ensures inside { result ≡ true → at < length text.now }
+{
+    begins_with(behind(text, at), byte)
 }
 
 /// The text from an offset on.
@@ -45,13 +52,25 @@ pub(crate) fn behind(text: &[u8], offset: usize) -> &[u8]
     text.split_at(offset).1
 }
 
+/// Where the first byte from a place on stands that may end a name or be a backslash.
+#[tactic(auto, using(crate::proofs::Places::drop_on))]
+pub(crate) fn plain_end(text: &[u8], at: usize) -> usize
+    requires within { at ≤ length text.now }
+    ensures onward { at ≤ result }
+    ensures inside { result ≤ length text.now }
+    ensures cut { cut false (drop at text.now) ≡ fronted (take (result - at) (drop at text.now)) (cut false (drop result text.now)) }
+{
+    at + plain_bytes(behind(text, at))
+}
+
 /// How many bytes stand for themselves, before the first that may end a name or be a backslash.
+#[tactic(auto, using(crate::proofs::Runs::cut_run))]
 fn plain_bytes(text: &[u8]) -> usize
     ensures within { result ≤ length text.now }
     ensures cut { cut false text.now ≡ fronted (take result text.now) (cut false (drop result text.now)) }
 {
-    for (i, byte) in text.iter().enumerate() {
-        if !is_plain(*byte) {
+    for i in plain_run(text)..text.len() {
+        if !is_plain(text[i]) {
             return i;
         }
     }
@@ -98,6 +117,14 @@ fn push_escaped<'a>(bytes: &mut Vec<u8>, text: &'a [u8]) -> Result<&'a [u8], Mem
     Ok(behind(text, text.len()))
 }
 
+/// Whether a name or a tag's value ends at a place.
+pub(crate) fn stops_at(text: &[u8], at: usize) -> bool
+    requires within { at ≤ length text.now }
+    ensures stops { result ≡ stops (drop at text.now) }
+{
+    stops(false, behind(text, at))
+}
+
 /// Whether a name or a tag's value ends here.
 fn stops(plain: bool, text: &[u8]) -> bool
     ensures stops { result ≡ (not plain && stops text.now) }
@@ -133,12 +160,25 @@ fn push_unless(left_out: bool, bytes: &mut Vec<u8>, byte: u8) -> Result<(), Memo
     Ok(())
 }
 
-/// Cuts a value that is no text: its bytes, and the text from its end on. It costs time linear in the value.
-pub(crate) fn split_word(text: &[u8]) -> (&[u8], &[u8])
+/// Cuts a value that is no text, from a place on: its bytes, and its end. It costs time linear in the value.
+#[tactic(auto, using(crate::proofs::Places::drop_on, crate::proofs::Places::word_rest))]
+pub(crate) fn split_word(text: &[u8], at: usize) -> (&[u8], usize)
+    requires within { at ≤ length text.now }
+    ensures word { word (drop at text.now) ≡ (result.0.now, drop result.1 text.now) }
+    ensures end { result.1 ≡ at + length result.0.now }
+    ensures inside { result.1 ≤ length text.now }
+{
+    let (word, _) = first_word(behind(text, at));
+    (word, at + word.len())
+}
+
+/// Cuts a value that is no text: its bytes, and the text from its end on.
+#[tactic(auto, using(crate::proofs::Runs::word_run))]
+fn first_word(text: &[u8]) -> (&[u8], &[u8])
     ensures word { word text.now ≡ (result.0.now, result.1.now) }
     ensures shorter { length result.0.now + length result.1.now ≡ length text.now }
 {
-    for i in 0..text.len() {
+    for i in inner_run(text)..text.len() {
         if ends_word(behind(text, i)) {
             return text.split_at(i);
         }
@@ -170,14 +210,26 @@ pub(crate) fn push_closed<'a>(bytes: &mut Vec<u8>, text: &'a [u8]) -> Result<&'a
     push_closed_escaped(bytes, rest)
 }
 
+/// Where the first quote or backslash from a place in a quoted text on stands.
+#[tactic(auto, using(crate::proofs::Places::drop_on))]
+pub(crate) fn unquoted_end(text: &[u8], at: usize) -> usize
+    requires within { at ≤ length text.now }
+    ensures onward { at ≤ result }
+    ensures inside { result ≤ length text.now }
+    ensures closed { closed false (drop at text.now) ≡ closed_behind (take (result - at) (drop at text.now)) false (drop result text.now) }
+{
+    at + unquoted_bytes(behind(text, at))
+}
+
 /// How many bytes of a quoted text stand for themselves, before the first quote or backslash.
+#[tactic(auto, using(crate::proofs::Runs::closed_run))]
 fn unquoted_bytes(text: &[u8]) -> usize
     ensures within { result ≤ length text.now }
     ensures closed { (front : List ℕ) → closed_behind front false text.now
         ≡ closed_behind (front ++ take result text.now) false (drop result text.now) }
 {
-    for (i, byte) in text.iter().enumerate() {
-        if is_quote_or_backslash(*byte) {
+    for i in unquoted_runs(text)..text.len() {
+        if is_quote_or_backslash(text[i]) {
             return i;
         }
     }

@@ -7,6 +7,7 @@
 mod batch;
 mod cut;
 mod item;
+mod lanes;
 mod laws;
 mod row;
 mod stop;

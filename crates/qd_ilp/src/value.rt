@@ -1,5 +1,5 @@
 //! What the value of a field says, and what a stamp does.
-ghost use Rattle.std.specs.Prelude.{◌≡◌, ℕ, ◌+◌, ◌-◌, ◌*◌, ◌/◌, ◌<◌, ◌≤◌, true, false, List, fold, nat_lt, if◌then◌else◌, MatchOption, min};
+ghost use Rattle.std.specs.Prelude.{◌≡◌, ℕ, ◌+◌, ◌-◌, ◌*◌, ◌/◌, ◌<◌, ◌≤◌, true, false, List, fold, nat_lt, if◌then◌else◌, MatchOption, min, IfOk, Some, ◌==◌, length};
 ghost use Rattle.std.specs.List.{list_all};
 ghost use Rattle.std.specs.Str.{bytes_eq};
 ghost use Rattle.qd_ilp.specs.Cut.{begins};
@@ -7,13 +7,24 @@ ghost use Rattle.qd_ilp.specs.Value.{is_true, is_false, is_digit, are_digits, nu
 ghost use Rattle.qd_ilp.specs.Kept.{value_in, moment_in, ValueFits};
 
 use crate::cut::{begins_with, behind};
-use qd_base::MAX_TIME;
+use qd_base::{MAX_TIME, Memory};
+use std::alloc::AllocError;
 
-/// Where a text lies in a batch's buffer.
+/// Where a text lies in a batch's buffer, which has fewer than 2^32 bytes.
 #[derive(Clone, Copy, Debug)]
 pub(crate) struct Span {
-    pub(crate) start: usize,
-    pub(crate) end: usize,
+    pub(crate) start: u32,
+    pub(crate) end: u32,
+}
+
+/// A place in a buffer of a batch, where it is one below 2^32; else memory is said to be out.
+pub(crate) fn place(index: usize) -> Result<u32, Memory>
+    ensures place { IfOk result (λ p. p ≡ index) }
+{
+    match u32::try_from(index) {
+        Ok(place) => Ok(place),
+        Err(_) => Err(AllocError),
+    }
 }
 
 /// What a batch keeps of a value.
@@ -33,9 +44,11 @@ pub(crate) enum Kept {
     Other,
 }
 
-/// What a stamp says.
+/// The stamp of a row.
 #[derive(Clone, Copy, Debug)]
 pub enum When {
+    /// It has none.
+    Missing,
     /// Microseconds since 1970-01-01T00:00Z, at most `MAX_TIME`.
     At(u64),
     /// A moment out of range.
@@ -60,8 +73,8 @@ pub(crate) fn bare(word: &[u8]) -> Kept
     if is_false(word) {
         return Kept::Truth(false);
     }
-    match digits_before_i(word) {
-        Some(digits) => long(begins_with(word, b'-'), capped(digits)),
+    match long_number(word) {
+        Some(number) => long(begins_with(word, b'-'), number),
         None => Kept::Other,
     }
 }
@@ -88,20 +101,44 @@ fn is(word: &[u8], text: &[u8]) -> bool
     word == text
 }
 
-/// The digits of an integer, where the word is one.
-fn digits_before_i(word: &[u8]) -> Option<&[u8]>
-    ensures long { MatchOption result (is_long word.now ≡ false) (λ digits. (is_long word.now ≡ true) × (digits.now ≡ long_digits word.now)) }
+/// The number of an integer without its sign, or `CAP` from there on, where the word is one.
+fn long_number(word: &[u8]) -> Option<u64>
+    ensures long { MatchOption result (is_long word.now ≡ false) (λ n. (is_long word.now ≡ true) × (n ≡ min CAP (number_of (long_digits word.now)))) }
 {
     let body = unsigned(word);
     if body.is_empty() {
         return None;
     }
     let (digits, last) = body.split_at(body.len() - 1);
-    if begins_with(last, b'i') && are_digits(digits) {
-        Some(digits)
-    } else {
-        None
+    if !begins_with(last, b'i') {
+        return None;
     }
+    some_number(digits)
+}
+
+/// The number that digits spell, or `CAP` from there on, where there are digits and nothing else.
+#[tactic(auto, using(crate::proofs::Numbers::some_digits, crate::proofs::Numbers::no_digits))]
+fn some_number(digits: &[u8]) -> Option<u64>
+    ensures number { MatchOption result (are_digits digits.now ≡ false) (λ n. (are_digits digits.now ≡ true) × (n ≡ min CAP (number_of digits.now))) }
+{
+    if digits.is_empty() {
+        return None;
+    }
+    number(digits)
+}
+
+/// The number that digits spell, or `CAP` from there on, where there is nothing but digits.
+fn number(word: &[u8]) -> Option<u64>
+    ensures number { MatchOption result (list_all is_digit word.now ≡ false) (λ n. (list_all is_digit word.now ≡ true) × (n ≡ min CAP (number_of word.now))) }
+{
+    let mut number = 0;
+    for byte in word {
+        if !is_digit(*byte) {
+            return None;
+        }
+        number = with_digit(number, *byte);
+    }
+    Some(number)
 }
 
 /// The word without its sign.
@@ -115,34 +152,10 @@ fn unsigned(word: &[u8]) -> &[u8]
     }
 }
 
-/// Whether there are digits and nothing else.
-fn are_digits(word: &[u8]) -> bool
-    ensures digits { result ≡ are_digits word.now }
-{
-    for byte in word {
-        if !is_digit(*byte) {
-            return false;
-        }
-    }
-    !word.is_empty()
-}
-
 fn is_digit(byte: u8) -> bool
     ensures digit { result ≡ is_digit byte }
 {
     b'0' <= byte && byte <= b'9'
-}
-
-/// The number that digits spell, or `CAP` from there on.
-fn capped(digits: &[u8]) -> u64
-    requires digits { list_all is_digit digits.now ≡ true }
-    ensures number { result ≡ min CAP (number_of digits.now) }
-{
-    let mut number = 0;
-    for digit in digits {
-        number = with_digit(number, *digit);
-    }
-    number
 }
 
 /// The number with one digit more.
@@ -171,31 +184,56 @@ fn long(negative: bool, number: u64) -> Kept
 /// Gives the moment of a stamp, where the word is one. It costs time linear in the word.
 #[tactic(auto, unfolding(crate::specs::Value::stamp))]
 pub(crate) fn stamp(word: &[u8]) -> Option<When>
-    ensures stamp { MatchOption result (is_stamp word.now ≡ false) (λ when. (is_stamp word.now ≡ true) × (moment_in when ≡ stamp word.now)) }
+    ensures stamp { MatchOption result (is_stamp word.now ≡ false) (λ when. (is_stamp word.now ≡ true) × (moment_in when ≡ Some (stamp word.now))) }
 {
     let digits = unsigned(word);
-    if !are_digits(digits) {
-        return None;
-    }
-    if begins_with(word, b'-') && capped(digits) != 0 {
+    let micros = micros(digits)?;
+    if begins_with(word, b'-') && !is_zero(digits) {
         return Some(When::Outside);
     }
-    Some(moment(micros(digits)))
+    Some(moment(micros))
 }
 
-/// The microseconds of nanoseconds, or `CAP` from there on.
-fn micros(nanos: &[u8]) -> u64
-    requires digits { list_all is_digit nanos.now ≡ true }
-    ensures micros { result ≡ min CAP (number_of nanos.now / 1000) }
+/// Whether digits spell 0.
+fn is_zero(digits: &[u8]) -> bool
+    requires digits { list_all is_digit digits.now ≡ true }
+    ensures zero { result ≡ (number_of digits.now == 0) }
+{
+    match number(digits) {
+        Some(number) => number == 0,
+        None => false,
+    }
+}
+
+/// The microseconds of fewer than 1,000 nanoseconds, of which there are none, where they are digits and nothing else.
+#[tactic(auto, using(crate::proofs::Numbers::few_digits))]
+fn few_nanos(nanos: &[u8]) -> Option<u64>
+    requires few { length nanos.now < 3 }
+    ensures micros { MatchOption result (are_digits nanos.now ≡ false) (λ n. (are_digits nanos.now ≡ true) × (n ≡ min CAP (number_of nanos.now / 1000))) }
+{
+    match some_number(nanos) {
+        Some(_) => Some(0),
+        None => None,
+    }
+}
+
+/// The microseconds of nanoseconds, or `CAP` from there on, where they are digits and nothing else.
+fn micros(nanos: &[u8]) -> Option<u64>
+    ensures micros { MatchOption result (are_digits nanos.now ≡ false) (λ n. (are_digits nanos.now ≡ true) × (n ≡ min CAP (number_of nanos.now / 1000))) }
 {
     if nanos.len() < 3 {
-        return 0;
+        return few_nanos(nanos);
     }
-    capped(nanos.split_at(nanos.len() - 3).0)
+    let (front, last) = nanos.split_at(nanos.len() - 3);
+    let micros = number(front)?;
+    match number(last) {
+        Some(_) => Some(micros),
+        None => None,
+    }
 }
 
 fn moment(micros: u64) -> When
-    ensures moment { moment_in result ≡ moment_of false (1000 * micros) }
+    ensures moment { moment_in result ≡ Some (moment_of false (1000 * micros)) }
 {
     if micros <= MAX_TIME {
         When::At(micros)

@@ -1,9 +1,11 @@
 //! What a batch lends of its lines, without copying.
-ghost use Rattle.std.specs.Prelude.{◌≡◌, ◌<◌, length, Some, slice_get, option_map};
+ghost use Rattle.std.specs.Prelude.{◌≡◌, ◌<◌, length, Some, slice_get};
 ghost use Rattle.qd_ilp.specs.Kept.{SpanFits, ValueFits, PairFits, bytes_in, value_in, item_in, moment_in};
 ghost use Rattle.qd_ilp.specs.View.{value_of, item_of};
+ghost use Rattle.qd_ilp.specs.Whole.{HeadFits, row_in};
 
 use crate::item::Pair;
+use crate::row::Head;
 use crate::value::{Kept, Span, When};
 use std::marker::Model;
 
@@ -39,17 +41,17 @@ pub struct RowView<'a> {
     pub(crate) bytes: &'a [u8],
     pub(crate) pairs: &'a [Pair],
     pub(crate) table: Span,
-    pub(crate) when: Option<When>,
+    pub(crate) when: When,
 }
 
 impl<'a> Model for RowView<'a> {
-    ghost use Rattle.std.specs.Prelude.{map, length, option_map, All};
+    ghost use Rattle.std.specs.Prelude.{map, length, All};
     ghost use Rattle.qd_ilp.specs.Line.{Row};
     ghost use Rattle.qd_ilp.specs.Kept.{SpanFits, PairFits, bytes_in, item_in, moment_in};
 
     ghost Value = { Row };
 
-    ghost view = { λ r. record { table = bytes_in r.bytes.now r.table; items = map (item_in r.bytes.now) r.pairs.now; moment = option_map moment_in r.when } };
+    ghost view = { λ r. record { table = bytes_in r.bytes.now r.table; items = map (item_in r.bytes.now) r.pairs.now; moment = moment_in r.when } };
 
     ghost invariant = { λ r. SpanFits (length r.bytes.now) r.table × All (PairFits (length r.bytes.now)) r.pairs.now };
 }
@@ -78,11 +80,24 @@ impl<'a> RowView<'a> {
         item_lent(self.bytes, self.pairs[i])
     }
 
-    /// Gives the stamp, where the line has one, in constant time.
-    pub fn moment(&self) -> Option<When>
-        ensures moment { option_map moment_in result ≡ self.now.moment }
+    /// Gives the stamp, or that the line has none, in constant time.
+    pub fn stamp(&self) -> When
+        ensures stamp { moment_in result ≡ self.now.moment }
     {
         self.when
+    }
+}
+
+/// Lends a row.
+pub(crate) fn row_lent<'a>(bytes: &'a [u8], pairs: &'a [Pair], head: Head) -> RowView<'a>
+    requires { HeadFits bytes.now pairs.now head }
+    ensures row { result ≡ row_in bytes.now pairs.now head }
+{
+    RowView {
+        bytes,
+        pairs: &pairs[head.first as usize..head.end as usize],
+        table: head.table,
+        when: head.when,
     }
 }
 
@@ -91,7 +106,7 @@ fn lent<'a>(bytes: &'a [u8], span: Span) -> &'a [u8]
     requires { SpanFits (length bytes.now) span }
     ensures bytes { result.now ≡ bytes_in bytes.now span }
 {
-    &bytes[span.start..span.end]
+    &bytes[span.start as usize..span.end as usize]
 }
 
 /// Lends a tag or a field.

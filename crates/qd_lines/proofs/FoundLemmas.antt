@@ -15,10 +15,14 @@ use Rattle.qd_ilp.specs.Transaction.{moment_of, columns_after, designated, with_
 use Rattle.qd_lines.specs.declared.codes.Place.{Place}
 use Rattle.qd_lines.specs.declared.draft.Draft.{Draft}
 use Rattle.qd_lines.specs.Drafts.{time_name, clashes_in, NamesSeen, AreTwice, TwiceSeen, Draws}
-use Rattle.qd_lines.specs.Codes.{outside, Finds, IsPlaceOf}
+use Rattle.qd_lines.specs.Codes.{moment_at, Finds, IsPlaceOf}
 
 pub decides_same : (b c : Bool) → b ≡ c → Decides b (c ≡ true)
 decides_same b c e = (λ t. sym e ∙ t, λ t. e ∙ t)
+
+pub flipped : (a b : Bool) → a ≡ not b → b ≡ not a
+flipped a true e = sym (ap not e)
+flipped a false e = sym (ap not e)
 
 -- a name that no table or column has
 named : (items : List Item) (table : List ℕ) (bad fair : Bool) → NamesSeen items bad → (fair ≡ true → IsTableName table) → (IsTableName table → fair ≡ true)
@@ -33,9 +37,16 @@ named items table false true h if_fair if_named = (
   ],
 )
 
-timed : (m : Moment) (b : Bool) → b ≡ outside m → Decides b (m ≡ Outside)
-timed (At micros) b e = (λ t. absurd (true≢false (sym t ∙ e)), λ s. absurd (true≢false (sym (ap outside s))))
-timed Outside b e = (λ t. refl, λ s. e)
+timed : (o : Option ℕ) (late : Bool) (m : Moment) → late ≡ is_none o → moment_at o ≡ m → Decides late (m ≡ Outside)
+timed None late m is e = (λ t. sym e, λ s. is)
+timed (Some micros) late m is e = (λ t. absurd (true≢false (sym t ∙ is)), λ s. absurd (at_outside (e ∙ s)))
+  where
+    at_outside : At micros ≡ Outside → ⊥
+    at_outside f = true≢false (ap is_at f)
+      where
+        is_at : Moment → Bool
+        is_at (At n) = true
+        is_at Outside = false
 
 fresh_table : {X : Type 0} (o : Option X) (fresh : Bool) (tables all : ℕ) → fresh ≡ is_none o → tables ≡ all → Decides (fresh && leb MAX_TABLES tables) (IsNone o × (MAX_TABLES ≤ all))
 fresh_table None true tables all e s = (λ t. (refl, let le : MAX_TABLES ≤ tables = leb-true MAX_TABLES tables t in omega arith), λ x. le-leb MAX_TABLES tables (omega (arith, x.1)))
@@ -80,25 +91,25 @@ module _ (schemas : List Schema) (cells now : ℕ) (row : Row) (p : Place) (d : 
       let same = known le in
       (λ t. let lt : MAX_BATCH_CELLS - cells < n = ltb-true (MAX_BATCH_CELLS - cells) n t in omega (arith, few, same), λ lt. lt-ltb (MAX_BATCH_CELLS - cells) n (omega (arith, few, same)))
 
-  pub finds : (fair out : Bool) → (fair ≡ true → IsTableName row.table) → (IsTableName row.table → fair ≡ true) → out ≡ outside (moment_of now row.moment)
+  pub finds : (fair late : Bool) (o : Option ℕ) → late ≡ is_none o → (fair ≡ true → IsTableName row.table) → (IsTableName row.table → fair ≡ true) → moment_at o ≡ moment_of now row.moment
       → Finds schemas cells now row (record {
         float = d.faults.float;
         huge = d.faults.huge;
         name = d.faults.name || not fair;
         clash = d.faults.clash;
-        time = out;
+        time = late;
         columns = ltb MAX_COLUMNS n;
         tables = p.fresh && leb MAX_TABLES p.tables;
         twice = d.faults.twice;
         long = d.faults.long;
         cells = ltb (MAX_BATCH_CELLS - cells) n;
       })
-  finds fair out if_fair if_named is_out = record {
+  finds fair late o none if_fair if_named is = record {
     float = decides_same d.faults.float _ draws.values.float;
     huge = decides_same d.faults.huge _ draws.values.huge;
     name = named row.items row.table d.faults.name fair draws.names if_fair if_named;
     clash = decides_same d.faults.clash _ (draws.clashes ∙ ap₂ (λ (cs : List Col) (t : List ℕ). list_any (clashes_in cs t) row.items) h.cols h.name);
-    time = timed (moment_of now row.moment) out is_out;
+    time = timed o late (moment_of now row.moment) none is;
     columns = too_many;
     tables = fresh_table (schema_of schemas row.table) p.fresh p.tables (length schemas) h.fresh h.tables;
     twice = λ e. twice_found (time_name p.columns) (designated (schema_of schemas row.table)) row.items d.faults.twice h.name (draws.few (let le : n ≤ MAX_COLUMNS = ltb-false MAX_COLUMNS n e in omega (arith, count))).names_twice;

@@ -1,22 +1,24 @@
 -- What one more line does to a walk.
-use Rattle.std.proofs.Common.{◌≡◌, ℕ, suc, ◌+◌, ◌≤◌, Bool, true, false, inl, inr, List, [], ◌∷◌, ◌++◌, Option, Some, None, Result, Ok, Err, OnOk, length, map, drop, get_or, refl, sym, ap, ap₂, ◌∙◌, arith, slice_get, subst, length-append, drop-cons, true≢false}
+use Rattle.std.proofs.Common.{◌≡◌, ℕ, zero, suc, ◌+◌, ◌≤◌, Bool, true, false, inl, inr, List, [], ◌∷◌, ◌++◌, Option, Some, None, Result, Ok, Err, OnOk, length, map, drop, get_or, refl, sym, ap, ap₂, ◌∙◌, arith, slice_get, subst, length-append, true≢false, le_of_suc-le-suc}
 use Rattle.std.specs.List.{fold}
 use Rattle.std.specs.Option.{is_none, IsNone}
 use Rattle.std.proofs.Math.Seq.{drop-append_seam}
-use Rattle.std.proofs.lemmas.List.{drop_all}
+use Rattle.std.proofs.lemmas.List.{append-nil}
 use Rattle.std.proofs.lemmas.List.Sums.{fold-append}
-use Rattle.std.proofs.lemmas.Option.{get_or_from_slice_get, slice_get_within, none-some}
+use Rattle.std.proofs.lemmas.Option.{get_or_from_slice_get, none-some}
 use Rattle.qd_base.specs.declared.cell.Cell.{Cell}
 use Rattle.qd_base.specs.declared.schema.Col.{Col}
 use Rattle.qd_base.specs.declared.schema.Schema.{Schema}
+use Rattle.qd_base.specs.declared.op.Entry.{Entry}
 use Rattle.qd_base.specs.declared.op.Op.{Op}
 use Rattle.qd_base.specs.declared.op.Op.TheVariants as op
 use Rattle.qd_base.specs.Schemas.{schema_of, schemas_step}
-use Rattle.qd_ilp.specs.Line.{Line, Row, Gives}
+use Rattle.qd_ilp.specs.Line.{Line, Row, Blank, Gives}
 use Rattle.qd_base.specs.declared.code.Code.{Code}
 use Rattle.qd_base.specs.declared.code.Code.TheVariants as code
-use Rattle.qd_ilp.specs.Whole.{Reading, faulty_line}
-use Rattle.qd_ilp.specs.Transaction.{Work, Refuses, Says, columns_after, columns_before, created, designated, joined, line_ops, stamp_column, with_items, work_in}
+use Rattle.qd_ilp.specs.Whole.{Reading, blanks, faulty_line}
+use Rattle.qd_ilp.specs.View.{behind_rows, rows_among}
+use Rattle.qd_ilp.specs.Transaction.{Work, LeastCode, Says, columns_after, columns_before, created, designated, joined, line_ops, stamp_column, with_items, work_in}
 use Rattle.qd_lines.specs.declared.codes.Place.{Place}
 use Rattle.qd_lines.specs.declared.draft.Draft.{Draft}
 use Rattle.qd_lines.specs.declared.walk.Walk.{Walk}
@@ -89,12 +91,6 @@ module _ (work : Work) (now : ℕ) (row : Row) (old new : Walk) (drawn : Drawn) 
             changes ∙ ap₂ (λ (ops : List Op) (xs : List Op). joined (fold joined ops xs) (op.Insert name (drawn.cells ∷ []))) h.changes adds ∙ ap₂ (λ (t : List ℕ) (r : List Cell). joined (fold joined work.ops new_columns) (op.Insert t (r ∷ []))) same cs ∙ sym (fold-append joined work.ops new_columns put),
           )
 
--- the lines from one on
-pub next_line : (lines : List Line) (i : ℕ) (l : Line) → slice_get lines i ≡ Some l → drop i lines ≡ l ∷ drop (i + 1) lines
-next_line lines i l got =
-    let next : suc i ≡ i + 1 = omega arith in
-    drop-cons lines i l (slice_get_within lines i l got) ∙ ap₂ (λ (x : Line) (k : ℕ). x ∷ drop k lines) (get_or_from_slice_get lines i l l got) next
-
 pub is_nothing : {X : Type 0} (o : Option X) → true ≡ is_none o → IsNone o
 is_nothing None e = refl
 is_nothing (Some x) e = absurd (true≢false e)
@@ -102,18 +98,52 @@ is_nothing (Some x) e = absurd (true≢false e)
 pub only_one : {X : Type 0} (xs : List X) (x y : X) → xs ≡ y ∷ [] → slice_get xs 0 ≡ Some x → x ≡ y
 only_one xs x y e got = sym (get_or_from_slice_get xs 0 x x got) ∙ ap (λ (zs : List _). get_or zs 0 x) e
 
-module _ (schemas : List Schema) (now : ℕ) (reading : Reading) (work : Work) (i : ℕ) (leads : Leads schemas now reading work (i + 1) (drop i reading.lines)) where
-  -- a line that is refused, and one that isn't
-  pub refused_here : (l : Line) (k : Code) → slice_get reading.lines i ≡ Some l → Refuses now work l k → SaysOf schemas now reading (Err (k, i + 1))
-  refused_here l k got refuses = leads (Err (k, i + 1)) (subst (λ (ls : List Line). Says now work (i + 1) ls reading.whole (Err (k, i + 1))) (sym (next_line reading.lines i l got)) (inl (k, refuses, refl)))
+-- lines that give no row change nothing
+pub passed_blanks : (schemas : List Schema) (now : ℕ) (reading : Reading) (work : Work) (n number : ℕ) (rest : List Line) → Leads schemas now reading work number (blanks n ++ rest) → Leads schemas now reading work (number + n) rest
+passed_blanks schemas now reading work zero number rest leads = subst (λ (k : ℕ). Leads schemas now reading work k rest) (omega arith) leads
+passed_blanks schemas now reading work (suc n) number rest leads =
+    subst (λ (k : ℕ). Leads schemas now reading work k rest) (omega arith) (passed_blanks schemas now reading work n (number + 1) rest (λ answer says. leads answer (inr (λ k x. x, says))))
 
-  pub passed_here : (l : Line) → slice_get reading.lines i ≡ Some l → ((k : Code) → Refuses now work l k → ⊥) → Leads schemas now reading (work_in now work l) (i + 1 + 1) (drop (i + 1) reading.lines)
-  passed_here l got none answer says = leads answer (subst (λ (ls : List Line). Says now work (i + 1) ls reading.whole answer) (sym (next_line reading.lines i l got)) (inr (none, says)))
+pub length_blanks : (n : ℕ) (rest : List Line) → length (blanks n ++ rest) ≡ n + length rest
+length_blanks zero rest = omega arith
+length_blanks (suc n) rest = let e = length_blanks n rest in omega arith
 
-  -- the first line outside the grammar
-  pub faulty_here : (line : ℕ) → i ≤ length reading.lines → length reading.lines ≤ i → Some line ≡ faulty_line reading → SaysOf schemas now reading (Err (code.LineSyntax, line))
-  faulty_here line upto from is = leads (Err (code.LineSyntax, line)) (subst (λ (ls : List Line). Says now work (i + 1) ls reading.whole (Err (code.LineSyntax, line))) (sym (drop_all i reading.lines from)) (go reading.whole is))
+-- behind the last row stand lines that give none
+pub only_blanks : (lines : List Line) (n : ℕ) → rows_among lines ≤ n → (k : ℕ) × (behind_rows n lines ≡ blanks k)
+only_blanks [] zero le = (0, refl)
+only_blanks [] (suc n) le = (0, refl)
+only_blanks (Blank ∷ ls) zero le = let h = only_blanks ls zero le in (suc h.0, ap (λ (xs : List Line). Blank ∷ xs) h.1)
+only_blanks (Blank ∷ ls) (suc n) le = only_blanks ls (suc n) le
+only_blanks (Gives row ∷ ls) zero le = absurd (omega arith)
+only_blanks (Gives row ∷ ls) (suc n) le = only_blanks ls n (le_of_suc-le-suc le)
+
+module _ (schemas : List Schema) (now : ℕ) (reading : Reading) (work : Work) (number : ℕ) where
+  -- a row that is refused, and one that isn't
+  pub refused_here : (row : Row) (rest : List Line) (k : Code) → Leads schemas now reading work number (Gives row ∷ rest) → LeastCode work.schemas work.cells now row k → SaysOf schemas now reading (Err (k, number))
+  refused_here row rest k leads least = leads (Err (k, number)) (inl (k, least, refl))
+
+  pub passed_here : (row : Row) (rest : List Line) → Leads schemas now reading work number (Gives row ∷ rest) → HasNone now work row → Leads schemas now reading (work_in now work (Gives row)) (number + 1) rest
+  passed_here row rest leads none answer says = leads answer (inr (λ k refused. none k refused.0, says))
+
+  -- the first line outside the grammar, and the end of a text without one
+  pub faulty_here : (line : ℕ) → Leads schemas now reading work number [] → number ≡ length reading.lines + 1 → Some line ≡ faulty_line reading → SaysOf schemas now reading (Err (code.LineSyntax, line))
+  faulty_here line leads at is = leads (Err (code.LineSyntax, line)) (go reading.whole is)
     where
-      go : (whole : Bool) → Some line ≡ faulty_line (record { lines = reading.lines; whole = whole }) → Says now work (i + 1) [] whole (Err (code.LineSyntax, line))
+      go : (whole : Bool) → Some line ≡ faulty_line (record { lines = reading.lines; whole = whole }) → Says now work number [] whole (Err (code.LineSyntax, line))
       go true e = absurd (none-some line (sym e))
-      go false e = let same : line ≡ length reading.lines + 1 = cc in ap (λ (n : ℕ). Err (code.LineSyntax, n)) (omega (arith, same, upto, from))
+      go false e = let same : line ≡ length reading.lines + 1 = cc in ap (λ (n : ℕ). Err (code.LineSyntax, n)) (omega (arith, same, at))
+
+  pub whole_here : (entry : Entry) → Leads schemas now reading work number [] → entry.ops ≡ work.ops → None ≡ faulty_line reading → SaysOf schemas now reading (Ok entry)
+  whole_here entry leads is none = leads (Ok entry) (go reading.whole none)
+    where
+      go : (whole : Bool) → None ≡ faulty_line (record { lines = reading.lines; whole = whole }) → Says now work number [] whole (Ok entry)
+      go true e = ap (λ (ops : List Op). Ok (record { ops = ops })) is
+      go false e = absurd (none-some (length reading.lines + 1) e)
+
+  -- nothing but lines that give no row is left
+  pub left_over : (n left : ℕ) → Leads schemas now reading work number (behind_rows n reading.lines) → rows_among reading.lines ≤ n → left ≡ length (behind_rows n reading.lines) → Leads schemas now reading work (number + left) []
+  left_over n left leads le size =
+      let h = only_blanks reading.lines n le in
+      let whole : behind_rows n reading.lines ≡ blanks h.0 ++ [] = h.1 ∙ sym (append-nil (blanks h.0)) in
+      let same : left ≡ h.0 = omega (arith, size, ap length whole, length_blanks h.0 []) in
+      subst (λ (k : ℕ). Leads schemas now reading work (number + k) []) (sym same) (passed_blanks schemas now reading work h.0 number [] (subst (Leads schemas now reading work number) whole leads))

@@ -14,10 +14,10 @@ use Rattle.qd_lines.specs.declared.codes.Found.{Found}
 use Rattle.qd_lines.specs.declared.codes.Place.{Place}
 use Rattle.qd_lines.specs.Drafts.{time_name}
 
--- a moment that is no timestamp
-abbrev pub outside : Moment → Bool
-outside (At micros) = false
-outside Outside = true
+-- a moment in microseconds, or none where it is no timestamp
+abbrev pub moment_at : Option ℕ → Moment
+moment_at None = Outside
+moment_at (Some micros) = At micros
 
 -- the first code that is found, in the order of their numbers
 abbrev pub first_of : Found → Option Code

@@ -2,14 +2,13 @@
 ghost use Rattle.std.specs.Prelude.{◌≡◌, ◌-◌, ◌≤◌, ◌&&◌, ℕ, List, length, nat_le, nat_lt, IfNone};
 ghost use Rattle.qd_base.specs.declared.limits.TheConstants.{MAX_BATCH_CELLS, MAX_COLUMNS, MAX_TABLES};
 ghost use Rattle.qd_base.specs.declared.schema.Schema.{Schema};
-ghost use Rattle.qd_ilp.specs.Kept.{moment_in};
 ghost use Rattle.qd_ilp.specs.Transaction.{moment_of};
-ghost use Rattle.qd_lines.specs.Codes.{first_of, outside, Finds, IsCodeOf, IsPlaceOf, KeepsTo};
+ghost use Rattle.qd_lines.specs.Codes.{first_of, moment_at, Finds, IsCodeOf, IsPlaceOf, KeepsTo};
 ghost use Rattle.qd_lines.specs.Drafts.{Draws};
 
 use crate::draft::{Columns, Draft};
 use qd_base::{Code, MAX_BATCH_CELLS, MAX_COLUMNS, MAX_TABLES, table_name_ok};
-use qd_ilp::{RowView, When};
+use qd_ilp::RowView;
 
 /// What a line finds of its table.
 #[derive(Clone, Copy)]
@@ -42,23 +41,23 @@ pub(crate) fn code_of(
     place: Place<'_>,
     row: &RowView<'_>,
     draft: &Draft,
-    when: When,
+    moment: Option<u64>,
     cells: u64,
 ) -> Option<Code>
     requires few { cells ≤ MAX_BATCH_CELLS }
     requires draws { Draws place.columns row.now.items draft.now }
-    ensures code { (schemas : List Schema) (now : ℕ) → IsPlaceOf schemas row.now place.entry → moment_in when ≡ moment_of now row.now.moment →
+    ensures code { (schemas : List Schema) (now : ℕ) → IsPlaceOf schemas row.now place.entry → moment_at moment ≡ moment_of now row.now.moment →
         IsCodeOf schemas cells now row.now result }
     ensures keeps { IfNone result (KeepsTo place.entry draft.now cells) }
 {
-    look(place, row, draft, when, cells).first()
+    look(place, row, draft, moment, cells).first()
 }
 
 /// Finds which codes a line has.
-fn look(place: Place<'_>, row: &RowView<'_>, draft: &Draft, when: When, cells: u64) -> Found
+fn look(place: Place<'_>, row: &RowView<'_>, draft: &Draft, moment: Option<u64>, cells: u64) -> Found
     requires few { cells ≤ MAX_BATCH_CELLS }
     requires draws { Draws place.columns row.now.items draft.now }
-    ensures found { (schemas : List Schema) (now : ℕ) → IsPlaceOf schemas row.now place.entry → moment_in when ≡ moment_of now row.now.moment →
+    ensures found { (schemas : List Schema) (now : ℕ) → IsPlaceOf schemas row.now place.entry → moment_at moment ≡ moment_of now row.now.moment →
         Finds schemas cells now row.now result }
     ensures limits { (result.columns ≡ nat_lt MAX_COLUMNS (length draft.now.marks.items)) × (result.cells ≡ nat_lt (MAX_BATCH_CELLS - cells) (length draft.now.marks.items))
         × (result.tables ≡ (place.entry.fresh && nat_le MAX_TABLES place.entry.tables)) × (result.twice ≡ draft.now.faults.twice) }
@@ -70,7 +69,7 @@ fn look(place: Place<'_>, row: &RowView<'_>, draft: &Draft, when: When, cells: u
         huge: draft.faults.huge,
         name: draft.faults.name | !fair,
         clash: draft.faults.clash,
-        time: is_outside(when),
+        time: moment.is_none(),
         columns: MAX_COLUMNS < columns,
         tables: place.fresh & (MAX_TABLES <= place.tables),
         twice: draft.faults.twice,
@@ -107,15 +106,5 @@ impl Found {
         } else {
             None
         }
-    }
-}
-
-/// Says whether a moment is no timestamp.
-fn is_outside(when: When) -> bool
-    ensures outside { result ≡ outside (moment_in when) }
-{
-    match when {
-        When::At(_) => false,
-        When::Outside => true,
     }
 }

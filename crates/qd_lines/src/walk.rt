@@ -5,9 +5,9 @@ ghost use Rattle.qd_base.specs.declared.schema.Schema.{Schema};
 ghost use Rattle.qd_base.specs.Lawful.{AreSchemas};
 ghost use Rattle.qd_ilp.specs.Kept.{moment_in};
 ghost use Rattle.qd_ilp.specs.Transaction as line;
-ghost use Rattle.qd_ilp.specs.Transaction.{Work, joined, moment_of, stamp_column, work_in};
+ghost use Rattle.qd_ilp.specs.Transaction.{Work, joined, stamp_column, work_in};
 ghost use Rattle.qd_ilp.specs.Line.{Row, Gives};
-ghost use Rattle.qd_lines.specs.Codes.{IsPlaceOf};
+ghost use Rattle.qd_lines.specs.Codes.{IsPlaceOf, moment_at};
 ghost use Rattle.qd_lines.specs.Drafts.{Usable};
 ghost use Rattle.qd_lines.specs.Overlays.{Covers};
 ghost use Rattle.qd_lines.specs.Walks.{Walks, IsDrawn, IsRowFault, HasNone, SaysOf, IsLineFault, schema_made};
@@ -63,18 +63,20 @@ pub fn entry_of(
     ensures refused { IfErr result (λ fault. IsLineFault schemas.now now batch.now fault) }
 {
     let mut walk = Walk::new(alloc, schemas)?;
-    for i in 0..batch.len() {
-        if let Some(row) = batch.row(i) {
-            match walk.take(&row, now) {
-                Ok(()) => {}
-                Err(RowFault::Code(code)) => {
-                    return Err(LineFault::Refused {
-                        code,
-                        line: i as u64 + 1,
-                    });
-                }
-                Err(RowFault::Memory) => return Err(LineFault::Memory),
+    let lines = batch.lines();
+    let mut left = lines;
+    for i in 0..batch.rows() {
+        let (blanks, row) = batch.row(i);
+        left -= blanks;
+        match walk.take(&row, now) {
+            Ok(()) => left -= 1,
+            Err(RowFault::Code(code)) => {
+                return Err(LineFault::Refused {
+                    code,
+                    line: lines - left + 1,
+                });
             }
+            Err(RowFault::Memory) => return Err(LineFault::Memory),
         }
     }
     match batch.faulty_line() {
@@ -125,14 +127,14 @@ impl<'a> Walk<'a> {
         ensures ok { (work : Work) → Walks self.old work → IfOk result (λ drawn. HasNone now work row.now × IsDrawn now work row.now self.new.draft drawn) }
         ensures err { (work : Work) → Walks self.old work → IfErr result (λ fault. IsRowFault now work row.now fault) }
     {
-        let when = when_of(row.moment(), now);
+        let moment = moment_of(row.stamp(), now);
         self.overlay.seek(row.table());
         let place = place_of(&self.overlay, &self.stamp, row.table());
         self.draft.draw(self.alloc, place.columns, row)?;
-        if let Some(code) = code_of(place, row, &self.draft, when, self.cells) {
+        if let Some(code) = code_of(place, row, &self.draft, moment, self.cells) {
             return Err(RowFault::Code(code));
         }
-        let cells = cells_of(self.alloc, place, &self.draft, row, micros_of(when))?;
+        let cells = cells_of(self.alloc, place, &self.draft, row, micros_of(moment))?;
         let fresh = place.fresh;
         Ok(Drawn { fresh, cells })
     }
@@ -167,29 +169,25 @@ pub(crate) struct Drawn {
     pub(crate) cells: Row,
 }
 
-/// Gives the moment of a line: its stamp, or else the given time.
-fn when_of(stamp: Option<When>, now: u64) -> When
-    ensures moment { moment_in result ≡ moment_of now (option_map moment_in stamp) }
+/// Gives the moment of a row in microseconds since 1970, its stamp or else the given time; none where that is no timestamp.
+fn moment_of(stamp: When, now: u64) -> Option<u64>
+    ensures moment { moment_at result ≡ line.moment_of now (moment_in stamp) }
 {
     match stamp {
-        Some(when) => when,
-        None => {
-            if now <= MAX_TIME {
-                When::At(now)
-            } else {
-                When::Outside
-            }
-        }
+        When::At(micros) => Some(micros),
+        When::Outside => None,
+        When::Missing if now <= MAX_TIME => Some(now),
+        When::Missing => None,
     }
 }
 
 /// Gives a moment in microseconds since 1970; 0 for one that is no timestamp.
-fn micros_of(when: When) -> u64
-    ensures micros { result ≡ line.micros_of (moment_in when) }
+fn micros_of(moment: Option<u64>) -> u64
+    ensures micros { result ≡ line.micros_of (moment_at moment) }
 {
-    match when {
-        When::At(micros) => micros,
-        When::Outside => 0,
+    match moment {
+        Some(micros) => micros,
+        None => 0,
     }
 }
 

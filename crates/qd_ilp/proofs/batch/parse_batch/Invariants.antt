@@ -1,9 +1,14 @@
-use Rattle.std.proofs.Common.{length}
+use Rattle.std.proofs.Common.{◌-◌, ◌≤◌, length, drop}
+use Rattle.qd_ilp.specs.Cut.{Grows}
 use Rattle.qd_ilp.proofs.Wholes.{Step}
 use Rattle.qd_ilp.proofs.batch.parse_batch.Given as goal
 
-abbrev pub invariant-loop-rest : goal.invariant-loop-rest
-invariant-loop-rest l = Step l.text l.bytes.items l.pairs.items l.lines.items l.rest
+abbrev pub invariant-loop-at : goal.invariant-loop-at
+invariant-loop-at l = record {
+  step : Step l.text l.bytes.items l.pairs.items l.rows.items l.behind l.number (drop l.at l.text);
+  begins : Grows l.text l.bytes.items;
+  inside : l.at ≤ length l.text;
+}
 
-abbrev pub decreases-loop-rest : goal.decreases-loop-rest
-decreases-loop-rest l = length l.rest
+abbrev pub decreases-loop-at : goal.decreases-loop-at
+decreases-loop-at l = length l.text - l.at

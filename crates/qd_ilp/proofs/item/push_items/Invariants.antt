@@ -1,4 +1,4 @@
-use Rattle.std.proofs.Common.{◌≡◌, ◌-◌, ◌≤◌, List, length}
+use Rattle.std.proofs.Common.{◌≡◌, ◌-◌, ◌≤◌, List, length, drop}
 use Rattle.qd_ilp.specs.Cut.{Grows}
 use Rattle.qd_ilp.specs.Line.{Item, items_at}
 use Rattle.qd_ilp.specs.Kept.{PutsItems}
@@ -9,8 +9,10 @@ abbrev pub invariant-loop : goal.invariant-loop
 invariant-loop l = record {
   items : List Item;
   puts : PutsItems l.fn.bytes.items l.bytes.items l.fn.pairs.items l.pairs.items items;
-  so_far : with_items items (items_at l.is_tag (length l.text - l.counter) l.rest) ≡ items_at l.is_tag (length l.text) l.text;
+  so_far : with_items items (items_at l.is_tag (length l.text - l.at - l.counter) (drop l.next l.text)) ≡ items_at l.is_tag (length l.text - l.at) (drop l.at l.text);
+  begins : Grows l.text l.bytes.items;
   grows : Grows l.fn.bytes.items l.bytes.items;
   pairs_grow : Grows l.fn.pairs.items l.pairs.items;
-  shorter : length l.rest ≤ length l.text;
+  onward : l.at ≤ l.next;
+  inside : l.next ≤ length l.text;
 }

@@ -1,14 +1,8 @@
-use Rattle.std.proofs.Common.{◌∙◌, ap, sym, List, ℕ}
-use Rattle.std.specs.Prelude.{min}
-use Rattle.qd_ilp.specs.Value.{number_of}
-use Rattle.qd_ilp.specs.declared.value.TheConstants.{CAP}
-use Rattle.qd_ilp.proofs.Numbers.{few_digits, thousandth}
+use Rattle.qd_ilp.proofs.Numbers.{micros_are}
 use Rattle.qd_ilp.proofs.value.micros.Goals as goal
 
-pub returns-then-nanos-lt3 : goal.returns-then-nanos-lt3
-returns-then-nanos-lt3 c = record { micros = ap (λ (n : ℕ). min CAP n) (sym (few_digits c.args.nanos.now c.if-nanos-lt3.true c.requires.digits)) }
-
-pub returns : goal.returns
-returns c = record {
-  micros = c.capped.ensures.number ∙ ap (λ (l : List ℕ). min CAP (number_of l)) c.split_at.ensures.front ∙ ap (λ (n : ℕ). min CAP n) (sym (thousandth c.args.nanos.now c.if-nanos-lt3.false c.requires.digits));
+pub returns-in-Some : goal.returns-in-Some
+returns-in-Some c = record {
+  micros =
+      micros_are c.args.nanos.now c.split_at.result.0.now c.split_at.result.1.now c.in_ok-micros.micros c.if-nanos-lt3.false c.split_at.ensures.front c.split_at.ensures.back c.in_ok-micros.ensures.number.0 c.in-Some.ensures.number.0 c.in_ok-micros.ensures.number.1;
 }

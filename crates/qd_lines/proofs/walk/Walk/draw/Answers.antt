@@ -1,5 +1,5 @@
+use Rattle.qd_lines.specs.Codes.{moment_at}
 use Rattle.std.proofs.Common.{◌≡◌, ◌∙◌, ℕ, sym, ap, subst, arith}
-use Rattle.qd_ilp.specs.Kept.{moment_in}
 use Rattle.qd_ilp.specs.Transaction.{HasCode, moment_of, micros_of}
 use Rattle.qd_lines.proofs.WalkLemmas.{columns_drawn, count_drawn, alone_drawn}
 use Rattle.qd_lines.proofs.walk.Walk.draw.Goals as goal
@@ -9,7 +9,7 @@ returns-clause-ok c work h =
     let row = c.args.row.now in
     let now = c.args.now in
     let place = c.place_of-place.ensures.place work.schemas row (c.seek.ensures.all work.schemas h.covers) (sym c.table-2.ensures.table) in
-    let moment : moment_in c.when_of-when.result ≡ moment_of now row.moment = c.when_of-when.ensures.moment ∙ ap (moment_of now) c.moment.ensures.moment in
+    let moment : moment_at c.moment_of-moment.result ≡ moment_of now row.moment = c.moment_of-moment.ensures.moment ∙ ap (moment_of now) c.stamp.ensures.stamp in
     let code = c.in_default.ensures.code work.schemas now place moment in
     let keeps = c.in_default.ensures.keeps in
     let draws = c.in_ok-draw.ensures.draws in

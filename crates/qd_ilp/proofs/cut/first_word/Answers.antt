@@ -1,6 +1,6 @@
 use Rattle.std.proofs.Common.{◌∙◌, sym}
 use Rattle.qd_ilp.proofs.Cuts.{word_more, word_done, word_over, pair_is}
-use Rattle.qd_ilp.proofs.cut.split_word.Goals as goal
+use Rattle.qd_ilp.proofs.cut.first_word.Goals as goal
 
 pub loop-i-preserved : goal.loop-i-preserved
 loop-i-preserved c =

@@ -11,3 +11,7 @@ pub mod CleanLemmas
 pub mod AnswerLemmas
 pub mod ColumnLemmas
 pub mod SchemaLemmas
+pub mod RowLemmas
+pub mod JoinLemmas
+pub mod LawfulLemmas
+pub mod ReadableLemmas

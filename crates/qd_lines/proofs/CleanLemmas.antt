@@ -1,8 +1,8 @@
 -- What a line without a code is.
-use Rattle.std.proofs.Common.{◌≡◌, ℕ, ◌+◌, ◌<◌, ◌≤◌, ◌⊎◌, inl, inr, Bool, true, false, List, [], ◌∷◌, Option, Some, None, length, refl, sym, arith, true≢false, Contains, IfSome}
+use Rattle.std.proofs.Common.{◌≡◌, ℕ, ◌+◌, ◌<◌, ◌≤◌, ◌⊎◌, inl, inr, Bool, true, false, List, [], ◌∷◌, Option, Some, None, length, refl, true≢false, Contains}
 use Rattle.std.specs.Bool.{Decides}
 use Rattle.std.specs.List.{AllByRecursion, IsDistinct, list_any}
-use Rattle.std.specs.Option.{is_some, is_none, IsNone}
+use Rattle.std.specs.Option.{IsNone}
 use Rattle.std.proofs.lemmas.Bool.{cases_lt}
 use Rattle.std.proofs.lemmas.List.Elements.{All-contains, All-from_recursion}
 use Rattle.qd_base.specs.declared.limits.TheConstants.{MAX_BATCH_CELLS, MAX_COLUMNS, MAX_TABLES}
@@ -15,9 +15,9 @@ use Rattle.qd_ilp.specs.Value.{Moment, At, Outside}
 use Rattle.qd_ilp.specs.Line.{Item, Row}
 use Rattle.qd_ilp.specs.Transaction.{HasCode, LeastCode, clashes, columns_after, designated, is_float, is_huge, is_long_text, moment_of}
 use Rattle.qd_lines.specs.declared.codes.Found.{Found}
-use Rattle.qd_lines.specs.Codes.{Finds, IsCodeOf, first_of}
+use Rattle.qd_lines.specs.Codes.{IsCodeOf, first_of}
 use Rattle.qd_lines.proofs.CodeLemmas.{code_is}
-use Rattle.qd_lines.proofs.DecisionLemmas.{Decided, told, both_decided, one_decided, not_decided, true_decided, le_decided, lt_decided, distinct_decided, column_name_decided, table_name_decided, items_named}
+use Rattle.qd_lines.proofs.DecisionLemmas.{Decided, told, both_decided, one_decided, not_decided, true_decided, le_decided, lt_decided, distinct_decided, table_name_decided, items_named}
 
 -- ---- a line has a least code, or none
 
@@ -35,7 +35,7 @@ name_decided table items = go (table_name_decided table) (items_named items)
     go : Decided (IsTableName table) → AllByRecursion (λ (i : Item). IsColumnName i.name) items ⊎ ((item : Item) × Contains items item × (IsColumnName item.name → ⊥)) → Decided ((IsTableName table → ⊥) ⊎ ((item : Item) × Contains items item × (IsColumnName item.name → ⊥)))
     go (inr f) d = inl (inl f)
     go (inl h) (inr w) = inl (inr w)
-    go (inl h) (inl all) = inr (λ x. elim x [ | inl f ↦ f h | inr w ↦ w.2 (All-contains (λ (i : Item). IsColumnName i.name) items w.0 (All-from_recursion (λ (i : Item). IsColumnName i.name) items all) w.1) ])
+    go (inl h) (inl all) = inr (λ x. elim x [ inl f ↦ f h | inr w ↦ w.2 (All-contains (λ (i : Item). IsColumnName i.name) items w.0 (All-from_recursion (λ (i : Item). IsColumnName i.name) items all) w.1) ])
 
 module _ (schemas : List Schema) (cells now : ℕ) (row : Row) where
   -- the line has no code
@@ -69,8 +69,8 @@ module _ (schemas : List Schema) (cells now : ℕ) (row : Row) where
   twice_told : (b : Bool) × Decides b (HasCode schemas cells now row code.DuplicateColumn)
   twice_told = told (HasCode schemas cells now row code.DuplicateColumn)
       (one_decided (IsDistinct (λ (i j : Item). same_name i.name j.name) row.items → ⊥) (list_any (λ (i : Item). same_name (designated table) i.name) row.items ≡ true)
-        (not_decided (IsDistinct (λ (i j : Item). same_name i.name j.name) row.items) (distinct_decided (λ (i j : Item). same_name i.name j.name) row.items))
-        (true_decided (list_any (λ (i : Item). same_name (designated table) i.name) row.items)))
+      (not_decided (IsDistinct (λ (i j : Item). same_name i.name j.name) row.items) (distinct_decided (λ (i j : Item). same_name i.name j.name) row.items))
+      (true_decided (list_any (λ (i : Item). same_name (designated table) i.name) row.items)))
 
   long_told : (b : Bool) × Decides b (HasCode schemas cells now row code.TextTooLong)
   long_told = told (HasCode schemas cells now row code.TextTooLong) (true_decided (list_any (λ (i : Item). is_long_text i.value) row.items))
@@ -117,7 +117,7 @@ unless P (inl p) f = p
 unless P (inr n) f = absurd (f n)
 
 upto : (a b : ℕ) → (a < b → ⊥) → b ≤ a
-upto a b f = elim (cases_lt a b) [ | inl lt ↦ absurd (f lt) | inr le ↦ le ]
+upto a b f = elim (cases_lt a b) [ inl lt ↦ absurd (f lt) | inr le ↦ le ]
 
 pub record Clean (schemas : List Schema) (cells now : ℕ) (row : Row) : Type 0 where
   pub float : AllByRecursion (λ (i : Item). is_float i.value ≡ false) row.items
@@ -140,7 +140,7 @@ clean schemas cells now row h = record {
   fits = none_any (clashes (schema_of schemas row.table)) row.items (h code.TypeClash);
   time = h code.TimeRange;
   columns = upto MAX_COLUMNS (length (columns_after (schema_of schemas row.table) row)) (h code.Columns);
-  tables = λ none. elim (cases_lt (length schemas) MAX_TABLES) [ | inl lt ↦ lt | inr le ↦ absurd (h code.Tables (none, le)) ];
+  tables = λ none. elim (cases_lt (length schemas) MAX_TABLES) [ inl lt ↦ lt | inr le ↦ absurd (h code.Tables (none, le)) ];
   distinct = unless (IsDistinct (λ (i j : Item). same_name i.name j.name) row.items) (distinct_decided (λ (i j : Item). same_name i.name j.name) row.items) (λ f. h code.DuplicateColumn (inl f));
   others = none_any (λ (i : Item). same_name (designated (schema_of schemas row.table)) i.name) row.items (λ t. h code.DuplicateColumn (inr t));
   short = none_any (λ (i : Item). is_long_text i.value) row.items (h code.TextTooLong);

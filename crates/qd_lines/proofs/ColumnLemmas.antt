@@ -1,6 +1,6 @@
 -- The columns that the tags and fields of a line add.
-use Rattle.std.proofs.Common.{◌≡◌, ℕ, zero, suc, ◌+◌, ◌<◌, ◌≤◌, ◌||◌, Bool, true, false, cond, ltb, List, [], ◌∷◌, ◌++◌, Option, Some, None, length, refl, sym, ap, ◌∙◌, arith, length-append, append_assoc}
-use Rattle.std.specs.List.{AllByRecursion, IsDistinct, fold, list_any, position, position_or_len}
+use Rattle.std.proofs.Common.{◌≡◌, ◌+◌, ◌<◌, ◌≤◌, ◌||◌, Bool, true, false, cond, ltb, List, [], ◌∷◌, ◌++◌, Some, None, length, refl, sym, ap, ◌∙◌, arith, length-append, append_assoc}
+use Rattle.std.specs.List.{AllByRecursion, IsDistinct, list_any, position, position_or_len}
 use Rattle.std.specs.Option.{is_some, IsNone}
 use Rattle.std.proofs.lemmas.List.{append-nil}
 use Rattle.qd_base.specs.declared.limits.TheConstants.{MAX_COLUMNS}

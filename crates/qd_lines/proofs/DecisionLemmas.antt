@@ -1,5 +1,5 @@
 -- Which facts of names are so or aren't.
-use Rattle.std.proofs.Common.{◌≡◌, ◌≢◌, ℕ, zero, suc, ◌-◌, ◌<◌, ◌≤◌, ◌⊎◌, inl, inr, Bool, true, false, List, [], ◌∷◌, length, get_or, refl, sym, ◌∙◌, subst, arith, true≢false, All, Contains}
+use Rattle.std.proofs.Common.{◌≡◌, ◌≢◌, ℕ, zero, suc, ◌-◌, ◌<◌, ◌≤◌, ◌⊎◌, inl, inr, Bool, true, false, List, [], ◌∷◌, length, refl, sym, subst, arith, true≢false, All, Contains}
 use Rattle.std.specs.Prelude.{slice_index}
 use Rattle.std.specs.Bool.{Decides}
 use Rattle.std.specs.Str.{IsUtf8, is_utf8}
@@ -29,7 +29,7 @@ both_decided P Q (inr f) d = inr (λ h. f h.0)
 pub one_decided : (P Q : Type 0) → Decided P → Decided Q → Decided (P ⊎ Q)
 one_decided P Q (inl p) d = inl (inl p)
 one_decided P Q (inr f) (inl q) = inl (inr q)
-one_decided P Q (inr f) (inr g) = inr (λ h. elim h [ | inl p ↦ f p | inr q ↦ g q ])
+one_decided P Q (inr f) (inr g) = inr (λ h. elim h [ inl p ↦ f p | inr q ↦ g q ])
 
 pub not_decided : (P : Type 0) → Decided P → Decided (P → ⊥)
 not_decided P (inl p) = inr (λ f. f p)
@@ -53,13 +53,13 @@ false_decided true = inr (λ e. true≢false e)
 false_decided false = inl refl
 
 pub le_decided : (a b : ℕ) → Decided (a ≤ b)
-le_decided a b = elim (cases_lt b a) [ | inl lt ↦ inr (λ le. omega arith) | inr le ↦ inl le ]
+le_decided a b = elim (cases_lt b a) [ inl lt ↦ inr (λ le. omega arith) | inr le ↦ inl le ]
 
 pub lt_decided : (a b : ℕ) → Decided (a < b)
-lt_decided a b = elim (cases_lt a b) [ | inl lt ↦ inl lt | inr le ↦ inr (λ lt. omega arith) ]
+lt_decided a b = elim (cases_lt a b) [ inl lt ↦ inl lt | inr le ↦ inr (λ lt. omega arith) ]
 
 equal_decided : (a b : ℕ) → Decided (a ≡ b)
-equal_decided a b = elim (eqb_tells a b) [ | inl e ↦ inl e.1 | inr e ↦ inr e.1 ]
+equal_decided a b = elim (eqb_tells a b) [ inl e ↦ inl e.1 | inr e ↦ inr e.1 ]
 
 pub each_decided : {X : Type 0} (P : X → Type 0) → ((x : X) → Decided (P x)) → (xs : List X) → Decided (AllByRecursion P xs)
 each_decided P d [] = inl tt
@@ -76,7 +76,7 @@ below_decided P d zero = inl (λ i lt. absurd (omega arith))
 below_decided P d (suc n) = go (below_decided P d n) (d n)
   where
     go : Decided ((i : ℕ) → i < n → P i) → Decided (P n) → Decided ((i : ℕ) → i < suc n → P i)
-    go (inl f) (inl p) = inl (λ i lt. elim (cases_lt i n) [ | inl below ↦ f i below | inr upto ↦ subst P (let e : n ≡ i = omega arith in e) p ])
+    go (inl f) (inl p) = inl (λ i lt. elim (cases_lt i n) [ inl below ↦ f i below | inr upto ↦ subst P (let e : n ≡ i = omega arith in e) p ])
     go (inl f) (inr g) = inr (λ h. g (h n (omega arith)))
     go (inr f) q = inr (λ h. f (λ i lt. h i (omega arith)))
 
@@ -97,8 +97,8 @@ apart_decided : (name : List ℕ) → Decided (IsApart name)
 apart_decided name =
     same_decided (((i : ℕ) → i < length name → IsBehind name i) × (slice_index name (length name - 1) ≢ 46)) (IsApart name) (λ h. record { each = h.0; last = h.1 }) (λ h. (h.each, h.last))
     (both_decided ((i : ℕ) → i < length name → IsBehind name i) (slice_index name (length name - 1) ≢ 46)
-      (below_decided (IsBehind name) (λ i. then_decided (slice_index name i ≡ 46) ((0 < i) × (slice_index name (i - 1) ≢ 46)) (equal_decided (slice_index name i) 46) (both_decided (0 < i) (slice_index name (i - 1) ≢ 46) (lt_decided 0 i) (not_decided (slice_index name (i - 1) ≡ 46) (equal_decided (slice_index name (i - 1)) 46)))) (length name))
-      (not_decided (slice_index name (length name - 1) ≡ 46) (equal_decided (slice_index name (length name - 1)) 46)))
+    (below_decided (IsBehind name) (λ i. then_decided (slice_index name i ≡ 46) ((0 < i) × (slice_index name (i - 1) ≢ 46)) (equal_decided (slice_index name i) 46) (both_decided (0 < i) (slice_index name (i - 1) ≢ 46) (lt_decided 0 i) (not_decided (slice_index name (i - 1) ≡ 46) (equal_decided (slice_index name (i - 1)) 46)))) (length name))
+    (not_decided (slice_index name (length name - 1) ≡ 46) (equal_decided (slice_index name (length name - 1)) 46)))
 
 abbrev Sized : List ℕ → Type 0
 Sized name = (1 ≤ length name) × ((length name ≤ MAX_NAME_BYTES) × IsUtf8 name)

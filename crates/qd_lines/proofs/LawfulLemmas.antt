@@ -1,11 +1,11 @@
 -- What lines do is lawful, one by one and all together.
-use Rattle.std.proofs.Common.{◌≡◌, ℕ, ◌+◌, ◌<◌, ◌≤◌, inl, inr, ◌⊎◌, Bool, true, false, cond, List, [], ◌∷◌, ◌++◌, Option, Some, None, IfSome, IsSome, All, Result, Ok, Err, length, map, drop, refl, sym, ap, ◌∙◌, subst, arith, fold}
+use Rattle.std.proofs.Common.{◌≡◌, ℕ, ◌+◌, ◌≤◌, inl, inr, Bool, true, false, cond, List, [], ◌∷◌, ◌++◌, Option, Some, None, Result, Ok, Err, length, map, drop, refl, sym, ap, ◌∙◌, subst, arith, fold}
 use Rattle.std.specs.Prelude.{codes}
-use Rattle.std.specs.List.{AllByRecursion, IsDistinct, find, sum_by}
+use Rattle.std.specs.List.{AllByRecursion, sum_by}
 use Rattle.std.proofs.lemmas.List.{length-map}
 use Rattle.std.proofs.lemmas.List.Elements.{All-from_recursion}
 use Rattle.std.proofs.lemmas.List.Sums.{sum_by-cons, sum_by-append}
-use Rattle.qd_base.specs.declared.limits.TheConstants.{MAX_BATCH_CELLS, MAX_TIME}
+use Rattle.qd_base.specs.declared.limits.TheConstants.{MAX_BATCH_CELLS}
 use Rattle.qd_base.specs.declared.cell.Cell.{Cell}
 use Rattle.qd_base.specs.declared.code.Code.{Code}
 use Rattle.qd_base.specs.declared.schema.Col.{Col}
@@ -14,12 +14,12 @@ use Rattle.qd_base.specs.declared.op.Op.{Op}
 use Rattle.qd_base.specs.declared.op.Op.TheVariants as op
 use Rattle.qd_base.specs.declared.op.Entry.{Entry}
 use Rattle.qd_base.specs.Rows.{Row as Cells}
-use Rattle.qd_base.specs.Schemas.{same_name, schema_of, schemas_step, Fits}
-use Rattle.qd_base.specs.Lawful.{AreLawful, AreSchemas, IsRowOf, IsSound, cells_in, cells_of}
+use Rattle.qd_base.specs.Schemas.{same_name, schema_of, schemas_step}
+use Rattle.qd_base.specs.Lawful.{AreLawful, AreSchemas, IsRowOf, cells_in, cells_of}
 use Rattle.qd_base.proofs.Lists.{each-both, each-weaker}
 use Rattle.qd_base.proofs.Tables.{position-found}
 use Rattle.qd_ilp.specs.Line.{Item, Row, Line, Blank, Gives}
-use Rattle.qd_ilp.specs.Transaction.{Refuses, Says, Work, cell_in, clashes, columns_after, created, designated, is_float, is_long_text, line_ops, micros_of, moment_of, name_at, stamp_column, start, with_items, work_in}
+use Rattle.qd_ilp.specs.Transaction.{Refuses, Says, Work, cell_in, clashes, columns_after, created, designated, is_float, is_long_text, line_ops, micros_of, moment_of, name_at, start, with_items, work_in}
 use Rattle.qd_lines.specs.Laws.{IsReadable, IsRowReadable, IsLineReadable, KeepLaws}
 use Rattle.qd_lines.proofs.AnswerLemmas.{none_refused}
 use Rattle.qd_lines.proofs.CleanLemmas.{Clean, HasNone, clean}
@@ -48,7 +48,7 @@ fair-values : (schemas : List Schema) (cells now : ℕ) (row : Row) → Clean sc
 fair-values schemas cells now row c r =
     each-weaker (λ (i : Item). ((is_float i.value ≡ false) × (is_long_text i.value ≡ false)) × IsReadable i.value) (λ (i : Item). IsFair i.value) (λ i h. record { whole = h.0.0; short = h.0.1; readable = h.1 }) row.items
     (each-both (λ (i : Item). (is_float i.value ≡ false) × (is_long_text i.value ≡ false)) (λ (i : Item). IsReadable i.value) row.items
-      (each-both (λ (i : Item). is_float i.value ≡ false) (λ (i : Item). is_long_text i.value ≡ false) row.items c.float c.short) r.values)
+    (each-both (λ (i : Item). is_float i.value ≡ false) (λ (i : Item). is_long_text i.value ≡ false) row.items c.float c.short) r.values)
 
 line-lawful : (schemas : List Schema) (cells now : ℕ) (row : Row) → AreSchemas schemas → IsRowReadable row → Clean schemas cells now row → (o : Option Schema) → schema_of schemas row.table ≡ o → AreLawful schemas (line_ops o now row)
 line-lawful schemas cells now row are r c None e =
@@ -125,10 +125,10 @@ worked-line now schemas w (Gives row) h r none =
 
 lines-worked : (now : ℕ) (schemas : List Schema) (w : Work) (number : ℕ) (lines : List Line) (whole : Bool) (entry : Entry) → Worked schemas w → AllByRecursion IsLineReadable lines → Says now w number lines whole (Ok entry) → KeepLaws schemas entry.ops × (cells_of entry ≤ MAX_BATCH_CELLS)
 lines-worked now schemas w number [] true entry h r says =
-    let same : entry.ops ≡ w.ops = ap ops_of says in
-    (
+    let same : entry.ops ≡ w.ops = ap ops_of says in (
       record { lawful = subst (λ (os : List Op). AreLawful schemas os) (sym same) h.lawful; after = subst (λ (ss : List Schema). AreSchemas ss) (h.same ∙ ap (λ (os : List Op). fold schemas_step schemas os) (sym same)) h.are },
-      (let a : w.cells ≡ sum_by cells_in w.ops = h.cells in let b : sum_by cells_in entry.ops ≡ sum_by cells_in w.ops = ap (λ (os : List Op). sum_by cells_in os) same in let le : w.cells ≤ MAX_BATCH_CELLS = h.few in omega arith))
+      (let a : w.cells ≡ sum_by cells_in w.ops = h.cells in let b : sum_by cells_in entry.ops ≡ sum_by cells_in w.ops = ap (λ (os : List Op). sum_by cells_in os) same in let le : w.cells ≤ MAX_BATCH_CELLS = h.few in omega arith),
+    )
   where
     ops_of : Result Entry (Code × ℕ) → List Op
     ops_of (Ok e) = e.ops

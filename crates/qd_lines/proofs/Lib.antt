@@ -15,3 +15,4 @@ pub mod RowLemmas
 pub mod JoinLemmas
 pub mod LawfulLemmas
 pub mod ReadableLemmas
+pub mod FitLemmas

@@ -1,5 +1,5 @@
 -- What the lines of a text of bytes can have: texts of bytes, LONGs of 64 bits, and timestamps.
-use Rattle.std.proofs.Common.{◌≡◌, ℕ, zero, suc, ◌+◌, ◌/◌, ◌<◌, ◌≤◌, ◌<ℤ◌, ◌≤ℤ◌, ℤ, pos, negsuc, neg_ℤ, inl, inr, ◌⊎◌, ◌&&◌, ◌||◌, Bool, true, false, not, cond, leb, List, [], ◌∷◌, ◌++◌, Option, Some, None, All, length, refl, sym, ap, ◌∙◌, subst, arith}
+use Rattle.std.proofs.Common.{◌≡◌, ℕ, zero, suc, ◌/◌, ◌<◌, ◌≤◌, ◌<ℤ◌, ◌≤ℤ◌, pos, neg_ℤ, inl, inr, ◌&&◌, Bool, true, false, not, cond, leb, List, [], ◌∷◌, ◌++◌, Option, Some, None, All, refl, sym, subst, arith}
 use Rattle.std.specs.Prelude.{◌==◌}
 use Rattle.std.specs.List.{AllByRecursion}
 use Rattle.std.proofs.lemmas.Bool.{leb-true}
@@ -8,9 +8,9 @@ use Rattle.std.proofs.lemmas.List.Elements.{All-from_recursion, recursion_from_A
 use Rattle.qd_base.specs.declared.limits.TheConstants.{MAX_LONG, MAX_TIME, NULL_LONG}
 use Rattle.qd_base.proofs.Lists.{each-append}
 use Rattle.qd_ilp.specs.Cut.{begins}
-use Rattle.qd_ilp.specs.Value.{Value, Tag, Text, Long, Huge, Truth, Other, Moment, At, Outside, bare, is_true, is_false, is_long, long_digits, long_of, moment_of, number_of, stamp, unsigned}
+use Rattle.qd_ilp.specs.Value.{Value, Long, Huge, Truth, Other, Moment, At, Outside, bare, is_true, is_false, is_long, long_digits, long_of, moment_of, number_of, stamp, unsigned}
 use Rattle.qd_ilp.specs.Line.{Item, Row, Line, Blank, Gives}
-use Rattle.qd_ilp.specs.Grammar.{EndsLine, Fields, HasValue, IsItem, IsLine, IsRow, Comment, Items, Name, NameByte, Parted, Quoted, QuotedByte, ReadsLine, Spaced, Tail, Word, spaces}
+use Rattle.qd_ilp.specs.Grammar.{EndsLine, Fields, HasValue, IsItem, IsLine, IsRow, Comment, Items, Name, NameByte, Parted, Quoted, QuotedByte, Spaced, Tail, Word, spaces}
 use Rattle.qd_ilp.specs.Whole.{BeginsWith, IsReading, Reading}
 use Rattle.qd_lines.specs.Laws.{IsReadable, IsStamped, IsRowReadable, IsLineReadable}
 

@@ -1,5 +1,5 @@
 -- The row that a line without a code gives fits its table.
-use Rattle.std.proofs.Common.{◌≡◌, ℕ, zero, suc, ◌+◌, ◌<◌, ◌≤◌, ◌&&◌, Bool, true, false, not, cond, leb, List, [], ◌∷◌, ◌++◌, Option, Some, None, IsSomeAnd, length, map, get_or, refl, sym, ap, ◌∙◌, subst, arith, true≢false, slice_get}
+use Rattle.std.proofs.Common.{◌≡◌, ℕ, zero, suc, ◌≤◌, Bool, true, false, not, cond, leb, List, [], ◌∷◌, ◌++◌, Option, Some, None, IsSomeAnd, length, map, refl, sym, ap, ◌∙◌, subst, arith, true≢false, slice_get}
 use Rattle.std.specs.Prelude.{codes}
 use Rattle.std.specs.List.{AllByRecursion, IsDistinct, find}
 use Rattle.std.proofs.lemmas.Bool.{leb-true, ltb-false, not-false}
@@ -24,7 +24,7 @@ use Rattle.qd_lines.specs.Laws.{IsReadable, IsStamped}
 use Rattle.qd_lines.proofs.ColumnLemmas.{each-with_items}
 use Rattle.qd_lines.proofs.MarkLemmas.{joins, turned}
 use Rattle.qd_lines.proofs.NameLemmas.{names_equal}
-use Rattle.qd_lines.proofs.SchemaLemmas.{found-is}
+use Rattle.qd_lines.proofs.SchemaLemmas.{found-is, get-last}
 
 -- ---- distinct elements
 
@@ -94,10 +94,6 @@ get-left [] ys k x e = absurd cc
 get-left (y ∷ xs) ys zero x e = e
 get-left (y ∷ xs) ys (suc k) x e = get-left xs ys k x e
 
-get-last : {X : Type 0} (xs : List X) (x : X) → slice_get (xs ++ x ∷ []) (length xs) ≡ Some x
-get-last [] x = refl
-get-last (y ∷ ys) x = get-last ys x
-
 -- the moment of a row is a timestamp
 pub timely : (now : ℕ) (o : Option Moment) → IsStamped o → micros_of (moment_of now o) ≤ MAX_TIME
 timely now None h = go (leb now MAX_TIME) refl
@@ -136,7 +132,7 @@ module _ (time : List ℕ) (row : Row) (micros : ℕ) (bound : micros ≤ MAX_TI
         value c is None e = missing-taken c.kind
         value c is (Some i) e =
             let h = found-is (λ (j : Item). IsFair j.value × (misfits (find (λ (x : Col). same_name x.name j.name) cols) j.value ≡ false)) (λ (j : Item). same_name c.name j.name) row.items i
-                (each-both (λ (j : Item). IsFair j.value) (λ (j : Item). misfits (find (λ (x : Col). same_name x.name j.name) cols) j.value ≡ false) row.items fair fits) e in
+            (each-both (λ (j : Item). IsFair j.value) (λ (j : Item). misfits (find (λ (x : Col). same_name x.name j.name) cols) j.value ≡ false) row.items fair fits) e in
             let found : find (λ (x : Col). same_name x.name i.name) cols ≡ Some c = is (λ (x : Col). same_name x.name i.name) h.1 (λ y f. turned i.name y.name false (joins c.name i.name y.name false h.1 (turned y.name c.name false f))) in
             let no : not (suits c.kind i.value) ≡ false = ap (λ (o : Option Col). misfits o i.value) (sym found) ∙ h.0.1 in
             suits-taken c.kind i.value (not-false (suits c.kind i.value) no) h.0.0

@@ -1,8 +1,8 @@
 -- What a line without a code leaves of the schemas.
-use Rattle.std.proofs.Common.{◌≡◌, ℕ, zero, suc, ◌+◌, ◌<◌, ◌≤◌, inl, inr, ⊎_elim, Bool, true, false, cond, List, [], ◌∷◌, ◌++◌, Option, Some, None, IsSomeAnd, IfSome, if◌then◌else◌, All, length, map, drop, refl, sym, ap, ◌∙◌, subst, arith, true≢false, length-append, append_assoc, slice_get}
+use Rattle.std.proofs.Common.{◌≡◌, ℕ, zero, suc, ◌+◌, ◌<◌, ◌≤◌, inl, inr, ⊎_elim, Bool, true, false, cond, List, [], ◌∷◌, ◌++◌, Option, Some, None, IsSomeAnd, IfSome, if◌then◌else◌, length, map, drop, refl, sym, ap, ◌∙◌, subst, arith, length-append, append_assoc, slice_get}
 use Rattle.std.specs.Prelude.{codes, slice_index}
 use Rattle.std.specs.List.{AllByRecursion, IsDistinct, fold, find}
-use Rattle.std.specs.Option.{option_map, is_some, IsNone}
+use Rattle.std.specs.Option.{option_map, IsNone}
 use Rattle.std.proofs.lemmas.List.{append-nil, length-map}
 use Rattle.std.proofs.lemmas.List.Elements.{All-push, All-weaker, All-from_recursion, recursion_from_All}
 use Rattle.std.proofs.lemmas.Option.{same_Some}
@@ -15,13 +15,13 @@ use Rattle.qd_base.specs.declared.op.Op.{Op}
 use Rattle.qd_base.specs.declared.op.Op.TheVariants as op
 use Rattle.qd_base.specs.Names.{IsColumnName, is_column_byte}
 use Rattle.qd_base.specs.Rows.{Row as Cells}
-use Rattle.qd_base.specs.Schemas.{same_name, column_at, at_name, with_column, schema_of, table_at, schemas_step, Fits}
+use Rattle.qd_base.specs.Schemas.{same_name, column_at, at_name, with_column, schema_of, schemas_step, Fits}
 use Rattle.qd_base.specs.Lawful.{AreLawful, AreSchemas, IsSchema, IsSound}
 use Rattle.qd_base.proofs.Lists.{IsDistinct-push, IsDistinct-map, IsDistinct-from_map, IsDistinct-nil}
-use Rattle.qd_base.proofs.Tables.{each-at_found, map-kept, position-none, position-found}
+use Rattle.qd_base.proofs.Tables.{each-at_found, map-kept, position-none}
 use Rattle.qd_ilp.specs.Line.{Item, Row}
 use Rattle.qd_ilp.specs.Transaction.{created, line_ops, stamp_column, with_items}
-use Rattle.qd_lines.specs.Drafts.{IsUsable, column_made}
+use Rattle.qd_lines.specs.Drafts.{IsUsable}
 use Rattle.qd_lines.proofs.CleanLemmas.{Clean, HasNone, clean}
 use Rattle.qd_lines.proofs.ColumnLemmas.{AreNew, added_by, distinct-with_items, each-with_items, new-added, with_items-behind, with_items_added}
 use Rattle.qd_lines.proofs.MarkLemmas.{turned, none_from}
@@ -39,7 +39,8 @@ get-below Q [] i h = absurd h
 get-below Q (x ∷ xs) zero h = omega arith
 get-below Q (x ∷ xs) (suc i) h = let lt = get-below Q xs i h in omega arith
 
-get-last : {X : Type 0} (xs : List X) (x : X) → slice_get (xs ++ x ∷ []) (length xs) ≡ Some x
+-- the last of a list
+pub get-last : {X : Type 0} (xs : List X) (x : X) → slice_get (xs ++ x ∷ []) (length xs) ≡ Some x
 get-last [] x = refl
 get-last (y ∷ ys) x = get-last ys x
 
@@ -161,7 +162,8 @@ module _ (name : List ℕ) where
     rw e new.0,
     rw e (new.1, new.2),
     adds-lawful (at_name (λ (t : Schema). t.name) (with_column c) name schemas) (with_column c s) cs rest (found-wider name c schemas ∙ ap (option_map (with_column c)) e) new.3
-      (λ ss f. k ss (f ∙ ap (λ (cols : List Col). Some (record s { cols = cols })) (append_assoc s.cols (c ∷ []) cs))))
+        (λ ss f. k ss (f ∙ ap (λ (cols : List Col). Some (record s { cols = cols })) (append_assoc s.cols (c ∷ []) cs))),
+  )
 
   pub adds-schemas : (schemas : List Schema) (s : Schema) (cs : List Col) (table : List ℕ) (rows : List Cells) → AreSchemas schemas → schema_of schemas name ≡ Some s → AreNew s.cols cs → AreSchemas (fold schemas_step schemas (adds name cs ++ op.Insert table rows ∷ []))
   adds-schemas schemas s [] table rows h e new = h
@@ -219,7 +221,8 @@ module _ (schemas : List Schema) (cells now : ℕ) (row : Row) (c : Clean schema
   pub create-lawful : Fits schemas (op.Create (created row)) × IsSound schemas (op.Create (created row))
   create-lawful = (
     rw (none_from (λ (s : Schema). same_name s.name row.table) schemas (missing-none (λ (s : Schema). same_name s.name row.table) schemas new)) refl,
-    (c.tables (rw new refl), created-is))
+    (c.tables (rw new refl), created-is),
+  )
 
 module _ (schemas : List Schema) (cells now : ℕ) (row : Row) (c : Clean schemas cells now row) (s : Schema) (there : schema_of schemas row.table ≡ Some s) where
   -- the columns that come behind those of a table that is there

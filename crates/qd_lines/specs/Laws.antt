@@ -1,16 +1,17 @@
 -- Laws of what lines say and do.
-use Rattle.std.specs.Prelude.{◌≡◌, ℕ, ◌<◌, ◌≤◌, ◌<ℤ◌, ◌≤ℤ◌, Bool, List, [], ◌∷◌, fold, All, Option, Some, None, Result, Ok, Err}
+use Rattle.std.specs.Prelude.{◌≡◌, ℕ, ◌+◌, ◌<◌, ◌≤◌, ◌<ℤ◌, ◌≤ℤ◌, Bool, true, List, ◌++◌, length, fold, sum_by, All, Option, Some, Result, Ok, Err}
 use Rattle.std.specs.List.{AllByRecursion}
 use Rattle.qd_base.specs.declared.limits.TheConstants.{MAX_BATCH_CELLS, MAX_LONG, MAX_TIME, NULL_LONG}
 use Rattle.qd_base.specs.declared.code.Code.{Code}
 use Rattle.qd_base.specs.declared.schema.Schema.{Schema}
 use Rattle.qd_base.specs.declared.op.Op.{Op}
+use Rattle.qd_base.specs.declared.op.Op.TheVariants as op
 use Rattle.qd_base.specs.declared.op.Entry.{Entry}
 use Rattle.qd_base.specs.Schemas.{schema_of, schemas_step}
 use Rattle.qd_base.specs.Lawful.{AreLawful, AreSchemas, cells_of}
 use Rattle.qd_ilp.specs.Value.{Value, Tag, Text, Long, Moment, At}
 use Rattle.qd_ilp.specs.Line.{Item, Row, Line, Blank, Gives}
-use Rattle.qd_ilp.specs.Transaction.{HasCode, Work, Says, line_ops, start}
+use Rattle.qd_ilp.specs.Transaction.{HasCode, Work, Says, line_ops, start, transaction_of_lines}
 use Rattle.qd_ilp.specs.Whole.{Reading, IsReading}
 
 -- From any work and any number on, lines say one thing at most.
@@ -20,6 +21,29 @@ OneAnswer = (now : ℕ) (w : Work) (number : ℕ) (lines : List Line) (whole : B
 -- From any work and any number on, they say something.
 abbrev pub EveryBatchIsAnswered : Type 0
 EveryBatchIsAnswered = (now : ℕ) (w : Work) (number : ℕ) (lines : List Line) (whole : Bool) → (answer : Result Entry (Code × ℕ)) × Says now w number lines whole answer
+
+-- ---- what an answer is
+
+-- how many rows a change inserts, and how many a line gives
+abbrev pub rows_in : Op → ℕ
+rows_in (op.Create schema) = 0
+rows_in (op.AddColumn table col) = 0
+rows_in (op.Insert table rows) = length rows
+
+abbrev pub rows_given : Line → ℕ
+rows_given Blank = 0
+rows_given (Gives row) = 1
+
+-- What a transaction or a refusal has to do with the lines.
+pub record AnswersFit : Type 0 where
+  -- A transaction comes only where all lines are of the grammar, and is that of all of them.
+  pub made : (now number : ℕ) (schemas : List Schema) (lines : List Line) (whole : Bool) (entry : Entry) → Says now (start schemas) number lines whole (Ok entry) → (whole ≡ true) × (entry ≡ transaction_of_lines schemas now lines)
+  -- It inserts one row for each line that gives one: none is lost, and none is put twice.
+  pub rows : (now number : ℕ) (schemas : List Schema) (lines : List Line) (whole : Bool) (entry : Entry) → Says now (start schemas) number lines whole (Ok entry) → sum_by rows_in entry.ops ≡ sum_by rows_given lines
+  -- A refusal names one of the lines, or the one behind them.
+  pub named : (now : ℕ) (w : Work) (number : ℕ) (lines : List Line) (whole : Bool) (c : Code) (n : ℕ) → Says now w number lines whole (Err (c, n)) → (number ≤ n) × (n ≤ number + length lines)
+  -- A refusal of one of the lines stands, whatever lines follow.
+  pub early : (now : ℕ) (w : Work) (number : ℕ) (lines more : List Line) (whole all : Bool) (c : Code) (n : ℕ) → n < number + length lines → Says now w number lines whole (Err (c, n)) → Says now w number (lines ++ more) all (Err (c, n))
 
 -- ---- what can be read
 

@@ -11,4 +11,4 @@ mod laws;
 mod overlay;
 mod values;
 
-pub use laws::{batches_are_lawful, every_batch_is_answered, one_answer};
+pub use laws::{answers_fit, batches_are_lawful, every_batch_is_answered, one_answer};

@@ -1,14 +1,19 @@
 -- The first code that is found is the least.
-use Rattle.std.proofs.Common.{◌≡◌, ℕ, ◌≤◌, ◌⊎◌, inl, inr, Bool, true, false, cond, List, Option, Some, None, refl, sym, ap, ◌∙◌, arith, true≢false}
+use Rattle.std.proofs.Common.{◌≡◌, ℕ, ◌-◌, ◌≤◌, ◌&&◌, leb, ltb, length, IfNone, Bool, true, false, cond, List, Option, Some, None, refl, sym, ap, ◌∙◌, arith, true≢false}
 use Rattle.std.specs.Bool.{Decides}
+use Rattle.std.proofs.lemmas.Bool.{ltb-false, leb-false}
+use Rattle.std.proofs.lemmas.Option.{none-some}
+use Rattle.qd_base.specs.declared.limits.TheConstants.{MAX_BATCH_CELLS, MAX_COLUMNS, MAX_TABLES}
+use Rattle.qd_lines.specs.declared.codes.Place.{Place}
+use Rattle.qd_lines.specs.declared.draft.Draft.{Draft}
 use Rattle.qd_base.specs.declared.code.Code.{Code}
 use Rattle.qd_base.specs.declared.code.Code.TheVariants as code
 use Rattle.qd_base.specs.declared.schema.Schema.{Schema}
 use Rattle.qd_base.specs.Codes.{number_of}
 use Rattle.qd_ilp.specs.Line.{Row}
-use Rattle.qd_ilp.specs.Transaction.{HasCode, LeastCode}
+use Rattle.qd_ilp.specs.Transaction.{HasCode}
 use Rattle.qd_lines.specs.declared.codes.Found.{Found}
-use Rattle.qd_lines.specs.Codes.{first_of, Finds, IsCodeOf}
+use Rattle.qd_lines.specs.Codes.{first_of, Finds, IsCodeOf, KeepsTo}
 
 module _ (schemas : List Schema) (cells now : ℕ) (row : Row) where
   -- a line has each of its codes, or none where each is told not to be there
@@ -75,3 +80,35 @@ module _ (schemas : List Schema) (cells now : ℕ) (row : Row) where
       go false false false false false false false false true b9 e0 e1 e2 e3 e4 e5 e6 e7 e8 e9 = record { least = (h.long.0 e8, each_code (λ k. 20 ≤ number_of k) (λ x. not_there f.float _ _ h.float e0 x) (λ x. not_there f.huge _ _ h.huge e1 x) (λ x. not_there f.name _ _ h.name e2 x) (λ x. not_there f.clash _ _ h.clash e3 x) (λ x. not_there f.time _ _ h.time e4 x) (λ x. not_there f.columns _ _ h.columns e5 x) (λ x. not_there f.tables _ _ h.tables e6 x) (λ x. not_there f.twice _ _ (h.twice e5) e7 x) (λ x. omega arith) (λ x. omega arith)); none = tt }
       go false false false false false false false false false true e0 e1 e2 e3 e4 e5 e6 e7 e8 e9 = record { least = ((h.many e5).0 e9, each_code (λ k. 21 ≤ number_of k) (λ x. not_there f.float _ _ h.float e0 x) (λ x. not_there f.huge _ _ h.huge e1 x) (λ x. not_there f.name _ _ h.name e2 x) (λ x. not_there f.clash _ _ h.clash e3 x) (λ x. not_there f.time _ _ h.time e4 x) (λ x. not_there f.columns _ _ h.columns e5 x) (λ x. not_there f.tables _ _ h.tables e6 x) (λ x. not_there f.twice _ _ (h.twice e5) e7 x) (λ x. not_there f.long _ _ h.long e8 x) (λ x. omega arith)); none = tt }
       go false false false false false false false false false false e0 e1 e2 e3 e4 e5 e6 e7 e8 e9 = record { least = tt; none = each_code (λ k. ⊥) (λ x. not_there f.float _ _ h.float e0 x) (λ x. not_there f.huge _ _ h.huge e1 x) (λ x. not_there f.name _ _ h.name e2 x) (λ x. not_there f.clash _ _ h.clash e3 x) (λ x. not_there f.time _ _ h.time e4 x) (λ x. not_there f.columns _ _ h.columns e5 x) (λ x. not_there f.tables _ _ h.tables e6 x) (λ x. not_there f.twice _ _ (h.twice e5) e7 x) (λ x. not_there f.long _ _ h.long e8 x) (λ x. not_there f.cells _ _ (h.many e5) e9 x) }
+
+-- what isn't found where no code is
+pub none_found : (f : Found) → first_of f ≡ None → (f.columns ≡ false) × (f.tables ≡ false) × (f.twice ≡ false) × (f.cells ≡ false)
+none_found f e = go f.float f.huge f.name f.clash f.time f.columns f.tables f.twice f.long f.cells e
+  where
+    go : (b0 b1 b2 b3 b4 b5 b6 b7 b8 b9 : Bool) → cond b0 (Some code.FloatField) (cond b1 (Some code.NumberRange) (cond b2 (Some code.Name) (cond b3 (Some code.TypeClash) (cond b4 (Some code.TimeRange) (cond b5 (Some code.Columns) (cond b6 (Some code.Tables) (cond b7 (Some code.DuplicateColumn) (cond b8 (Some code.TextTooLong) (cond b9 (Some code.TooManyCells) (None)))))))))) ≡ None → (b5 ≡ false) × (b6 ≡ false) × (b7 ≡ false) × (b9 ≡ false)
+    go true b1 b2 b3 b4 b5 b6 b7 b8 b9 e = absurd (none-some code.FloatField (sym e))
+    go false true b2 b3 b4 b5 b6 b7 b8 b9 e = absurd (none-some code.NumberRange (sym e))
+    go false false true b3 b4 b5 b6 b7 b8 b9 e = absurd (none-some code.Name (sym e))
+    go false false false true b4 b5 b6 b7 b8 b9 e = absurd (none-some code.TypeClash (sym e))
+    go false false false false true b5 b6 b7 b8 b9 e = absurd (none-some code.TimeRange (sym e))
+    go false false false false false true b6 b7 b8 b9 e = absurd (none-some code.Columns (sym e))
+    go false false false false false false true b7 b8 b9 e = absurd (none-some code.Tables (sym e))
+    go false false false false false false false true b8 b9 e = absurd (none-some code.DuplicateColumn (sym e))
+    go false false false false false false false false true b9 e = absurd (none-some code.TextTooLong (sym e))
+    go false false false false false false false false false true e = absurd (none-some code.TooManyCells (sym e))
+    go false false false false false false false false false false e = (refl, refl, refl, refl)
+
+-- a line without a code keeps to the limits
+pub keeps : (p : Place) (d : Draft) (cells : ℕ) (f : Found) → cells ≤ MAX_BATCH_CELLS → f.columns ≡ ltb MAX_COLUMNS (length d.marks.items) → f.cells ≡ ltb (MAX_BATCH_CELLS - cells) (length d.marks.items) → f.tables ≡ (p.fresh && leb MAX_TABLES p.tables) → f.twice ≡ d.faults.twice
+    → (o : Option Code) → o ≡ first_of f → IfNone o (KeepsTo p d cells)
+keeps p d cells f le columns fits tables twice (Some c) e = tt
+keeps p d cells f le columns fits tables twice None e =
+    let no = none_found f (sym e) in
+    let short : length d.marks.items ≤ MAX_COLUMNS = ltb-false MAX_COLUMNS (length d.marks.items) (sym columns ∙ no.0) in
+    let some : length d.marks.items ≤ MAX_BATCH_CELLS - cells = ltb-false (MAX_BATCH_CELLS - cells) (length d.marks.items) (sym fits ∙ no.3) in
+    record {
+      few = short;
+      once = sym twice ∙ no.2;
+      room = λ is. let free : leb MAX_TABLES p.tables ≡ false = ap (λ b. b && leb MAX_TABLES p.tables) (sym is) ∙ sym tables ∙ no.1 in let lt = leb-false MAX_TABLES p.tables free in omega arith;
+      fits = omega (arith, le);
+    }

@@ -1,22 +1,20 @@
 -- What is found of a line's codes is so.
-use Rattle.std.proofs.Common.{◌≡◌, ℕ, ◌+◌, ◌-◌, ◌<◌, ◌≤◌, ◌⊎◌, inl, inr, ◌||◌, ◌&&◌, Bool, true, false, not, leb, ltb, List, Option, Some, None, length, map, refl, sym, ap, ap₂, ◌∙◌, arith, subst, true≢false, length-append, All, Contains}
+use Rattle.std.proofs.Common.{◌≡◌, ℕ, ◌+◌, ◌-◌, ◌<◌, ◌≤◌, ◌⊎◌, inl, inr, ◌||◌, ◌&&◌, Bool, true, false, not, leb, ltb, List, Option, Some, None, length, refl, sym, ap, ap₂, ◌∙◌, arith, subst, true≢false, length-append, Contains}
 use Rattle.std.specs.Bool.{Decides}
 use Rattle.std.specs.List.{list_any, IsDistinct}
-use Rattle.std.specs.Option.{is_some, is_none, IsNone}
+use Rattle.std.specs.Option.{is_none, IsNone}
 use Rattle.std.proofs.lemmas.Bool.{ltb-true, ltb-false, lt-ltb, leb-true, le-leb}
 use Rattle.qd_base.specs.declared.limits.TheConstants.{MAX_BATCH_CELLS, MAX_COLUMNS, MAX_TABLES}
-use Rattle.qd_base.specs.declared.code.Code.TheVariants as code
 use Rattle.qd_base.specs.declared.schema.Col.{Col}
 use Rattle.qd_base.specs.declared.schema.Schema.{Schema}
 use Rattle.qd_base.specs.Names.{IsColumnName, IsTableName}
 use Rattle.qd_base.specs.Schemas.{same_name, schema_of}
 use Rattle.qd_ilp.specs.Value.{Moment, At, Outside}
 use Rattle.qd_ilp.specs.Line.{Item, Row}
-use Rattle.qd_ilp.specs.Transaction.{HasCode, moment_of, columns_before, columns_after, designated, with_items}
-use Rattle.qd_lines.specs.declared.codes.Found.{Found}
+use Rattle.qd_ilp.specs.Transaction.{moment_of, columns_after, designated, with_items}
 use Rattle.qd_lines.specs.declared.codes.Place.{Place}
 use Rattle.qd_lines.specs.declared.draft.Draft.{Draft}
-use Rattle.qd_lines.specs.Drafts.{time_name, clashes_in, NamesSeen, AreTwice, TwiceSeen, Marked, Draws}
+use Rattle.qd_lines.specs.Drafts.{time_name, clashes_in, NamesSeen, AreTwice, TwiceSeen, Draws}
 use Rattle.qd_lines.specs.Codes.{outside, Finds, IsPlaceOf}
 
 pub decides_same : (b c : Bool) → b ≡ c → Decides b (c ≡ true)
@@ -27,10 +25,13 @@ named : (items : List Item) (table : List ℕ) (bad fair : Bool) → NamesSeen i
     → Decides (bad || not fair) ((IsTableName table → ⊥) ⊎ ((item : Item) × Contains items item × (IsColumnName item.name → ⊥)))
 named items table true fair h if_fair if_named = (λ t. inr (h.one refl), λ x. refl)
 named items table false false h if_fair if_named = (λ t. inl (λ is. true≢false (sym (if_named is))), λ x. refl)
-named items table false true h if_fair if_named = (λ t. absurd (true≢false (sym t)), λ x. elim x [
+named items table false true h if_fair if_named = (
+  λ t. absurd (true≢false (sym t)),
+  λ x. elim x [
     | inl f ↦ absurd (f (if_fair refl))
     | inr y ↦ absurd (y.2 (subst (λ (i : Item). IsColumnName i.name) y.1.2 (h.none refl y.1.0 y.0 y.1.1)))
-  ])
+  ],
+)
 
 timed : (m : Moment) (b : Bool) → b ≡ outside m → Decides b (m ≡ Outside)
 timed (At micros) b e = (λ t. absurd (true≢false (sym t ∙ e)), λ s. absurd (true≢false (sym (ap outside s))))
@@ -48,9 +49,9 @@ twice_found time name items b e h = (λ t. subst (λ (n : List ℕ). AreTwice n 
     go : (v : Bool) → b ≡ v → (IsDistinct (λ (i j : Item). same_name i.name j.name) items → ⊥) ⊎ (list_any (λ (i : Item). same_name name i.name) items ≡ true) → v ≡ true
     go true is x = refl
     go false is x = elim x [
-        | inl f ↦ absurd (f (h.none is).0)
-        | inr t ↦ absurd (true≢false (sym t ∙ ap (λ (n : List ℕ). list_any (λ (i : Item). same_name n i.name) items) (sym e) ∙ (h.none is).1))
-      ]
+      | inl f ↦ absurd (f (h.none is).0)
+      | inr t ↦ absurd (true≢false (sym t ∙ ap (λ (n : List ℕ). list_any (λ (i : Item). same_name n i.name) items) (sym e) ∙ (h.none is).1))
+    ]
 
 module _ (schemas : List Schema) (cells now : ℕ) (row : Row) (p : Place) (d : Draft) (n : ℕ) (few : cells ≤ MAX_BATCH_CELLS) (h : IsPlaceOf schemas row p) (draws : Draws p.columns row.items d) (size : n ≡ length d.marks.items) where
   -- the number of columns after the line, where it is known
@@ -66,7 +67,8 @@ module _ (schemas : List Schema) (cells now : ℕ) (row : Row) (p : Place) (d : 
   too_many : Decides (ltb MAX_COLUMNS n) (MAX_COLUMNS < length (columns_after (schema_of schemas row.table) row))
   too_many = (
     λ t. let lt : MAX_COLUMNS < n = ltb-true MAX_COLUMNS n t in let m = draws.many (omega (arith, count)) in omega (arith, same_after),
-    λ lt. go (ltb MAX_COLUMNS n) refl lt)
+    λ lt. go (ltb MAX_COLUMNS n) refl lt,
+  )
     where
       go : (b : Bool) → ltb MAX_COLUMNS n ≡ b → MAX_COLUMNS < length (columns_after (schema_of schemas row.table) row) → b ≡ true
       go true e lt = refl

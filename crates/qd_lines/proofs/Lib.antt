@@ -16,3 +16,4 @@ pub mod JoinLemmas
 pub mod LawfulLemmas
 pub mod ReadableLemmas
 pub mod FitLemmas
+pub mod WalkLemmas

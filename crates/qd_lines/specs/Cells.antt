@@ -1,5 +1,5 @@
 -- The row of a line, by the columns that its tags and fields name.
-use Rattle.std.specs.Prelude.{◌≡◌, ℕ, List, Option, Some, None, map, find, codes}
+use Rattle.std.specs.Prelude.{ℕ, List, Option, Some, None, map, find, codes}
 use Rattle.qd_base.specs.declared.cell.Cell.{Cell}
 use Rattle.qd_base.specs.declared.schema.Col.{Col}
 use Rattle.qd_base.specs.declared.schema.Schema.{Schema}

@@ -1,6 +1,7 @@
 -- The least code of a line, from what is found of each.
-use Rattle.std.specs.Prelude.{◌≡◌, ℕ, Bool, true, false, length, List, Option, Some, None, is_none, if◌then◌else◌, IfSome, IfNone}
+use Rattle.std.specs.Prelude.{◌≡◌, ℕ, ◌+◌, ◌<◌, ◌≤◌, Bool, true, false, length, List, Option, Some, None, is_none, if◌then◌else◌, IfSome, IfNone}
 use Rattle.std.specs.Bool.{Decides}
+use Rattle.qd_base.specs.declared.limits.TheConstants.{MAX_BATCH_CELLS, MAX_COLUMNS, MAX_TABLES}
 use Rattle.qd_base.specs.declared.code.Code.{Code}
 use Rattle.qd_base.specs.declared.code.Code.TheVariants as code
 use Rattle.qd_base.specs.declared.schema.Schema.{Schema}
@@ -8,7 +9,7 @@ use Rattle.qd_base.specs.Schemas.{schema_of}
 use Rattle.qd_ilp.specs.Value.{Moment, At, Outside}
 use Rattle.qd_ilp.specs.Line.{Row}
 use Rattle.qd_ilp.specs.Transaction.{HasCode, LeastCode, columns_before, designated}
-use Rattle.qd_lines.specs.declared.draft.Columns.{Columns}
+use Rattle.qd_lines.specs.declared.draft.Draft.{Draft}
 use Rattle.qd_lines.specs.declared.codes.Found.{Found}
 use Rattle.qd_lines.specs.declared.codes.Place.{Place}
 use Rattle.qd_lines.specs.Drafts.{time_name}
@@ -57,3 +58,10 @@ pub record IsPlaceOf (schemas : List Schema) (row : Row) (p : Place) : Type 0 wh
   pub name : time_name p.columns ≡ designated (schema_of schemas row.table)
   pub fresh : p.fresh ≡ is_none (schema_of schemas row.table)
   pub tables : p.tables ≡ length schemas
+
+-- a line keeps to the limits, and names no column twice
+pub record KeepsTo (p : Place) (d : Draft) (cells : ℕ) : Type 0 where
+  pub few : length d.marks.items ≤ MAX_COLUMNS
+  pub once : d.faults.twice ≡ false
+  pub room : p.fresh ≡ true → p.tables < MAX_TABLES
+  pub fits : cells + length d.marks.items ≤ MAX_BATCH_CELLS

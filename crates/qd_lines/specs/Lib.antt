@@ -3,4 +3,5 @@ pub mod Overlays
 pub mod Drafts
 pub mod Codes
 pub mod Cells
+pub mod Walks
 pub mod Laws

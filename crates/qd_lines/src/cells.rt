@@ -20,7 +20,13 @@ use std::alloc::Global;
 
 /// Makes the row of a line without a code: a cell for each column after it. It costs time linear in the columns and in
 /// the texts, which are copied.
-pub(crate) fn cells_of(alloc: Global, place: Place<'_>, draft: &Draft, row: &RowView<'_>, micros: u64) -> Result<Row, Memory>
+pub(crate) fn cells_of(
+    alloc: Global,
+    place: Place<'_>,
+    draft: &Draft,
+    row: &RowView<'_>,
+    micros: u64,
+) -> Result<Row, Memory>
     requires usable { Usable place.columns }
     requires draws { Draws place.columns row.now.items draft.now }
     requires few { length draft.now.marks.items ≤ MAX_COLUMNS }
@@ -40,13 +46,25 @@ pub(crate) fn cells_of(alloc: Global, place: Place<'_>, draft: &Draft, row: &Row
     let Columns { cols, time } = place.columns;
     push_cells(alloc, &mut cells, &cols[..time], &marks[..time], row)?;
     cells.push(Cell::Time(micros))?;
-    push_cells(alloc, &mut cells, &cols[time + 1..], &marks[time + 1..before], row)?;
+    push_cells(
+        alloc,
+        &mut cells,
+        &cols[time + 1..],
+        &marks[time + 1..before],
+        row,
+    )?;
     push_cells(alloc, &mut cells, added, &marks[before..], row)?;
     Ok(cells)
 }
 
 /// Pushes the cells of some columns, of which none is the designated one, with the tags and fields that name them.
-fn push_cells(alloc: Global, cells: &mut Row, cols: &[Col], marks: &[Option<usize>], row: &RowView<'_>) -> Result<(), Memory>
+fn push_cells(
+    alloc: Global,
+    cells: &mut Row,
+    cols: &[Col],
+    marks: &[Option<usize>],
+    row: &RowView<'_>,
+) -> Result<(), Memory>
     requires marks { marks.now ≡ map (mark row.now.items) cols.now }
     ensures cells { OnOk result (cells.new ≡ cells.old ++ map (named_cell row.now.items) cols.now) }
 {

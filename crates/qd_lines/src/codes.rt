@@ -1,10 +1,10 @@
 //! The least code of a line.
-ghost use Rattle.std.specs.Prelude.{◌≡◌, ◌≤◌, ℕ, List};
-ghost use Rattle.qd_base.specs.declared.limits.TheConstants.{MAX_BATCH_CELLS};
+ghost use Rattle.std.specs.Prelude.{◌≡◌, ◌-◌, ◌≤◌, ◌&&◌, ℕ, List, length, nat_le, nat_lt, IfNone};
+ghost use Rattle.qd_base.specs.declared.limits.TheConstants.{MAX_BATCH_CELLS, MAX_COLUMNS, MAX_TABLES};
 ghost use Rattle.qd_base.specs.declared.schema.Schema.{Schema};
 ghost use Rattle.qd_ilp.specs.Kept.{moment_in};
 ghost use Rattle.qd_ilp.specs.Transaction.{moment_of};
-ghost use Rattle.qd_lines.specs.Codes.{first_of, outside, Finds, IsCodeOf, IsPlaceOf};
+ghost use Rattle.qd_lines.specs.Codes.{first_of, outside, Finds, IsCodeOf, IsPlaceOf, KeepsTo};
 ghost use Rattle.qd_lines.specs.Drafts.{Draws};
 
 use crate::draft::{Columns, Draft};
@@ -38,11 +38,18 @@ pub(crate) struct Found {
 }
 
 /// Gives the least code of a line, where it has one. The lines before it insert so many cells.
-pub(crate) fn code_of(place: Place<'_>, row: &RowView<'_>, draft: &Draft, when: When, cells: u64) -> Option<Code>
+pub(crate) fn code_of(
+    place: Place<'_>,
+    row: &RowView<'_>,
+    draft: &Draft,
+    when: When,
+    cells: u64,
+) -> Option<Code>
     requires few { cells ≤ MAX_BATCH_CELLS }
     requires draws { Draws place.columns row.now.items draft.now }
     ensures code { (schemas : List Schema) (now : ℕ) → IsPlaceOf schemas row.now place.entry → moment_in when ≡ moment_of now row.now.moment →
         IsCodeOf schemas cells now row.now result }
+    ensures keeps { IfNone result (KeepsTo place.entry draft.now cells) }
 {
     look(place, row, draft, when, cells).first()
 }
@@ -53,6 +60,8 @@ fn look(place: Place<'_>, row: &RowView<'_>, draft: &Draft, when: When, cells: u
     requires draws { Draws place.columns row.now.items draft.now }
     ensures found { (schemas : List Schema) (now : ℕ) → IsPlaceOf schemas row.now place.entry → moment_in when ≡ moment_of now row.now.moment →
         Finds schemas cells now row.now result }
+    ensures limits { (result.columns ≡ nat_lt MAX_COLUMNS (length draft.now.marks.items)) × (result.cells ≡ nat_lt (MAX_BATCH_CELLS - cells) (length draft.now.marks.items))
+        × (result.tables ≡ (place.entry.fresh && nat_le MAX_TABLES place.entry.tables)) × (result.twice ≡ draft.now.faults.twice) }
 {
     let columns = draft.marks.len();
     let fair = table_name_ok(row.table());

@@ -7,8 +7,14 @@ mod cells;
 mod changes;
 mod codes;
 mod draft;
+mod fault;
 mod laws;
 mod overlay;
+#[cfg(test)]
+mod tests;
 mod values;
+mod walk;
 
+pub use fault::LineFault;
 pub use laws::{answers_fit, batches_are_lawful, every_batch_is_answered, one_answer};
+pub use walk::entry_of;

@@ -16,4 +16,5 @@ pub mod JoinLemmas
 pub mod LawfulLemmas
 pub mod ReadableLemmas
 pub mod FitLemmas
+pub mod TurnLemmas
 pub mod WalkLemmas

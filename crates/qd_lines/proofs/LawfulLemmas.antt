@@ -1,5 +1,5 @@
 -- What lines do is lawful, one by one and all together.
-use Rattle.std.proofs.Common.{◌≡◌, ℕ, ◌+◌, ◌≤◌, inl, inr, Bool, true, false, cond, List, [], ◌∷◌, ◌++◌, Option, Some, None, Result, Ok, Err, length, map, drop, refl, sym, ap, ◌∙◌, subst, arith, fold}
+use Rattle.std.proofs.Common.{◌≡◌, ℕ, ◌+◌, ◌<◌, ◌≤◌, inl, inr, Bool, true, false, cond, List, [], ◌∷◌, ◌++◌, Option, Some, None, All, Result, Ok, Err, length, map, drop, refl, sym, ap, ◌∙◌, subst, arith, fold}
 use Rattle.std.specs.Prelude.{codes}
 use Rattle.std.specs.List.{AllByRecursion, sum_by}
 use Rattle.std.proofs.lemmas.List.{length-map}
@@ -20,12 +20,14 @@ use Rattle.qd_base.proofs.Lists.{each-both, each-weaker}
 use Rattle.qd_base.proofs.Tables.{position-found}
 use Rattle.qd_ilp.specs.Line.{Item, Row, Line, Blank, Gives}
 use Rattle.qd_ilp.specs.Transaction.{Refuses, Says, Work, cell_in, clashes, columns_after, created, designated, is_float, is_long_text, line_ops, micros_of, moment_of, name_at, start, with_items, work_in}
+use Rattle.qd_ilp.specs.Whole.{Reading, IsReading}
 use Rattle.qd_lines.specs.Laws.{IsReadable, IsRowReadable, IsLineReadable, KeepLaws}
 use Rattle.qd_lines.proofs.AnswerLemmas.{none_refused}
 use Rattle.qd_lines.proofs.CleanLemmas.{Clean, HasNone, clean}
 use Rattle.qd_lines.proofs.ColumnLemmas.{added_by, with_items_added}
 use Rattle.qd_lines.proofs.JoinLemmas.{grown-cells, grown-lawful, grown-schemas}
 use Rattle.qd_lines.proofs.NameLemmas.{names_equal}
+use Rattle.qd_lines.proofs.ReadableLemmas.{reading-readable}
 use Rattle.qd_lines.proofs.RowLemmas.{IsFair, row-made, row-there, timely}
 use Rattle.qd_lines.proofs.SchemaLemmas.{added-there, adds, adds-lawful, as-many, create-lawful, found-itself, new-there, schema-there, schemas-line}
 
@@ -139,3 +141,8 @@ lines-worked now schemas w number (line ∷ lines) whole entry h r (inr k) = lin
 
 pub lines-keep : (now : ℕ) (schemas : List Schema) (number : ℕ) (lines : List Line) (whole : Bool) (entry : Entry) → AreSchemas schemas → AllByRecursion IsLineReadable lines → Says now (start schemas) number lines whole (Ok entry) → KeepLaws schemas entry.ops × (cells_of entry ≤ MAX_BATCH_CELLS)
 lines-keep now schemas number lines whole entry are r says = lines-worked now schemas (start schemas) number lines whole entry (record { lawful = tt; same = refl; cells = refl; few = omega arith; are = are }) r says
+
+-- the lines of a text of bytes
+pub text-keeps : (now : ℕ) (schemas : List Schema) (number : ℕ) (text : List ℕ) (reading : Reading) (entry : Entry) → AreSchemas schemas → All (λ b. b < 256) text → IsReading text reading → Says now (start schemas) number reading.lines reading.whole (Ok entry)
+    → KeepLaws schemas entry.ops × (cells_of entry ≤ MAX_BATCH_CELLS)
+text-keeps now schemas number text reading entry are bytes read says = lines-keep now schemas number reading.lines reading.whole entry are (reading-readable text reading bytes read) says

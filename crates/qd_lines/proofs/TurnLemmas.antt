@@ -1,5 +1,5 @@
 -- The transaction of lines leaves the database that the lines leave one after the other.
-use Rattle.std.proofs.Common.{◌≡◌, ℕ, ◌+◌, Bool, true, false, if◌then◌else◌, List, [], ◌∷◌, ◌++◌, Result, Ok, refl, sym, ap, ◌∙◌, fold}
+use Rattle.std.proofs.Common.{◌≡◌, ℕ, Bool, true, false, if◌then◌else◌, List, [], ◌∷◌, ◌++◌, Ok, refl, sym, ap, ◌∙◌, fold}
 use Rattle.std.proofs.lemmas.List.Sums.{fold-append}
 use Rattle.qd_base.specs.declared.schema.Schema.{Schema}
 use Rattle.qd_base.specs.declared.op.Op.{Op}
@@ -10,8 +10,8 @@ use Rattle.qd_base.specs.Schemas.{same_name, at_name, schema_of, schemas_step}
 use Rattle.qd_base.specs.Database.{Database, StoredTable, filled, step, schemas_of}
 use Rattle.qd_base.specs.Replay.{commit}
 use Rattle.qd_base.proofs.Tables.{schemas_of-commit}
-use Rattle.qd_ilp.specs.Line.{Row, Line, Blank, Gives}
-use Rattle.qd_ilp.specs.Transaction.{Says, Work, joined, line_ops, start, transaction_of_lines, work_in}
+use Rattle.qd_ilp.specs.Line.{Line, Blank, Gives}
+use Rattle.qd_ilp.specs.Transaction.{Says, Work, joined, line_ops, start, work_in}
 use Rattle.qd_lines.specs.Laws.{after_line}
 use Rattle.qd_lines.proofs.FitLemmas.{made}
 use Rattle.qd_lines.proofs.NameLemmas.{names_equal}

@@ -14,7 +14,7 @@ pub fn every_batch_is_answered()
 {}
 
 /// A transaction is that of all lines, with one row for each that gives one. A refusal names one of the lines, or the
-/// one behind them, and stands whatever follows.
+/// one behind them; where it names one of them, it stands whatever lines follow.
 pub fn answers_fit()
     ensures law { AnswersFit }
 {}

@@ -40,7 +40,7 @@ rows_given (Gives row) = 1
 pub record AnswersFit : Type 0 where
   -- A transaction comes only where all lines are of the grammar, and is that of all of them.
   pub made : (now number : ℕ) (schemas : List Schema) (lines : List Line) (whole : Bool) (entry : Entry) → Says now (start schemas) number lines whole (Ok entry) → (whole ≡ true) × (entry ≡ transaction_of_lines schemas now lines)
-  -- It inserts one row for each line that gives one: none is lost, and none is put twice.
+  -- It inserts as many rows as there are lines that give one.
   pub rows : (now number : ℕ) (schemas : List Schema) (lines : List Line) (whole : Bool) (entry : Entry) → Says now (start schemas) number lines whole (Ok entry) → sum_by rows_in entry.ops ≡ sum_by rows_given lines
   -- A refusal names one of the lines, or the one behind them.
   pub named : (now : ℕ) (w : Work) (number : ℕ) (lines : List Line) (whole : Bool) (c : Code) (n : ℕ) → Says now w number lines whole (Err (c, n)) → (number ≤ n) × (n ≤ number + length lines)

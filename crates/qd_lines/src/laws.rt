@@ -13,8 +13,8 @@ pub fn every_batch_is_answered()
     ensures law { EveryBatchIsAnswered }
 {}
 
-/// A transaction is that of all lines, with one row for each that gives one. A refusal names one of the lines, or the
-/// one behind them; where it names one of them, it stands whatever lines follow.
+/// A transaction is that of all lines, with as many rows as there are lines that give one. A refusal names one of the
+/// lines, or the one behind them; where it names one of them, it stands whatever lines follow.
 pub fn answers_fit()
     ensures law { AnswersFit }
 {}

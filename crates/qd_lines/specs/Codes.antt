@@ -1,5 +1,5 @@
 -- The least code of a line, from what is found of each.
-use Rattle.std.specs.Prelude.{◌≡◌, ℕ, ◌+◌, ◌<◌, ◌≤◌, Bool, true, false, length, List, Option, Some, None, is_none, if◌then◌else◌, IfSome, IfNone}
+use Rattle.std.specs.Prelude.{◌≡◌, ℕ, ◌+◌, ◌<◌, ◌≤◌, true, false, length, List, Option, Some, None, is_none, if◌then◌else◌, IfSome, IfNone}
 use Rattle.std.specs.Bool.{Decides}
 use Rattle.qd_base.specs.declared.limits.TheConstants.{MAX_BATCH_CELLS, MAX_COLUMNS, MAX_TABLES}
 use Rattle.qd_base.specs.declared.code.Code.{Code}

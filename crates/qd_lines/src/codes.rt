@@ -54,7 +54,13 @@ pub(crate) fn code_of(
 }
 
 /// Finds which codes a line has.
-fn look(place: Place<'_>, row: &RowView<'_>, draft: &Draft, moment: Option<u64>, cells: u64) -> Found
+fn look(
+    place: Place<'_>,
+    row: &RowView<'_>,
+    draft: &Draft,
+    moment: Option<u64>,
+    cells: u64,
+) -> Found
     requires few { cells ≤ MAX_BATCH_CELLS }
     requires draws { Draws place.columns row.now.items draft.now }
     ensures found { (schemas : List Schema) (now : ℕ) → IsPlaceOf schemas row.now place.entry → moment_at moment ≡ moment_of now row.now.moment →

@@ -47,7 +47,12 @@ fn lines_are_refused(rt: HostRuntime) -> Result<(), Fail> {
         let alloc = rt.alloc();
         let batch = parse_batch(alloc, text)?;
         match entry_of(alloc, &Schemas::new(alloc), &batch, NOW) {
-            Err(LineFault::Refused { code: found, line: at }) => {
+            Err(
+                LineFault::Refused {
+                    code: found,
+                    line: at,
+                },
+            ) => {
                 assert_eq!(rt; found.number(), code);
                 assert_eq!(rt; at, line);
             }
@@ -62,7 +67,8 @@ fn lines_are_refused(rt: HostRuntime) -> Result<(), Fail> {
 #[test]
 fn lines_make_tables(rt: HostRuntime) -> Result<(), Fail> {
     let alloc = rt.alloc();
-    let text = b"# sensors\nt,room=A\\ 1 v=1i,on=t 5000\nT v=-2i,note=\"a\\\"b\" 2000\nu w=F\nt,room=B 3999\n";
+    let text =
+        b"# sensors\nt,room=A\\ 1 v=1i,on=t 5000\nT v=-2i,note=\"a\\\"b\" 2000\nu w=F\nt,room=B 3999\n";
     let batch = parse_batch(alloc, text)?;
     let Ok(entry) = entry_of(alloc, &Schemas::new(alloc), &batch, NOW) else {
         assert!(rt; false);

@@ -1,8 +1,10 @@
 //! How the lines of a batch are gone over.
-ghost use Rattle.std.specs.Prelude.{◌≡◌, ◌≤◌, ◌∷◌, [], ℕ, List, Some, length, map, fold, option_map, IfOk, IfErr, OnOk, Ok};
-ghost use Rattle.qd_base.specs.declared.limits.TheConstants.{MAX_COLUMNS};
+ghost use Rattle.std.specs.Prelude.{◌≡◌, ◌<◌, ◌≤◌, ◌∷◌, [], ℕ, List, Some, All, length, map, fold, IfOk, IfErr, OnOk, Ok};
+ghost use Rattle.qd_base.specs.declared.limits.TheConstants.{MAX_BATCH_CELLS, MAX_COLUMNS};
 ghost use Rattle.qd_base.specs.declared.schema.Schema.{Schema};
-ghost use Rattle.qd_base.specs.Lawful.{AreSchemas};
+ghost use Rattle.qd_base.specs.Lawful.{AreSchemas, cells_of as cells_inserted};
+ghost use Rattle.qd_ilp.specs.Whole.{IsReading};
+ghost use Rattle.qd_lines.specs.Laws.{KeepLaws};
 ghost use Rattle.qd_ilp.specs.Kept.{moment_in};
 ghost use Rattle.qd_ilp.specs.Transaction as line;
 ghost use Rattle.qd_ilp.specs.Transaction.{Work, joined, stamp_column, work_in};
@@ -61,6 +63,9 @@ pub fn entry_of(
     requires lawful { AreSchemas schemas.now }
     ensures entry { IfOk result (λ entry. SaysOf schemas.now now batch.now (Ok entry)) }
     ensures refused { IfErr result (λ fault. IsLineFault schemas.now now batch.now fault) }
+    // The lines of a text of bytes make a transaction that is lawful over the tables.
+    ensures lawful { IfOk result (λ entry. (text : List ℕ) → All (λ b. b < 256) text → IsReading text batch.now →
+        KeepLaws schemas.now entry.ops × (cells_inserted entry ≤ MAX_BATCH_CELLS)) }
 {
     let mut walk = Walk::new(alloc, schemas)?;
     let lines = batch.lines();

@@ -1,10 +1,10 @@
-use Rattle.std.proofs.Common.{◌≡◌, ◌∙◌, ◌+◌, ◌-◌, ◌∷◌, ◌++◌, ◌<◌, ◌≤◌, ℕ, List, Err, length, sym, ap, subst, arith}
+use Rattle.std.proofs.Common.{◌≡◌, ◌∙◌, ◌+◌, ◌-◌, ◌∷◌, ℕ, List, Err, length, ap, subst, arith}
 use Rattle.qd_ilp.specs.Line.{Line, Gives}
-use Rattle.qd_ilp.specs.Whole.{blanks}
 use Rattle.qd_ilp.specs.View.{behind_rows}
 use Rattle.qd_ilp.specs.Transaction.{work_in}
 use Rattle.qd_lines.specs.Walks.{Leads, SaysOf}
 use Rattle.qd_lines.proofs.WalkLemmas.{passed_blanks, length_blanks, refused_here, passed_here, faulty_here, whole_here, left_over}
+use Rattle.qd_lines.proofs.LawfulLemmas.{text-keeps}
 use Rattle.qd_lines.proofs.walk.entry_of.Goals as goal
 
 pub overflow_sub-left : goal.overflow_sub-left
@@ -48,9 +48,15 @@ loop-i-preserved c =
     let leads = passed_blanks c.args.schemas.now c.args.now c.args.batch.now work n number (Gives row ∷ rest) (subst (λ (ls : List Line). Leads c.args.schemas.now c.args.now c.args.batch.now work number ls) c.row-blanks.ensures.row c.loop-i.invariant.6) in
     let taken = c.in-Ok.ensures.ok work c.loop-i.invariant.2 in
     let counted = length_blanks n (Gives row ∷ rest) in
-    let length_row = ap length c.row-blanks.ensures.row in
-    (work_in c.args.now work (Gives row), number + n + 1, taken.1, omega arith, omega (arith, c.loop-i.invariant.4, c.loop-i.invariant.5, counted, length_row), omega (arith, c.loop-i.invariant.5, counted, length_row),
-    passed_here c.args.schemas.now c.args.now c.args.batch.now work (number + n) row rest leads taken.0)
+    let length_row = ap length c.row-blanks.ensures.row in (
+      work_in c.args.now work (Gives row),
+      number + n + 1,
+      taken.1,
+      omega arith,
+      omega (arith, c.loop-i.invariant.4, c.loop-i.invariant.5, counted, length_row),
+      omega (arith, c.loop-i.invariant.5, counted, length_row),
+      passed_here c.args.schemas.now c.args.now c.args.batch.now work (number + n) row rest leads taken.0,
+    )
 
 pub returns-in-Some-clause-refused : goal.returns-in-Some-clause-refused
 returns-in-Some-clause-refused c =
@@ -65,3 +71,11 @@ returns-in_ok-finish-in-None-clause-entry c =
     let number = c.loop-i.invariant.1 in
     let leads = left_over c.args.schemas.now c.args.now c.args.batch.now work number c.loop-i.i c.loop-i.left c.loop-i.invariant.6 (omega (arith, c.loop-i-test.false, c.rows-i-end.ensures.count)) c.loop-i.invariant.5 in
     whole_here c.args.schemas.now c.args.now c.args.batch.now work (number + c.loop-i.left) c.in_ok-finish-in-None.field-0 leads (c.in_ok-finish-in-None.ensures.entry ∙ c.loop-i.invariant.2.changes) c.in-None.ensures.line
+
+pub returns-in_ok-finish-in-None-clause-lawful : goal.returns-in_ok-finish-in-None-clause-lawful
+returns-in_ok-finish-in-None-clause-lawful c =
+    let work = c.loop-i.invariant.0 in
+    let number = c.loop-i.invariant.1 in
+    let leads = left_over c.args.schemas.now c.args.now c.args.batch.now work number c.loop-i.i c.loop-i.left c.loop-i.invariant.6 (omega (arith, c.loop-i-test.false, c.rows-i-end.ensures.count)) c.loop-i.invariant.5 in
+    let says = whole_here c.args.schemas.now c.args.now c.args.batch.now work (number + c.loop-i.left) c.in_ok-finish-in-None.field-0 leads (c.in_ok-finish-in-None.ensures.entry ∙ c.loop-i.invariant.2.changes) c.in-None.ensures.line in
+    λ text bytes read. text-keeps c.args.now c.args.schemas.now 1 text c.args.batch.now c.in_ok-finish-in-None.field-0 c.requires.lawful bytes read says

@@ -18,3 +18,4 @@ pub mod Spelled
 pub mod LineSpelled
 pub mod Escapes
 pub mod RowEscapes
+pub mod Viewed

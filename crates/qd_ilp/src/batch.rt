@@ -1,5 +1,5 @@
 //! A batch of lines.
-ghost use Rattle.std.specs.Prelude.{◌≡◌, ◌<◌, ◌^◌, IfOk};
+ghost use Rattle.std.specs.Prelude.{◌≡◌, ◌<◌, ◌+◌, ◌∷◌, ◌++◌, ◌^◌, length, IfOk};
 ghost use Rattle.std.specs.List.{list_any};
 ghost use Rattle.qd_ilp.specs.Whole.{Adds, IsReading, lacks_time, is_timeless_kept};
 
@@ -7,6 +7,7 @@ use crate::item::Pair;
 use crate::row::{KeptLine, KeptRow, is_text, push_next};
 use crate::stop::Stop;
 use crate::value::{When, place};
+use crate::view::{RowView, row_lent};
 use qd_base::Memory;
 use std::alloc::{AllocError, Global};
 use std::marker::Model;
@@ -42,7 +43,9 @@ impl Model for Batch {
 }
 
 impl Batch {
-    ghost use Rattle.qd_ilp.specs.Whole.{faulty_line};
+    ghost use Rattle.qd_ilp.specs.Whole.{blanks, faulty_line};
+    ghost use Rattle.qd_ilp.specs.Line.{Gives};
+    ghost use Rattle.qd_ilp.specs.View.{behind_rows, rows_among};
 
     /// Gives the number of the first line that is outside the grammar, counted from 1, where there is one. It takes
     /// constant time.
@@ -50,6 +53,31 @@ impl Batch {
         ensures line { result ≡ faulty_line self.now }
     {
         if self.whole { None } else { Some(self.number) }
+    }
+
+    /// Gives the number of lines that were read, in constant time.
+    pub fn lines(&self) -> u64
+        ensures count { result ≡ length self.now.lines }
+    {
+        self.number - 1
+    }
+
+    /// Gives the number of lines that give a row, in constant time.
+    pub fn rows(&self) -> usize
+        ensures count { result ≡ rows_among self.now.lines }
+    {
+        self.rows.len()
+    }
+
+    /// Lends row `i`, counted from 0, and gives how many lines that give none stand right before its line, in constant
+    /// time.
+    pub fn row(&self, i: usize) -> (u64, RowView<'_>)
+        requires { i < rows_among self.now.lines }
+        ensures row { behind_rows i self.now.lines ≡ blanks result.0 ++ Gives result.1 ∷ behind_rows (i + 1) self.now.lines }
+    {
+        let kept = self.rows[i];
+        let row = row_lent(self.bytes.as_slice(), self.pairs.as_slice(), kept.head);
+        (kept.blanks as u64, row)
     }
 }
 

@@ -15,6 +15,9 @@ mod tail;
 #[cfg(test)]
 mod tests;
 mod value;
+mod view;
 
 pub use batch::{Batch, lacks_time, parse_batch};
 pub use laws::{escapes_are_undone, parts_are_cut, texts_are_read, worked_lines};
+pub use value::When;
+pub use view::{ItemView, RowView, ValueView};

@@ -44,9 +44,9 @@ pub(crate) enum Kept {
     Other,
 }
 
-/// What a batch keeps of a row's stamp.
+/// The stamp of a row.
 #[derive(Clone, Copy, Debug)]
-pub(crate) enum When {
+pub enum When {
     /// It has none.
     Missing,
     /// Microseconds since 1970-01-01T00:00Z, at most `MAX_TIME`.

@@ -1,0 +1,180 @@
+-- What an overlay shows, when a table is made and when a column is added.
+use Rattle.std.proofs.Common.{◌≡◌, ℕ, ◌+◌, Bool, true, false, cond, List, [], ◌∷◌, ◌++◌, Option, Some, None, IsNone, if◌then◌else◌, length, length-append, get_or, refl, sym, ap, ◌∙◌, true≢false, arith, slice_get, IfSome, is_some}
+use Rattle.std.specs.Option.{option_map, option_or}
+use Rattle.std.proofs.lemmas.List.{length-map}
+use Rattle.std.proofs.lemmas.List.Quantifiers.{position-Some}
+use Rattle.std.proofs.lemmas.Option.{same_Some, slice_get-get_or}
+use Rattle.qd_base.specs.declared.schema.Col.{Col}
+use Rattle.qd_base.specs.declared.schema.Schema.{Schema}
+use Rattle.qd_base.specs.Schemas.{same_name, at_name, with_column, schema_of, table_at}
+use Rattle.qd_base.proofs.Tables.{find-position, map-kept, not_found}
+use Rattle.qd_lines.specs.Overlays.{Overlays}
+use Rattle.qd_lines.proofs.NameLemmas.{names_equal}
+
+-- ---- the table of a name
+
+-- names that are one are compared alike
+alike : (a b name : List ℕ) → same_name a b ≡ true → same_name name a ≡ same_name name b
+alike a b name h = names_equal.symm name a ∙ names_equal.congr a b name h ∙ names_equal.symm b name
+
+pub found-alike : (schemas : List Schema) (a b : List ℕ) → same_name a b ≡ true → schema_of schemas a ≡ schema_of schemas b
+found-alike [] a b h = refl
+found-alike (s ∷ ss) a b h = rw (alike a b s.name h, found-alike ss a b h) refl
+
+-- the name of the table that is found
+found-named : (schemas : List Schema) (name : List ℕ) (s : Schema) → schema_of schemas name ≡ Some s → same_name s.name name ≡ true
+found-named [] name s h = cc
+found-named (x ∷ xs) name s h = go (same_name x.name name) refl (found-named xs name s) h
+  where
+    go : (b : Bool) → same_name x.name name ≡ b → (schema_of xs name ≡ Some s → same_name s.name name ≡ true) → cond b (Some x) (schema_of xs name) ≡ Some s → same_name s.name name ≡ true
+    go true e ih f = ap (λ t. same_name t.name name) (sym (same_Some x s f)) ∙ e
+    go false e ih f = ih f
+
+-- where a position is known, the table is found there
+pub found-at : (schemas : List Schema) (name : List ℕ) (i : ℕ) (s : Schema) → Some i ≡ table_at schemas name → s ≡ get_or schemas i s → schema_of schemas name ≡ Some s
+found-at schemas name i s at is = find-position (λ t. same_name t.name name) schemas i s (sym at) ∙ ap Some (sym is)
+
+pub not-found : (schemas : List Schema) (name : List ℕ) → table_at schemas name ≡ None → schema_of schemas name ≡ None
+not-found schemas name at = go (schema_of schemas name) refl
+  where
+    go : (o : Option Schema) → schema_of schemas name ≡ o → o ≡ None
+    go None e = refl
+    go (Some s) e = absurd (not_found (λ t. same_name t.name name) (λ t. Unit {0}) schemas at (rw e tt))
+
+-- ---- one table more
+
+abbrev added : Schema → List ℕ → Option Schema
+added s name = cond (same_name s.name name) (Some s) None
+
+found-pushed : (schemas : List Schema) (s : Schema) (name : List ℕ) → schema_of (schemas ++ s ∷ []) name ≡ option_or (schema_of schemas name) (added s name)
+found-pushed [] s name = refl
+found-pushed (x ∷ xs) s name = go (same_name x.name name) (found-pushed xs s name)
+  where
+    go : (b : Bool) → schema_of (xs ++ s ∷ []) name ≡ option_or (schema_of xs name) (added s name) → cond b (Some x) (schema_of (xs ++ s ∷ []) name) ≡ option_or (cond b (Some x) (schema_of xs name)) (added s name)
+    go true h = refl
+    go false h = h
+
+module _ {T : Type 0} where
+  or-none : (o : Option T) → option_or o None ≡ o
+  or-none None = refl
+  or-none (Some x) = refl
+
+  between : (o b k : Option T) → option_or o b ≡ None → option_or (option_or o b) k ≡ option_or (option_or o k) b
+  between None None None h = refl
+  between None None (Some z) h = refl
+  between None (Some y) k h = cc
+  between (Some x) b k h = cc
+
+none-from : {T : Type 0} (o : Option T) → IsNone o → o ≡ None
+none-from None h = refl
+none-from (Some x) h = absurd (true≢false h)
+
+module _ (base own all : List Schema) (tables : ℕ) (o : Overlays base own all tables) where
+  pub created : (s : Schema) → IsNone (schema_of all s.name) → Overlays base (own ++ s ∷ []) (all ++ s ∷ []) (tables + 1)
+  created s new = record { named = named; count = let e = o.count in let l = length-append all (s ∷ []) in omega arith }
+    where
+      case : (name : List ℕ) (b : Bool) → same_name s.name name ≡ b → option_or (schema_of all name) (cond b (Some s) None) ≡ option_or (option_or (schema_of own name) (cond b (Some s) None)) (schema_of base name)
+      case name true e =
+          let none : option_or (schema_of own name) (schema_of base name) ≡ None = sym (o.named name) ∙ sym (found-alike all s.name name e) ∙ none-from (schema_of all s.name) new in
+          rw (o.named name) (between (schema_of own name) (schema_of base name) (Some s) none)
+      case name false e = or-none (schema_of all name) ∙ o.named name ∙ ap (λ p. option_or p (schema_of base name)) (sym (or-none (schema_of own name)))
+
+      named : (name : List ℕ) → schema_of (all ++ s ∷ []) name ≡ option_or (schema_of (own ++ s ∷ []) name) (schema_of base name)
+      named name = found-pushed all s name ∙ case name (same_name s.name name) refl ∙ ap (λ p. option_or p (schema_of base name)) (sym (found-pushed own s name))
+
+-- ---- one column more
+
+-- the schemas with a column more in the table of a name
+abbrev pub widened : List ℕ → Col → List Schema → List Schema
+widened table col schemas = at_name (λ s. s.name) (with_column col) table schemas
+
+length-widened : (table : List ℕ) (col : Col) (schemas : List Schema) → length (widened table col schemas) ≡ length schemas
+length-widened table col schemas =
+    sym (length-map (widened table col schemas) (λ (s : Schema). s.name))
+    ∙ ap length (map-kept (λ (s : Schema). s.name) (with_column col) (λ (s : Schema). s.name) table (λ s. refl) schemas)
+    ∙ length-map schemas (λ (s : Schema). s.name)
+
+module _ (table : List ℕ) (col : Col) where
+  found-widened : (schemas : List Schema) (name : List ℕ) → same_name table name ≡ true → schema_of (widened table col schemas) name ≡ option_map (with_column col) (schema_of schemas name)
+  found-widened [] name h = refl
+  found-widened (x ∷ xs) name h = go (same_name x.name table) (sym (alike table name x.name h)) (found-widened xs name h)
+    where
+      go : (b : Bool) → same_name x.name name ≡ b → schema_of (widened table col xs) name ≡ option_map (with_column col) (schema_of xs name) → schema_of (if b then with_column col x ∷ xs else x ∷ widened table col xs) name ≡ option_map (with_column col) (cond (same_name x.name name) (Some x) (schema_of xs name))
+      go true e ih = rw e refl
+      go false e ih = rw e ih
+
+  found-others : (schemas : List Schema) (name : List ℕ) → same_name table name ≡ false → schema_of (widened table col schemas) name ≡ schema_of schemas name
+  found-others [] name h = refl
+  found-others (x ∷ xs) name h = go (same_name x.name table) refl (found-others xs name h)
+    where
+      go : (b : Bool) → same_name x.name table ≡ b → schema_of (widened table col xs) name ≡ schema_of xs name → schema_of (if b then with_column col x ∷ xs else x ∷ widened table col xs) name ≡ cond (same_name x.name name) (Some x) (schema_of xs name)
+      go true e ih = let other : same_name x.name name ≡ false = names_equal.congr x.name table name e ∙ h in rw other refl
+      go false e ih = ap (λ p. cond (same_name x.name name) (Some x) p) ih
+
+  module _ (base own all : List Schema) (tables : ℕ) (o : Overlays base own all tables) where
+    -- Whatever is put for `own`, it shows the wider table of that name, and the other tables as before.
+    shows : (new : List Schema) → ((name : List ℕ) → same_name table name ≡ true → option_map (with_column col) (option_or (schema_of own name) (schema_of base name)) ≡ option_or (schema_of new name) (schema_of base name)) → ((name : List ℕ) → same_name table name ≡ false → schema_of own name ≡ schema_of new name) → Overlays base new (widened table col all) tables
+    shows new there other = record { named = λ name. case name (same_name table name) refl; count = length-widened table col all ∙ o.count }
+      where
+        case : (name : List ℕ) (b : Bool) → same_name table name ≡ b → schema_of (widened table col all) name ≡ option_or (schema_of new name) (schema_of base name)
+        case name true e = found-widened all name e ∙ ap (option_map (with_column col)) (o.named name) ∙ there name e
+        case name false e = found-others all name e ∙ o.named name ∙ ap (λ p. option_or p (schema_of base name)) (other name e)
+
+    -- the table is one of `own`
+    pub widened-own : (s : Schema) → schema_of own table ≡ Some s → Overlays base (widened table col own) (widened table col all) tables
+    widened-own s found =
+        shows (widened table col own)
+        (λ name h. let at : schema_of own name ≡ Some s = sym (found-alike own table name h) ∙ found in rw (found-widened own name h, at) refl)
+        (λ name h. sym (found-others own name h))
+
+    -- only `base` has the table
+    pub widened-copy : (s : Schema) → schema_of own table ≡ None → schema_of base table ≡ Some s → Overlays base (own ++ with_column col s ∷ []) (widened table col all) tables
+    widened-copy s none found =
+        let named : same_name s.name table ≡ true = found-named base table s found in
+        shows (own ++ with_column col s ∷ [])
+        (λ name h.
+        let o : schema_of own name ≡ None = sym (found-alike own table name h) ∙ none in
+        let b : schema_of base name ≡ Some s = sym (found-alike base table name h) ∙ found in
+        let n : same_name s.name name ≡ true = names_equal.congr s.name table name named ∙ h in
+        let p : schema_of (own ++ with_column col s ∷ []) name ≡ Some (with_column col s) = found-pushed own (with_column col s) name ∙ rw (o, n) refl in
+        rw (o, b, p) refl)
+        (λ name h.
+        let n : same_name s.name name ≡ false = names_equal.congr s.name table name named ∙ h in
+        sym (found-pushed own (with_column col s) name ∙ rw n (or-none (schema_of own name))))
+
+    -- no table has the name
+    pub widened-none : schema_of own table ≡ None → schema_of base table ≡ None → Overlays base own (widened table col all) tables
+    widened-none none nor =
+        shows own
+        (λ name h.
+        let o : schema_of own name ≡ None = sym (found-alike own table name h) ∙ none in
+        let b : schema_of base name ≡ None = sym (found-alike base table name h) ∙ nor in
+        rw (o, b) refl)
+        (λ name h. refl)
+
+-- a copy with a column more
+pub copy-widened : (copied s : Schema) (cols : List Col) (col : Col) → copied ≡ s → cols ≡ copied.cols ++ col ∷ [] → record copied { cols = cols } ≡ with_column col s
+copy-widened copied s cols col same pushed = ap (λ cs. record copied { cols = cs }) pushed ∙ ap (with_column col) same
+
+pub none-given : {T : Type 0} (o : Option T) → ((x : T) → o ≡ Some x → ⊥) → o ≡ None
+none-given None h = refl
+none-given (Some x) h = absurd (h x refl)
+
+-- ---- the table that is recalled
+
+pub found-own : (own : List Schema) (name : List ℕ) (i : ℕ) (other : Option Schema) → Some i ≡ table_at own name → slice_get own i ≡ option_or (schema_of own name) other
+found-own [] name i other at = cc
+found-own (x ∷ xs) name i other at =
+    let h = position-Some (λ (t : Schema). same_name t.name name) (x ∷ xs) i x (sym at) in
+    let f : schema_of (x ∷ xs) name ≡ Some (get_or (x ∷ xs) i x) = find-position (λ (t : Schema). same_name t.name name) (x ∷ xs) i x (sym at) in
+    slice_get-get_or (x ∷ xs) i x h.0 ∙ ap (λ o. option_or o other) (sym f)
+
+-- what is found by a name is also found by its own
+pub recalls : (all : List Schema) (name : List ℕ) (found : Option Schema) → schema_of all name ≡ found → IfSome found (λ s. schema_of all s.name ≡ Some s)
+recalls all name None e = tt
+recalls all name (Some s) e = found-alike all s.name name (found-named all name s e) ∙ e
+
+-- two options that hold the value of a third
+pub one-value : {S T : Type 0} (r : Option S) (value : S → T) (a b : Option T) → is_some r ≡ true → IfSome r (λ s. a ≡ Some (value s)) → IfSome r (λ s. b ≡ Some (value s)) → a ≡ b
+one-value None value a b e h k = absurd (true≢false (sym e))
+one-value (Some s) value a b e h k = h ∙ sym k

@@ -1,5 +1,5 @@
 -- Sets: left places with their right ones, and blocks that are added.
-use Rattle.std.proofs.Common.{◌≡◌, ℕ, zero, suc, ◌+◌, ◌-◌, ◌<◌, ◌≤◌, List, [], ◌∷◌, ◌++◌, Option, Some, None, length, map, take, get_or, refl, sym, ap, ◌∙◌, arith, subst, All, length-append, slice_get}
+use Rattle.std.proofs.Common.{◌≡◌, ◌≢◌, ℕ, zero, suc, ◌+◌, ◌-◌, ◌<◌, ◌≤◌, List, [], ◌∷◌, ◌++◌, Option, Some, None, length, map, take, get_or, refl, sym, ap, ◌∙◌, arith, subst, All, length-append, slice_get}
 use Rattle.std.proofs.lemmas.List.{get_or_append_left, get_or-map, map-append, length-map}
 use Rattle.std.proofs.lemmas.List.Elements.{All-push, All-append}
 use Rattle.std.proofs.lemmas.List.FromFn.{get_or-map-range_with_len}
@@ -108,14 +108,23 @@ pub record HasMore (left : List Col) (right : Option (List Col)) (blocks : List 
   pub is : IsSet left right blocks lefts rights
   pub shown : set_of left right blocks lefts rights ≡ record old { places = old.places ++ more }
 
-pub joined_more : (left cols : List Col) (right : Option (List Col)) (blocks : List Block) (lefts : List Spot) (rights : List (Option Spot)) (p : Spot) (r : Option Spot) → right ≡ Some cols → IsSet left right blocks lefts rights → IsPlace left right blocks (p, r) → HasMore left right blocks (lefts ++ p ∷ []) (rights ++ r ∷ []) ((p, r) ∷ []) (set_of left right blocks lefts rights)
-joined_more left cols right blocks lefts rights p r some is there =
-    let count : length rights ≡ length lefts = subst (λ (o : Option (List Col)). KeepsRights o lefts rights) some is.kept in
+-- a set with right columns keeps a right place for each left one
+kept_count : (right : Option (List Col)) (lefts : List Spot) (rights : List (Option Spot)) → right ≢ None → KeepsRights right lefts rights → length rights ≡ length lefts
+kept_count None lefts rights some kept = absurd (some refl)
+kept_count (Some cols) lefts rights some kept = kept
+
+count_kept : (right : Option (List Col)) (lefts : List Spot) (rights : List (Option Spot)) → right ≢ None → length rights ≡ length lefts → KeepsRights right lefts rights
+count_kept None lefts rights some count = absurd (some refl)
+count_kept (Some cols) lefts rights some count = count
+
+pub joined_more : (left : List Col) (right : Option (List Col)) (blocks : List Block) (lefts : List Spot) (rights : List (Option Spot)) (p : Spot) (r : Option Spot) → right ≢ None → IsSet left right blocks lefts rights → IsPlace left right blocks (p, r) → HasMore left right blocks (lefts ++ p ∷ []) (rights ++ r ∷ []) ((p, r) ∷ []) (set_of left right blocks lefts rights)
+joined_more left right blocks lefts rights p r some is there =
+    let count : length rights ≡ length lefts = kept_count right lefts rights some is.kept in
     let more : paired (lefts ++ p ∷ []) (rights ++ r ∷ []) ≡ paired lefts rights ++ (p, r) ∷ [] = paired-more lefts rights p r count in
     let one : length (rights ++ r ∷ []) ≡ length (lefts ++ p ∷ []) = omega (arith, length-append rights (r ∷ []), length-append lefts (p ∷ [])) in
     record {
       is = record {
-        kept = subst (λ (o : Option (List Col)). KeepsRights o (lefts ++ p ∷ []) (rights ++ r ∷ [])) (sym some) one;
+        kept = count_kept right (lefts ++ p ∷ []) (rights ++ r ∷ []) some one;
         each = subst (All (IsPlace left right blocks)) (sym more) (All-push (IsPlace left right blocks) (paired lefts rights) (p, r) is.each there);
       };
       shown = ap (λ (ps : List Joined). record { left = left; right = right; blocks = blocks; places = ps }) more;

@@ -1,5 +1,5 @@
 //! Sets of result rows.
-ghost use Rattle.std.specs.Prelude.{◌≡◌, ◌+◌, ◌<◌, ◌≤◌, ◌==◌, [], ◌∷◌, ◌++◌, Some, None, length, map, drop, All, IfOk, OnOk, OnErr, slice_get, slice_index_or, option_map};
+ghost use Rattle.std.specs.Prelude.{◌≡◌, ◌≢◌, ◌+◌, ◌<◌, ◌≤◌, ◌==◌, [], ◌∷◌, ◌++◌, Some, None, length, map, drop, All, IfOk, OnOk, OnErr, slice_get, slice_index_or, option_map};
 ghost use Rattle.std.specs.Arc.{arc_value};
 ghost use Rattle.qd_base.specs.Database.{missing};
 ghost use Rattle.qd_rows.specs.Runs.{places_of_run, places_of_runs, AreRuns};
@@ -155,12 +155,7 @@ impl<D: Dictionary> RowSet<D> {
         ensures err { OnErr result (self.new ≡ self.old) }
     {
         match &self.right {
-            Some(_) => {
-                self.rights.reserve(1)?;
-                self.lefts.push(left)?;
-                self.rights.push_reserved(right);
-                Ok(())
-            }
+            Some(_) => self.push_joined(left, right),
             None => {
                 self.lefts.push(left)?;
                 Ok(())
@@ -177,6 +172,20 @@ impl<D: Dictionary> RowSet<D> {
         ensures err { OnErr result (self.new ≡ self.old) }
     {
         self.lefts.push_run(block, from, to)?;
+        Ok(())
+    }
+
+    /// Adds a row to a set with right columns.
+    #[inline(never)]
+    fn push_joined(&mut self, left: Place, right: Option<Place>) -> Result<(), Memory>
+        requires joined { self.old.right ≢ None }
+        requires there { IsPlaced self.old (left, right) }
+        ensures ok { OnOk result (self.new ≡ with_place self.old (left, right)) }
+        ensures err { OnErr result (self.new ≡ self.old) }
+    {
+        self.rights.reserve(1)?;
+        self.lefts.push(left)?;
+        self.rights.push_reserved(right);
         Ok(())
     }
 

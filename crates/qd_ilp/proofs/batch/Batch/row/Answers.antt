@@ -31,6 +31,8 @@ returns c =
     let at = row_at b.bytes.items b.pairs.items c.args.i b.rows.items b.behind k (omega (arith, c.requires, count)) in
     let row : row_in b.bytes.items b.pairs.items k.head ≡ c.row_lent-row.result = ap₂ (λ (bytes : List ℕ) (pairs : List Pair). row_in bytes pairs k.head) (sym c.as_slice.ensures.value) (sym c.as_slice-2.ensures.value) ∙ sym c.row_lent-row.ensures.row in
     let whole = ap (λ (r : Reading). r.lines) c.self.view_is in
-    record { row = ap (behind_rows c.args.i) (sym whole) ∙ at
-        ∙ ap (λ (x : KeptRow). blanks x.blanks ++ Gives (row_in b.bytes.items b.pairs.items x.head) ∷ behind_rows (c.args.i + 1) (lines_in b.bytes.items b.pairs.items b.rows.items b.behind)) (sym c.index-kept.ensures)
-        ∙ ap₂ (λ (x : Row) (ls : List Line). blanks k.blanks ++ Gives x ∷ behind_rows (c.args.i + 1) ls) row whole }
+    record {
+      row = ap (behind_rows c.args.i) (sym whole) ∙ at
+          ∙ ap (λ (x : KeptRow). blanks x.blanks ++ Gives (row_in b.bytes.items b.pairs.items x.head) ∷ behind_rows (c.args.i + 1) (lines_in b.bytes.items b.pairs.items b.rows.items b.behind)) (sym c.index-kept.ensures)
+          ∙ ap₂ (λ (x : Row) (ls : List Line). blanks k.blanks ++ Gives x ∷ behind_rows (c.args.i + 1) ls) row whole;
+    }

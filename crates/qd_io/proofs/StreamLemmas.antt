@@ -1,9 +1,8 @@
 -- What calls leave as it was, they leave so one after another; and counts of failures, one after another.
-use Rattle.std.proofs.Common.{◌≡◌, ℕ, ◌≤◌, inl, inr, refl, sym, ◌∙◌, subst, arith}
-use Rattle.std.specs.Prelude.{Result, Ok, Err}
-use Rattle.qd_io.specs.Ends.{Counts, HasRisen, InputStays, OutputStays, Stream}
+use Rattle.std.proofs.Common.{◌≡◌, ℕ, refl, ◌∙◌, subst}
+use Rattle.std.specs.Prelude.{Result}
+use Rattle.qd_io.specs.Ends.{Counts, InputStays, OutputStays, Stream}
 use Rattle.qd_io.specs.declared.fault.IoFault.{IoFault}
-use Rattle.qd_io.specs.declared.fault.IoFault.TheVariants as fault
 
 pub input-stays-here : (a : Stream) → InputStays a a
 input-stays-here a = record { input = refl; reads_failed = refl; input_lent = refl; output_lent = refl }

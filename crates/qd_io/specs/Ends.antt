@@ -3,7 +3,7 @@
 -- The rules are those of POSIX read() and write() (The Open Group Base Specifications, System Interfaces): a
 -- read gives at most as many bytes as its buffer has room for, and 0 only at the end of the input; a write
 -- takes a prefix of the bytes that it is given, and says how many.
-use Rattle.std.specs.Prelude.{◌≡◌, ℕ, ◌<◌, ◌≤◌, ◌⊎◌, List, [], ◌++◌, length, take, drop}
+use Rattle.std.specs.Prelude.{◌≡◌, ℕ, ◌+◌, ◌-◌, ◌<◌, ◌≤◌, ◌⊎◌, List, [], ◌++◌, length, take, drop, min}
 use Rattle.std.specs.Prelude.{Option, None, Some, Result, Ok, Err}
 use Rattle.std.specs.Borrow.{GName}
 use Rattle.qd_io.specs.declared.fault.IoFault.{IoFault}
@@ -40,6 +40,10 @@ pub record InputStays (old new : Stream) : Type 0 where
 abbrev pub last_count : ℕ
 last_count = 18446744073709551615
 
+-- a count and so many failures more, as far as a count can show them
+abbrev pub counts_together : ℕ → ℕ → ℕ
+counts_together count more = count + min more (last_count - count)
+
 -- the count is greater now than it was before, or it stands at its greatest number
 abbrev pub HasRisen : ℕ → ℕ → Type 0
 HasRisen before now = (before < now) ⊎ (last_count ≤ now)
@@ -52,19 +56,19 @@ Counts before now (Err fault.Failed) = (before ≤ now) × HasRisen before now
 Counts before now (Err fault.Memory) = now ≡ before
 
 -- a read of n of the bytes
-pub record TakesFront (bytes : List ℕ) (now : Option (List ℕ)) (buffer : List ℕ) (n : ℕ) : Type 0 where
+pub record TakesPrefix (bytes : List ℕ) (now : Option (List ℕ)) (buffer : List ℕ) (n : ℕ) : Type 0 where
   pub within : n ≤ length bytes
-  -- they stand at the front of the buffer
+  -- they stand at the start of the buffer
   pub given : take n buffer ≡ take n bytes
   -- and are gone from the input
   pub rest : now ≡ Some (drop n bytes)
   -- there are none only at the end of the input, or where the buffer has no room
   pub at_end : n ≡ 0 → 0 < length buffer → bytes ≡ []
 
--- a read of an input that tells its bytes: it takes some from the front, or none where it fails
+-- a read of an input that tells its bytes: it takes the first ones, or none where it fails
 abbrev pub Reads : {E : Type 0} → Option (List ℕ) → Option (List ℕ) → List ℕ → Result ℕ E → Type 0
 Reads None now buffer result = Unit {0}
-Reads (Some bytes) now buffer (Ok n) = TakesFront bytes now buffer n
+Reads (Some bytes) now buffer (Ok n) = TakesPrefix bytes now buffer n
 Reads (Some bytes) now buffer (Err fault) = now ≡ Some bytes
 
 -- a write to a told output: the first n of the bytes stand behind what was there; a write that fails adds none

@@ -1,9 +1,9 @@
-//! What stands outside the database, as traits with a written meaning: byte sources and byte sinks, with
-//! the ends over memory that tests use, the ends over the standard streams, and the hosts that give a
-//! program the rest of what it needs.
+//! What stands outside the database, as traits with a written meaning: byte sources, byte sinks and clocks,
+//! with those over memory that tests use, those over the standard streams and the system's time, and the hosts
+//! that give a program the rest of what it needs.
 //!
-//! Each end counts its failures in a number that never falls. A caller that is answered
-//! [`IoFault::Failed`] knows that the end's count has risen in that call, so every fault that a program
+//! Each device counts its failures in a number that never falls. A caller that is answered
+//! [`IoFault::Failed`] knows that the device's count has risen in that call, so every fault that a program
 //! reports has its cause outside.
 #![tactic(auto)]
 
@@ -20,10 +20,10 @@ mod writing;
 
 pub use fault::IoFault;
 pub use hosts::{Host, MemHost, StdHost};
-pub use memory::{MemSink, MemSource};
+pub use memory::{MemClock, MemSink, MemSource};
 pub use pair::Both;
-pub use standard::{StdSink, StdSource};
-pub use traits::{Ends, Sink, Source};
+pub use standard::{StdClock, StdSink, StdSource};
+pub use traits::{Clock, Ends, Sink, Source};
 pub use writing::write_all;
 
 /// Want of memory, where it is all that can go wrong.

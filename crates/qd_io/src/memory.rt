@@ -1,7 +1,9 @@
-//! Ends over memory, which tell all that they hold and fail where they are told to.
+//! Devices over memory, which tell all that they hold and fail where they are told to.
+mod clock;
 mod plan;
 mod sink;
 mod source;
 
+pub use clock::MemClock;
 pub use sink::MemSink;
 pub use source::MemSource;

@@ -1,12 +1,14 @@
-//! Each public call once on its happy path, the faults that devices answer, and a pair of lent ends as the
-//! layers above use it.
-ghost use Rattle.qd_io.specs.Ends.{WritesAll};
-ghost use Rattle.std.specs.Prelude.{◌≡◌, ◌≤◌, ℕ, IfOk, IfSome, Some, drop, length};
+//! Each public call once on its happy path, the faults that devices answer, and a pair of lent ends and a
+//! host as the layers above use them.
+ghost use Rattle.qd_io.specs.Clocks.{GivesTime, Times};
+ghost use Rattle.qd_io.specs.Ends.{Counts, WritesAll};
+ghost use Rattle.std.specs.Prelude.{◌≡◌, ◌≤◌, ℕ, IfOk, IfSome, Option, Some, drop, length};
 
 use super::*;
 use std::io;
 use std::io::{Error, ErrorKind, Read, Write};
 use std::test::Fail;
+use std::time::Duration;
 
 /// Reads once and answers with `reply`, through any object that is both ends.
 fn answer<W: Source + Sink>(wire: &mut W, reply: &[u8]) -> Result<(), IoFault>
@@ -194,13 +196,97 @@ fn faults_of_std(rt: HostRuntime) -> Result<(), Fail> {
     Ok(())
 }
 
-/// Whatever a program does with a host, it can do with each of them.
-fn with_host<H: Host + Drop>(_host: H) {}
+#[test]
+fn clock_over_memory(rt: HostRuntime) -> Result<(), Fail> {
+    let mut clock = MemClock::new(rt.alloc(), &[3, 1, 4], &[1, 5])?;
+    assert_eq!(rt; clock.now(), Ok(3));
+    assert_eq!(rt; clock.now(), Err(IoFault::Failed));
+    assert_eq!(rt; clock.now(), Ok(1));
+    assert_eq!(rt; clock.now(), Ok(4));
+    assert_eq!(rt; clock.now(), Ok(4));
+    assert_eq!(rt; clock.now(), Err(IoFault::Failed));
+    assert_eq!(rt; clock.now(), Ok(4));
+    Ok(())
+}
+
+/// A clock of std that reads so long since 1970, or fails with an error of this kind.
+#[derive(Drop)]
+struct Wall {
+    reading: Result<Duration, ErrorKind>,
+}
+
+impl std::time::Clock for Wall {
+    fn monotonic(&self) -> io::Result<Duration> {
+        self.since_1970()
+    }
+
+    fn since_1970(&self) -> io::Result<Duration> {
+        match self.reading {
+            Ok(reading) => Ok(reading),
+            Err(kind) => Err(Error::from(kind)),
+        }
+    }
+}
 
 #[test]
-fn hosts_and_texts(rt: HostRuntime) -> Result<(), Fail> {
-    with_host(MemHost::empty());
-    with_host(StdHost::new());
+fn clock_over_std(rt: HostRuntime) -> Result<(), Fail> {
+    for (reading, time) in [
+        (
+            Ok(Duration::new(1_704_067_200, 1_999)),
+            Ok(1_704_067_200_000_001),
+        ),
+        (Ok(Duration::new(0, 999)), Ok(0)),
+        (
+            Ok(Duration::new(18_446_744_073_709, 551_615_999)),
+            Ok(u64::MAX),
+        ),
+        (
+            Ok(Duration::new(18_446_744_073_709, 551_616_000)),
+            Err(IoFault::Failed),
+        ),
+        (Ok(Duration::new(u64::MAX, 0)), Err(IoFault::Failed)),
+        (Err(ErrorKind::InvalidData), Err(IoFault::Failed)),
+        (Err(ErrorKind::Interrupted), Err(IoFault::Failed)),
+        (Err(ErrorKind::OutOfMemory), Err(IoFault::Memory)),
+    ] {
+        let mut clock = StdClock::new(Wall { reading });
+        assert_eq!(rt; clock.now(), time);
+    }
+    // The machine's own clock reads a time between the beginning of 2024 and the end of 9999.
+    let time = StdClock::new(rt).now().unwrap_or(0);
+    assert!(rt; time > 1_704_067_200_000_000);
+    assert!(rt; time < 253_402_300_800_000_000);
+    Ok(())
+}
+
+/// Reads the time by a clock of the host's, and gives the clock back: a fault is counted at the host then.
+fn time_by<H: Host>(host: &mut H) -> Result<u64, IoFault>
+    ensures told { (now : Option Times) × GivesTime (H.supply host.old).clock_times now result }
+    ensures counted { Counts (H.supply host.old).clock_faults (H.supply host.new).clock_faults result }
+{
+    let mut clock = host.clock();
+    let time = clock.now();
+    host.clock_back(clock);
+    time
+}
+
+#[test]
+fn clocks_of_hosts(rt: HostRuntime) -> Result<(), Fail> {
+    let mut host = MemHost::empty(rt.alloc());
+    assert_eq!(rt; time_by(&mut host), Ok(0));
+    host.set_clock(MemClock::new(rt.alloc(), &[7, 8], &[])?);
+    assert_eq!(rt; time_by(&mut host), Ok(7));
+    assert_eq!(rt; time_by(&mut host), Ok(0));
+    host.set_clock(MemClock::new(rt.alloc(), &[9], &[0])?);
+    assert_eq!(rt; time_by(&mut host), Err(IoFault::Failed));
+    assert_eq!(rt; time_by(&mut host), Ok(0));
+    let time = time_by(&mut StdHost::new(rt)).unwrap_or(0);
+    assert!(rt; time > 1_704_067_200_000_000);
+    Ok(())
+}
+
+#[test]
+fn texts_of_faults(rt: HostRuntime) -> Result<(), Fail> {
     let texts = format!(in rt.alloc(); "{}, {}", IoFault::Failed, IoFault::Memory)?;
     assert_eq!(rt; texts.as_str(), "the device failed, out of memory");
     assert_eq!(rt; IoFault::from(std::alloc::AllocError), IoFault::Memory);

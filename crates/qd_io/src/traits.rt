@@ -1,4 +1,5 @@
-//! The two ends of a stream of bytes, and what a call does to each.
+//! The devices as traits: the two ends of a stream of bytes, and a clock, with what a call does to each.
+ghost use Rattle.qd_io.specs.Clocks.{GivesTime, Timeline};
 ghost use Rattle.qd_io.specs.Ends.{Counts, InputStays, OutputStays, Reads, Stream, Writes};
 ghost use Rattle.std.specs.Prelude.{◌<◌, ◌≤◌, length, IfOk};
 
@@ -16,7 +17,7 @@ pub trait Ends {
 
 /// An object that bytes are read from.
 pub trait Source: Ends {
-    /// Reads into the front of `buf` and gives the number of bytes read, which is 0 only at the end of the
+    /// Reads into the start of `buf` and gives the number of bytes read, which is 0 only at the end of the
     /// input or where `buf` has no room. It costs one read of the device.
     ///
     /// After an `Err` no byte of the input is taken, and what `buf` holds is left open.
@@ -48,4 +49,22 @@ pub trait Sink: Ends {
 
         // The other end, and the borrows through which both are reached, stay as they were.
         ensures rest { InputStays (Self.stream self.old) (Self.stream self.new) };
+}
+
+/// An object that tells the time.
+///
+/// `timeline` is what it shows: the times that its calls give, where it tells them; and how many of its calls have
+/// failed.
+pub trait Clock {
+    ghost timeline: { Self → Timeline };
+
+    /// Reads the time, in microseconds since 1970-01-01T00:00:00Z. Nothing is said of its order: a time may be one that
+    /// was given before, or less, and it may be any `u64`. It costs one read of the device.
+    ///
+    /// After an `Err` the same times are ahead.
+    fn now(&mut self) -> Result<u64, IoFault>
+        ensures told { GivesTime (Self.timeline self.old).ahead (Self.timeline self.new).ahead result }
+
+        // The count of faults rises exactly where `Failed` is answered.
+        ensures counted { Counts (Self.timeline self.old).faults (Self.timeline self.new).faults result };
 }

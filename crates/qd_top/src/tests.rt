@@ -34,7 +34,7 @@ fn run_case(alloc: Global, case: &Case<'_>) -> Result<(u8, MemSink), AllocError>
     }
     let mut input = MemSource::new(alloc, case.input, case.piece, case.read_fails)?;
     let mut output = MemSink::new(alloc, case.piece, case.write_fails)?;
-    let mut host = MemHost::empty();
+    let mut host = MemHost::empty(alloc);
     let status = top(
         &(),
         alloc,

@@ -9,7 +9,7 @@ use std::process::ExitCode;
 fn main(rt: HostRuntime) -> ExitCode {
     let mut input = StdSource::new(rt.stdin());
     let mut output = StdSink::new(rt.stdout());
-    let mut host = StdHost::new();
+    let mut host = StdHost::new(rt);
     ExitCode::from(run_program(
         &rt,
         rt.alloc(),

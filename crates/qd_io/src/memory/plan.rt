@@ -1,14 +1,12 @@
-//! When the calls of an end over memory fail, and how much each of them moves.
-ghost use Rattle.std.specs.Prelude.{◌≡◌, ◌≤◌, IfOk};
+//! When the calls of a device over memory fail.
+ghost use Rattle.std.specs.Prelude.{◌≡◌, ◌≤◌, [], IfOk};
 
 use std::alloc::{AllocError, Global};
 use std::marker::Model;
 
-/// The numbers of the calls that fail, the most bytes that a call moves, and two counts, which stand still
-/// at the greatest `u64`.
+/// The numbers of the calls that fail, and two counts, which stand still at the greatest `u64`.
 #[derive(Drop)]
 pub struct FailurePlan {
-    piece: usize,
     calls: u64,
     fails: Vec<u64>,
     failed: u64,
@@ -19,29 +17,39 @@ impl Model for FailurePlan {
 
     ghost Value = { Plan };
 
-    ghost view = { λ s. record { piece = s.piece; calls = s.calls; fails = s.fails.items; failed = s.failed } };
+    ghost view = { λ s. record { calls = s.calls; fails = s.fails.items; failed = s.failed } };
 }
 
 impl FailurePlan {
     ghost use Rattle.qd_io.specs.Memory.{after_failure, after_pass, fails_now};
 
     /// Copies the numbers. It is at its first call, of number 0.
-    pub fn new(alloc: Global, piece: usize, fails: &[u64]) -> Result<FailurePlan, AllocError>
-        ensures { IfOk result (λ plan. plan ≡ record { piece = piece; calls = 0; fails = fails.now; failed = 0 }) }
+    pub fn new(alloc: Global, fails: &[u64]) -> Result<FailurePlan, AllocError>
+        ensures { IfOk result (λ plan. plan ≡ record { calls = 0; fails = fails.now; failed = 0 }) }
     {
         Ok(FailurePlan {
-            piece,
             calls: 0,
             fails: Vec::from_slice(alloc, fails)?,
             failed: 0,
         })
     }
 
-    /// The most bytes that a call moves.
-    pub fn piece(&self) -> usize
-        ensures { result ≡ self.now.piece }
+    /// No call fails. It takes no memory.
+    pub fn none(alloc: Global) -> FailurePlan
+        ensures { result ≡ record { calls = 0; fails = []; failed = 0 } }
     {
-        self.piece
+        FailurePlan {
+            calls: 0,
+            fails: Vec::new(alloc),
+            failed: 0,
+        }
+    }
+
+    /// How many calls have failed.
+    pub fn failed(&self) -> u64
+        ensures { result ≡ self.now.failed }
+    {
+        self.failed
     }
 
     /// Whether the next call fails. It looks at each number that was given.
@@ -51,7 +59,7 @@ impl FailurePlan {
         self.fails.contains(&self.calls)
     }
 
-    /// Counts a call that moved its bytes.
+    /// Counts a call that did what it was asked.
     pub fn pass(&mut self)
         ensures { self.new ≡ after_pass self.old }
     {

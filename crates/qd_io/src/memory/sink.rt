@@ -15,6 +15,7 @@ use std::marker::Model;
 #[derive(Drop)]
 pub struct MemSink {
     taken: Vec<u8>,
+    piece: usize,
     plan: FailurePlan,
 }
 
@@ -24,9 +25,9 @@ impl Model for MemSink {
 
     ghost Value = { Written };
 
-    ghost view = { λ s. record { taken = s.taken.items; plan = s.plan } };
+    ghost view = { λ s. record { taken = s.taken.items; piece = s.piece; plan = s.plan } };
 
-    ghost invariant = { λ s. 1 ≤ s.plan.piece };
+    ghost invariant = { λ s. 1 ≤ s.piece };
 }
 
 impl MemSink {
@@ -37,11 +38,13 @@ impl MemSink {
     pub fn new(alloc: Global, piece: usize, fails: &[u64]) -> Result<MemSink, Memory>
         requires { 1 ≤ piece }
         ensures taken { IfOk result (λ sink. sink.taken ≡ []) }
-        ensures plan { IfOk result (λ sink. sink.plan ≡ record { piece = piece; calls = 0; fails = fails.now; failed = 0 }) }
+        ensures piece { IfOk result (λ sink. sink.piece ≡ piece) }
+        ensures plan { IfOk result (λ sink. sink.plan ≡ record { calls = 0; fails = fails.now; failed = 0 }) }
     {
         Ok(MemSink {
             taken: Vec::new(alloc),
-            plan: FailurePlan::new(alloc, piece, fails)?,
+            piece,
+            plan: FailurePlan::new(alloc, fails)?,
         })
     }
 
@@ -82,7 +85,7 @@ impl Sink for MemSink {
             self.plan.fail();
             return Err(IoFault::Failed);
         }
-        let n = self.plan.piece().min(bytes.len());
+        let n = self.piece.min(bytes.len());
         self.taken.extend_from_slice(&bytes[..n])?;
         self.plan.pass();
         Ok(n)

@@ -16,6 +16,7 @@ use std::marker::Model;
 pub struct MemSource {
     bytes: Vec<u8>,
     at: usize,
+    piece: usize,
     plan: FailurePlan,
 }
 
@@ -25,9 +26,9 @@ impl Model for MemSource {
 
     ghost Value = { Unread };
 
-    ghost view = { λ s. record { left = drop s.at s.bytes.items; plan = s.plan } };
+    ghost view = { λ s. record { left = drop s.at s.bytes.items; piece = s.piece; plan = s.plan } };
 
-    ghost invariant = { λ s. (s.at ≤ vec_len s.bytes) × (1 ≤ s.plan.piece) };
+    ghost invariant = { λ s. (s.at ≤ vec_len s.bytes) × (1 ≤ s.piece) };
 }
 
 impl MemSource {
@@ -43,11 +44,17 @@ impl MemSource {
     ) -> Result<MemSource, Memory>
         requires { 1 ≤ piece }
         ensures left { IfOk result (λ source. source.left ≡ bytes.now) }
-        ensures plan { IfOk result (λ source. source.plan ≡ record { piece = piece; calls = 0; fails = fails.now; failed = 0 }) }
+        ensures piece { IfOk result (λ source. source.piece ≡ piece) }
+        ensures plan { IfOk result (λ source. source.plan ≡ record { calls = 0; fails = fails.now; failed = 0 }) }
     {
         let bytes = Vec::from_slice(alloc, bytes)?;
-        let plan = FailurePlan::new(alloc, piece, fails)?;
-        Ok(MemSource { bytes, at: 0, plan })
+        let plan = FailurePlan::new(alloc, fails)?;
+        Ok(MemSource {
+            bytes,
+            at: 0,
+            piece,
+            plan,
+        })
     }
 }
 
@@ -79,7 +86,7 @@ impl Source for MemSource {
             return Err(IoFault::Failed);
         }
         let left = self.bytes.len() - self.at;
-        let n = self.plan.piece().min(buf.len()).min(left);
+        let n = self.piece.min(buf.len()).min(left);
         buf[..n].copy_from_slice(&self.bytes[self.at..self.at + n]);
         self.at += n;
         self.plan.pass();

@@ -4,6 +4,7 @@ use Rattle.std.specs.List.{range_with_len, slice_get}
 use Rattle.std.specs.Result.{IfOk, OnErr, OnOk}
 use Rattle.std.proofs.lemmas.List.{take_all, take_at, length_push}
 use Rattle.qd_base.specs.Codes.{number_of}
+use Rattle.qd_base.specs.declared.code.Code.{Code}
 use Rattle.qd_base.specs.declared.code.Code.TheVariants as code
 use Rattle.qd_base.specs.declared.op.Entry.{Entry}
 use Rattle.qd_base.specs.declared.request.Request.{Request}
@@ -11,13 +12,14 @@ use Rattle.qd_base.specs.declared.request.Request.TheVariants as request
 use Rattle.qd_base.specs.declared.request.Table.{Table}
 use Rattle.qd_base.specs.declared.request.Reply.{Reply}
 use Rattle.qd_base.specs.declared.request.Reply.TheVariants as reply
-use Rattle.qd_base.specs.Database.{schemas_of}
+use Rattle.qd_base.specs.Database.{Database, schemas_of}
 use Rattle.qd_base.specs.Replay.{after, first}
-use Rattle.qd_session.specs.LineForm.{Line, ReadsBatch, RefusesBatch, entry_of, letters_of}
+use Rattle.qd_ilp.specs.Whole.{IsReading, Reading}
 use Rattle.qd_session.specs.Looks.{Grows, Shown, look_at}
-use Rattle.qd_session.specs.Legal.{Answers, GoesOn, Handles, want_of_memory}
-use Rattle.qd_session.specs.Allowed.{IsTransactionOf, answer}
-use Rattle.qd_session.specs.Listed.{AllowedAlone, Listed, Writes, all_applied, answered, letters_known, listed_shown, sql_reply}
+use Rattle.qd_session.specs.Legal.{Answers, GoesOn, Handles}
+use Rattle.qd_session.specs.Timing.{want_of_memory}
+use Rattle.qd_session.specs.Allowed.{SaysBatch, answer}
+use Rattle.qd_list.specs.Listed.{AllowedAlone, Listed, SaysOver, Writes, all_applied, answered, listed_shown, sql_reply, with_entry}
 use Rattle.qd_session.proofs.RuleLemmas.{allowed-wants}
 
 -- the numbers from a on with one more
@@ -50,43 +52,43 @@ wants : (old new : Listed) (time : ℕ) (asked : Request) → GoesOn (asked ∷ 
 wants old new time asked on e = subst (λ (l : Listed). Answers AllowedAlone (listed_shown old) (listed_shown l) time asked want_of_memory) (sym e) (answers_want old time asked on)
 
 -- a batch that is the next transaction
-answers_done : (old : Listed) (time : ℕ) (text : List ℕ) (n : ℕ) (lines : List Line) → ReadsBatch (letters_known old) text lines → n ≡ length old.history + 1
-    → Answers AllowedAlone (listed_shown old) (listed_shown (record { history = old.history ++ entry_of (letters_known old) lines ∷ []; applied = old.applied })) time (request.Write text) (reply.Done n)
-answers_done old time text n lines reads is =
-    let entry = entry_of (letters_known old) lines in
+answers_done : (old : Listed) (time : ℕ) (text : List ℕ) (n : ℕ) (entry : Entry) → SaysBatch (schemas_of (after old.history)) time text (Ok entry) → n ≡ length old.history + 1
+    → Answers AllowedAlone (listed_shown old) (listed_shown (with_entry old entry)) time (request.Write text) (reply.Done n)
+answers_done old time text n entry says is =
     let before : n - 1 ≡ length old.history = omega arith in
     let front : first (old.history ++ entry ∷ []) (n - 1) ≡ after old.history = ap after (ap (λ m. take m (old.history ++ entry ∷ [])) before ∙ take_at old.history (entry ∷ []) (length old.history) refl) in
     let at : slice_get (old.history ++ entry ∷ []) (n - 1) ≡ Some entry = ap (slice_get (old.history ++ entry ∷ [])) before ∙ slice_get_behind old.history entry in
-    let transaction : IsTransactionOf (schemas_of (after old.history)) text entry = record { lines = lines; reads = reads; says = refl } in
     let longer : length (old.history ++ entry ∷ []) ≡ length old.history + 1 = length_push old.history entry in
     record {
       grows = record { history = (entry ∷ [], refl); sequenced = omega (arith, longer); known = omega arith; faults = omega arith };
-      allowed = λ clock clock' later. ((is ∙ sym longer, omega (arith, is), (entry, at, subst (λ db. IsTransactionOf (schemas_of db) text entry) (sym front) transaction)), refl);
+      allowed = λ clock clock' later. ((is ∙ sym longer, omega (arith, is), (entry, at, subst (λ (db : Database). SaysBatch (schemas_of db) time text (Ok entry)) (sym front) says)), refl);
       own = own_more old.history entry n is;
     }
 
 -- a batch that is refused
-answers_refused : (old : Listed) (time : ℕ) (text : List ℕ) (number line : ℕ) → number ≡ number_of code.UnbuiltLine → RefusesBatch (letters_known old) text line
+answers_refused : (old : Listed) (time : ℕ) (text : List ℕ) (number line : ℕ) (c : Code) → number ≡ number_of c → SaysBatch (schemas_of (after old.history)) time text (Err (c, line))
     → Answers AllowedAlone (listed_shown old) (listed_shown old) time (request.Write text) (reply.Refused number line)
-answers_refused old time text number line is refuses =
+answers_refused old time text number line c is says =
     let all : first old.history (length old.history) ≡ after old.history = ap after (take_all (length old.history) old.history (omega arith)) in
     record {
       grows = grows_still old;
-      allowed = λ clock clock' later. (inl (is, subst (λ db. RefusesBatch (letters_of (schemas_of db)) text line) (sym all) refuses), refl);
+      allowed = λ clock clock' later. (inl (c, is, subst (λ (db : Database). SaysBatch (schemas_of db) time text (Err (c, line))) (sym all) says), refl);
       own = sym (append-nil (range_with_len 1 (length old.history)));
     }
 
-pub handles_written : {E : Type 0} (old new : Listed) (time : ℕ) (text : List ℕ) (result : Result Reply E) → IfOk result (λ given. Writes old new text given) → OnErr result (new ≡ old) → Handles AllowedAlone (listed_shown old) (listed_shown new) time (request.Write text) result
-handles_written old new time text (Err e) ok err = wants old new time (request.Write text) tt err
-handles_written old new time text (Ok (reply.Done n)) ok err =
-    subst (λ (l : Listed). Answers AllowedAlone (listed_shown old) (listed_shown l) time (request.Write text) (reply.Done n)) (sym ok.3) (answers_done old time text n ok.0 ok.1 ok.2)
-handles_written old new time text (Ok (reply.Refused number line)) ok err =
-    subst (λ (l : Listed). Answers AllowedAlone (listed_shown old) (listed_shown l) time (request.Write text) (reply.Refused number line)) (sym ok.2) (answers_refused old time text number line ok.0 ok.1)
-handles_written old new time text (Ok (reply.Rows n table)) ok err = absurd ok
-handles_written old new time text (Ok (reply.Applied n)) ok err = absurd ok
-handles_written old new time text (Ok (reply.QueryRefused n number place)) ok err = absurd ok
-handles_written old new time text (Ok (reply.Damaged file at)) ok err = absurd ok
-handles_written old new time text (Ok reply.Bye) ok err = absurd ok
+pub handles_written : {E : Type 0} (old new : Listed) (time : ℕ) (reading : Reading) (result : Result Reply E) → IfOk result (λ given. Writes old new time reading given) → OnErr result (new ≡ old)
+    → (text : List ℕ) → IsReading text reading → Handles AllowedAlone (listed_shown old) (listed_shown new) time (request.Write text) result
+handles_written old new time reading (Err e) ok err text reads = wants old new time (request.Write text) tt err
+handles_written old new time reading (Ok (reply.Done n)) ok err text reads =
+    subst (λ (l : Listed). Answers AllowedAlone (listed_shown old) (listed_shown l) time (request.Write text) (reply.Done n)) (sym ok.3) (answers_done old time text n ok.0 (reading, reads, ok.1) ok.2)
+handles_written old new time reading (Ok (reply.Refused number line)) ok err text reads =
+    subst (λ (l : Listed). Answers AllowedAlone (listed_shown old) (listed_shown l) time (request.Write text) (reply.Refused number line)) (sym ok.3)
+    (answers_refused old time text number line ok.0 ok.1 (reading, reads, ok.2))
+handles_written old new time reading (Ok (reply.Rows n table)) ok err text reads = absurd ok
+handles_written old new time reading (Ok (reply.Applied n)) ok err text reads = absurd ok
+handles_written old new time reading (Ok (reply.QueryRefused n number place)) ok err text reads = absurd ok
+handles_written old new time reading (Ok (reply.Damaged file at)) ok err text reads = absurd ok
+handles_written old new time reading (Ok reply.Bye) ok err text reads = absurd ok
 
 -- a statement is answered over what is applied
 answers_sql : (l : Listed) (time : ℕ) (text : List ℕ) (found : Option Table) → l.applied ≤ length l.history → answer (first l.history l.applied) text ≡ found

@@ -34,7 +34,7 @@ pub struct ItemView<'a> {
 }
 
 /// A line that gives a row. Contracts see its table, its tags and then its fields, and its stamp.
-#[derive(Debug)]
+#[derive(Debug, Drop)]
 pub struct RowView<'a> {
     pub(crate) bytes: &'a [u8],
     pub(crate) pairs: &'a [Pair],

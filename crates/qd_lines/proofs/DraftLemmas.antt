@@ -1,8 +1,7 @@
 -- What one more tag or field changes in a draft of a line.
-use Rattle.std.proofs.Common.{◌≡◌, ℕ, zero, suc, ◌+◌, ◌<◌, ◌≤◌, ◌||◌, ◌&&◌, inl, inr, ◌⊎◌, Bool, true, false, not, cond, eqb, ltb, List, [], ◌∷◌, ◌++◌, Option, Some, None, length, map, get_or, set, take, refl, sym, ap, ap₂, ◌∙◌, arith, slice_get, length-append, subst, true≢false, All, Contains, append_assoc, le_of_suc-le-suc}
-use Rattle.std.specs.List.{list_any, position, find, IsDistinct, AllByRecursion, fold}
+use Rattle.std.proofs.Common.{◌≡◌, ℕ, zero, suc, ◌+◌, ◌<◌, ◌≤◌, ◌||◌, ◌&&◌, inl, inr, Bool, true, false, not, cond, eqb, List, [], ◌∷◌, ◌++◌, Option, Some, None, length, map, get_or, set, take, refl, sym, ap, ap₂, ◌∙◌, arith, slice_get, length-append, subst, true≢false, append_assoc, le_of_suc-le-suc}
+use Rattle.std.specs.List.{list_any, IsDistinct, AllByRecursion}
 use Rattle.std.specs.Option.{option_or, is_some}
-use Rattle.std.proofs.lemmas.Bool.{cases_lt}
 use Rattle.std.proofs.lemmas.Bool.Decides.{eqb_tells}
 use Rattle.std.proofs.lemmas.List.{get_or_append_left, get_or_push, get_or-map, map-append, take_more, append-nil, length-map}
 use Rattle.std.proofs.lemmas.Map.Keys.{apart_from_distinct}
@@ -10,7 +9,7 @@ use Rattle.std.proofs.lemmas.Option.{none-some, get_or_from_slice_get}
 use Rattle.qd_base.proofs.Lists.{IsDistinct-push, IsDistinct-nil, each-weaker}
 use Rattle.std.proofs.lemmas.List.Folds.{list_any-append}
 use Rattle.std.proofs.lemmas.List.Sums.{fold-append}
-use Rattle.std.proofs.lemmas.List.Elements.{All-push, All-nil, Contains-push, Contains-append_left}
+use Rattle.std.proofs.lemmas.List.Elements.{All-push, Contains-push, Contains-append_left}
 use Rattle.std.proofs.lemmas.List.Quantifiers.{position-Some}
 use Rattle.qd_base.specs.declared.limits.TheConstants.{MAX_COLUMNS}
 use Rattle.qd_base.specs.declared.schema.Col.{Col}
@@ -18,12 +17,12 @@ use Rattle.qd_base.specs.Names.{IsColumnName}
 use Rattle.qd_base.specs.Schemas.{same_name, column_at}
 use Rattle.qd_base.proofs.Tables.{find-position}
 use Rattle.qd_ilp.specs.Line.{Item}
-use Rattle.qd_ilp.specs.Transaction.{name_at, misfits, suits, with_items}
+use Rattle.qd_ilp.specs.Transaction.{name_at, suits, with_items}
 use Rattle.qd_lines.specs.declared.draft.Columns.{Columns}
 use Rattle.qd_lines.specs.declared.draft.Draft.{Draft}
 use Rattle.qd_lines.specs.Drafts.{IsUsable, mark, time_name, clashes_in, column_made, ValuesSeen, NamesSeen, AreTwice, TwiceSeen, Marked, Draws}
 use Rattle.qd_lines.proofs.NameLemmas.{names_equal}
-use Rattle.qd_lines.proofs.MarkLemmas.{joins, turned, all_at, all_of, name_at-there, place_is, others_differ, none_before, none_at, none_from, found_none, marks_met, marks_kept, mark_met}
+use Rattle.qd_lines.proofs.MarkLemmas.{joins, turned, all_at, name_at-there, place_is, others_differ, none_before, none_at, none_from, found_none, marks_met, marks_kept, mark_met}
 
 -- a name more is fair or not
 pub named : (items : List Item) (i : Item) (old fair new : Bool) → (fair ≡ true → IsColumnName i.name) → (IsColumnName i.name → fair ≡ true) → new ≡ (old || not fair) → NamesSeen items old → NamesSeen (items ++ i ∷ []) new
@@ -45,9 +44,9 @@ module _ (cols : List Col) (time : ℕ) (u : IsUsable cols time) (i : Item) wher
   -- an item names the designated column exactly where its place is that
   pub times_name : (p : ℕ) (d : Col) → p < length cols → same_name (get_or cols p d).name i.name ≡ true → same_name (name_at cols time) i.name ≡ eqb p time
   times_name p d lt has = rw (name_at-there cols time d u.there) (elim (eqb_tells p time) [
-      | inl e ↦ rw e.0 (ap (λ (k : ℕ). same_name (get_or cols k d).name i.name) (sym e.1) ∙ has)
-      | inr e ↦ rw e.0 (others_differ cols u.distinct p time d i.name lt u.there e.1 has)
-    ])
+    | inl e ↦ rw e.0 (ap (λ (k : ℕ). same_name (get_or cols k d).name i.name) (sym e.1) ∙ has)
+    | inr e ↦ rw e.0 (others_differ cols u.distinct p time d i.name lt u.there e.1 has)
+  ])
 
   pub clash_found : (added : List Col) (p : ℕ) (d : Col) → column_at (cols ++ added) i.name ≡ Some p → p < length cols → clashes_in cols (name_at cols time) i ≡ (not (eqb p time) && not (suits (get_or cols p d).kind i.value))
   clash_found added p d e lt =
@@ -70,15 +69,15 @@ module _ (cols : List Col) (time : ℕ) (u : IsUsable cols time) (i : Item) wher
 
 pub eqb_apart : (a b : ℕ) → (a ≡ b → ⊥) → eqb a b ≡ false
 eqb_apart a b ne = elim (eqb_tells a b) [
-    | inl e ↦ absurd (ne e.1)
-    | inr e ↦ e.0
-  ]
+  | inl e ↦ absurd (ne e.1)
+  | inr e ↦ e.0
+]
 
 pub eqb_same : (a b : ℕ) → a ≡ b → eqb a b ≡ true
 eqb_same a b e = elim (eqb_tells a b) [
-    | inl f ↦ f.0
-    | inr f ↦ absurd (f.1 e)
-  ]
+  | inl f ↦ f.0
+  | inr f ↦ absurd (f.1 e)
+]
 
 -- lists
 list_any_at : {X : Type 0} (p : X → Bool) (xs : List X) (k : ℕ) (d : X) → k < length xs → p (get_or xs k d) ≡ true → list_any p xs ≡ true
@@ -136,9 +135,9 @@ same_item a b = same_name a.name b.name
 -- who is twice stays so
 still_twice : (time : List ℕ) (items : List Item) (i : Item) → AreTwice time items → AreTwice time (items ++ i ∷ [])
 still_twice time items i h = elim h [
-    | inl f ↦ inl (λ d. f (distinct_prefix (λ (a : Item) (b : Item). same_name a.name b.name) items (i ∷ []) d))
-    | inr e ↦ inr (list_any-append (λ (x : Item). same_name time x.name) items (i ∷ []) ∙ or_left _ _ e)
-  ]
+  | inl f ↦ inl (λ d. f (distinct_prefix (λ (a : Item) (b : Item). same_name a.name b.name) items (i ∷ []) d))
+  | inr e ↦ inr (list_any-append (λ (x : Item). same_name time x.name) items (i ∷ []) ∙ or_left _ _ e)
+]
 
 module _ (cols : List Col) (time : ℕ) (u : IsUsable cols time) (items : List Item) (i : Item) (added : List Col) (marks : List (Option ℕ)) (twice : Bool) (m : Marked cols (name_at cols time) items added marks twice) where
   abbrev pub time_is : List ℕ
@@ -191,7 +190,8 @@ module _ (cols : List Col) (time : ℕ) (u : IsUsable cols time) (items : List I
             some = λ e. absurd (true≢false (sym e ∙ is));
             none = λ _. (
               IsDistinct-push (λ (a : Item) (b : Item). same_name a.name b.name) items i before.0 (each-weaker (λ (y : Item). same_name x.name y.name ≡ false) (λ (y : Item). same_name y.name i.name ≡ false) (λ y f. turned i.name y.name false (joins x.name i.name y.name false has f)) items free),
-              list_any-append (λ (y : Item). same_name time_is y.name) items (i ∷ []) ∙ rw (before.1, at_time) refl);
+              list_any-append (λ (y : Item). same_name time_is y.name) items (i ∷ []) ∙ rw (before.1, at_time) refl,
+            );
           }
 
   -- an item that names no column shares its name with no item
@@ -233,7 +233,8 @@ module _ (cols : List Col) (time : ℕ) (u : IsUsable cols time) (items : List I
           some = λ t. still_twice time_is items i (m.names_twice.some t);
           none = λ f. let before = m.names_twice.none f in (
             IsDistinct-push (λ (a : Item) (b : Item). same_name a.name b.name) items i before.0 others,
-            list_any-append (λ (y : Item). same_name time_is y.name) items (i ∷ []) ∙ rw (before.1, time_free) refl);
+            list_any-append (λ (y : Item). same_name time_is y.name) items (i ∷ []) ∙ rw (before.1, time_free) refl,
+          );
         };
       }
 

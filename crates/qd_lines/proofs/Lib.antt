@@ -3,3 +3,12 @@ pub mod ChangesLemmas
 pub mod OverlayLemmas
 pub mod MarkLemmas
 pub mod DraftLemmas
+pub mod CodeLemmas
+pub mod FoundLemmas
+pub mod CellLemmas
+pub mod DecisionLemmas
+pub mod CleanLemmas
+pub mod AnswerLemmas
+pub mod ColumnLemmas
+pub mod SchemaLemmas
+pub mod WalkLemmas

@@ -1,8 +1,8 @@
 -- Names, places and marks: which items name which columns, and what one more item changes.
-use Rattle.std.proofs.Common.{◌≡◌, ℕ, zero, suc, ◌+◌, ◌-◌, ◌<◌, ◌≤◌, ◌||◌, ◌&&◌, inl, inr, ◌⊎◌, Bool, true, false, not, cond, eqb, ltb, List, [], ◌∷◌, ◌++◌, Option, Some, None, length, map, get_or, set, refl, sym, ap, ap₂, ◌∙◌, arith, slice_get, length-append, subst, true≢false, le_of_suc-le-suc}
-use Rattle.std.specs.List.{list_any, position_or_len, position, find, IsDistinct, AllByRecursion}
+use Rattle.std.proofs.Common.{◌≡◌, ℕ, zero, suc, ◌+◌, ◌-◌, ◌<◌, ◌≤◌, inl, inr, Bool, true, false, not, cond, eqb, ltb, List, [], ◌∷◌, ◌++◌, Option, Some, None, length, map, get_or, set, refl, sym, ap, ap₂, ◌∙◌, arith, length-append, le_of_suc-le-suc}
+use Rattle.std.specs.List.{position_or_len, position, find, IsDistinct, AllByRecursion}
 use Rattle.std.specs.Option.{option_or, is_some}
-use Rattle.std.proofs.lemmas.Bool.{ltb-true, ltb-false, lt-ltb, le-ltb, false≢true, cases_lt}
+use Rattle.std.proofs.lemmas.Bool.{lt-ltb, le-ltb, cases_lt}
 use Rattle.std.proofs.lemmas.Bool.Decides.{eqb_tells}
 use Rattle.std.proofs.lemmas.List.{get_or_append_left, get_or-append_right}
 use Rattle.std.proofs.lemmas.List.Folds.{position_or_len_push}
@@ -12,7 +12,7 @@ use Rattle.std.proofs.lemmas.Map.Keys.{apart_from_distinct}
 use Rattle.std.proofs.lemmas.Option.{slice_get-get_or}
 use Rattle.qd_base.specs.declared.schema.Col.{Col}
 use Rattle.qd_base.specs.Schemas.{same_name, column_at}
-use Rattle.qd_base.proofs.Tables.{position-none, find-position}
+use Rattle.qd_base.proofs.Tables.{position-none}
 use Rattle.qd_ilp.specs.Line.{Item}
 use Rattle.qd_ilp.specs.Transaction.{name_at}
 use Rattle.qd_lines.specs.Drafts.{mark}
@@ -51,9 +51,9 @@ module _ {X : Type 0} (p : X → Bool) where
 
   one_push : (n len : ℕ) (b : Bool) → n ≤ len → cond (ltb (cond (eqb n len) (len + cond b 0 1) n) (len + 1)) (Some (cond (eqb n len) (len + cond b 0 1) n)) None ≡ option_or (cond (ltb n len) (Some n) None) (cond b (Some len) None)
   one_push n len b h = elim (eqb_tells n len) [
-      | inl e ↦ last b e.0 e.1
-      | inr e ↦ let lt : n < len = omega (arith, e.1) in rw (e.0, lt-ltb n len lt, lt-ltb n (len + 1) (omega arith)) refl
-    ]
+    | inl e ↦ last b e.0 e.1
+    | inr e ↦ let lt : n < len = omega (arith, e.1) in rw (e.0, lt-ltb n len lt, lt-ltb n (len + 1) (omega arith)) refl
+  ]
     where
       last : (b : Bool) → eqb n len ≡ true → n ≡ len → cond (ltb (cond (eqb n len) (len + cond b 0 1) n) (len + 1)) (Some (cond (eqb n len) (len + cond b 0 1) n)) None ≡ option_or (cond (ltb n len) (Some n) None) (cond b (Some len) None)
       last true e f = rw (e, le-ltb n len (omega (arith, f)), lt-ltb (len + 0) (len + 1) (omega arith)) (ap (λ (k : ℕ). Some k) (omega arith))
@@ -88,9 +88,9 @@ module _ {X : Type 0} (p : X → Bool) where
       let zs : List X = y ∷ ys in
       let len = length-append xs zs in
       let before : (k : ℕ) → k < length xs + j → p (get_or (xs ++ zs) k y) ≡ false = λ k lt. elim (cases_lt k (length xs)) [
-          | inl left ↦ ap p (get_or_append_left xs zs y k left) ∙ all_at (λ x. p x ≡ false) xs k y (none_at xs n) left
-          | inr right ↦ ap p (get_or-append_right xs zs (length xs) k y refl right) ∙ h.2 (k - length xs) (omega (arith, h.0))
-        ] in
+        | inl left ↦ ap p (get_or_append_left xs zs y k left) ∙ all_at (λ x. p x ≡ false) xs k y (none_at xs n) left
+        | inr right ↦ ap p (get_or-append_right xs zs (length xs) k y refl right) ∙ h.2 (k - length xs) (omega (arith, h.0))
+      ] in
       placed (xs ++ zs) (length xs + j) (position_or_len_is p (xs ++ zs) (length xs + j) y (omega (arith, h.0, len)) before (λ lt. ap p (get_or-append_right xs zs (length xs) (length xs + j) y refl (omega arith) ∙ ap (λ (m : ℕ). get_or zs m y) (omega arith)) ∙ h.1)) (omega (arith, h.0, len))
 
   pub position_neither : (xs ys : List X) → position p xs ≡ None → position p ys ≡ None → position p (xs ++ ys) ≡ None
@@ -122,9 +122,9 @@ module _ {X : Type 0} (p : X → Bool) where
 module _ (cols : List Col) (distinct : IsDistinct (λ (a : Col) (b : Col). same_name a.name b.name) cols) where
   pub apart_at : (i j : ℕ) (d : Col) → i < length cols → j < length cols → (i ≡ j → ⊥) → same_name (get_or cols i d).name (get_or cols j d).name ≡ false
   apart_at i j d lt lu ne = elim (cases_lt i j) [
-      | inl before ↦ apart_from_distinct (λ (a : Col) (b : Col). same_name a.name b.name) cols i j d distinct before lu
-      | inr upto ↦ turned (get_or cols j d).name (get_or cols i d).name false (apart_from_distinct (λ (a : Col) (b : Col). same_name a.name b.name) cols j i d distinct (omega (arith, ne)) lt)
-    ]
+    | inl before ↦ apart_from_distinct (λ (a : Col) (b : Col). same_name a.name b.name) cols i j d distinct before lu
+    | inr upto ↦ turned (get_or cols j d).name (get_or cols i d).name false (apart_from_distinct (λ (a : Col) (b : Col). same_name a.name b.name) cols j i d distinct (omega (arith, ne)) lt)
+  ]
 
   -- other columns don't have the name of one
   pub others_differ : (i j : ℕ) (d : Col) (name : List ℕ) → i < length cols → j < length cols → (i ≡ j → ⊥) → same_name (get_or cols i d).name name ≡ true → same_name (get_or cols j d).name name ≡ false

@@ -1,8 +1,9 @@
 -- What an overlay shows, when a table is made and when a column is added.
-use Rattle.std.proofs.Common.{◌≡◌, ℕ, ◌+◌, Bool, true, false, cond, List, [], ◌∷◌, ◌++◌, Option, Some, None, IsNone, if◌then◌else◌, length, length-append, get_or, refl, sym, ap, ◌∙◌, true≢false, arith}
+use Rattle.std.proofs.Common.{◌≡◌, ℕ, ◌+◌, Bool, true, false, cond, List, [], ◌∷◌, ◌++◌, Option, Some, None, IsNone, if◌then◌else◌, length, length-append, get_or, refl, sym, ap, ◌∙◌, true≢false, arith, slice_get, IfSome, is_some}
 use Rattle.std.specs.Option.{option_map, option_or}
 use Rattle.std.proofs.lemmas.List.{length-map}
-use Rattle.std.proofs.lemmas.Option.{same_Some}
+use Rattle.std.proofs.lemmas.List.Quantifiers.{position-Some}
+use Rattle.std.proofs.lemmas.Option.{same_Some, slice_get-get_or}
 use Rattle.qd_base.specs.declared.schema.Col.{Col}
 use Rattle.qd_base.specs.declared.schema.Schema.{Schema}
 use Rattle.qd_base.specs.Schemas.{same_name, at_name, with_column, schema_of, table_at}
@@ -158,3 +159,22 @@ copy-widened copied s cols col same pushed = ap (λ cs. record copied { cols = c
 pub none-given : {T : Type 0} (o : Option T) → ((x : T) → o ≡ Some x → ⊥) → o ≡ None
 none-given None h = refl
 none-given (Some x) h = absurd (h x refl)
+
+-- ---- the table that is recalled
+
+pub found-own : (own : List Schema) (name : List ℕ) (i : ℕ) (other : Option Schema) → Some i ≡ table_at own name → slice_get own i ≡ option_or (schema_of own name) other
+found-own [] name i other at = cc
+found-own (x ∷ xs) name i other at =
+    let h = position-Some (λ (t : Schema). same_name t.name name) (x ∷ xs) i x (sym at) in
+    let f : schema_of (x ∷ xs) name ≡ Some (get_or (x ∷ xs) i x) = find-position (λ (t : Schema). same_name t.name name) (x ∷ xs) i x (sym at) in
+    slice_get-get_or (x ∷ xs) i x h.0 ∙ ap (λ o. option_or o other) (sym f)
+
+-- what is found by a name is also found by its own
+pub recalls : (all : List Schema) (name : List ℕ) (found : Option Schema) → schema_of all name ≡ found → IfSome found (λ s. schema_of all s.name ≡ Some s)
+recalls all name None e = tt
+recalls all name (Some s) e = found-alike all s.name name (found-named all name s e) ∙ e
+
+-- two options that hold the value of a third
+pub one-value : {S T : Type 0} (r : Option S) (value : S → T) (a b : Option T) → is_some r ≡ true → IfSome r (λ s. a ≡ Some (value s)) → IfSome r (λ s. b ≡ Some (value s)) → a ≡ b
+one-value None value a b e h k = absurd (true≢false (sym e))
+one-value (Some s) value a b e h k = h ∙ sym k

@@ -21,7 +21,7 @@ IsPlain (op.Insert table rows) = ⊥
 abbrev pub IsClosed : List Op → Type 0
 IsClosed ops = (table : List ℕ) (rows : List Row) → joined ops (op.Insert table rows) ≡ ops ++ op.Insert table rows ∷ []
 
--- An insertion that is the last change stands apart from the others.
+-- Where no insertion is held apart, an insertion is joined with none of the other changes.
 abbrev pub IsParted : List Op → Option Insertion → Type 0
 IsParted done None = IsClosed done
 IsParted done (Some i) = Unit {0}

@@ -1,9 +1,11 @@
 -- Tables as the lines of a batch find them: those that are there, and over them those that the lines before have made or
 -- changed.
-use Rattle.std.specs.Prelude.{◌≡◌, ℕ, List, length}
+use Rattle.std.specs.Prelude.{◌≡◌, ℕ, List, Option, Some, None, length, slice_get, IfSome}
 use Rattle.std.specs.Option.{option_or}
 use Rattle.qd_base.specs.declared.schema.Schema.{Schema}
 use Rattle.qd_base.specs.Schemas.{schema_of}
+use Rattle.qd_lines.specs.declared.overlay.Spot.{Spot}
+use Rattle.qd_lines.specs.declared.overlay.Spot.TheVariants as spot
 use Rattle.qd_lines.specs.declared.overlay.Overlay.{Overlay}
 
 -- Over the schemas of `base` lie those of `own`. Together they show what `all` do, of which there are as many as `tables`.
@@ -11,6 +13,13 @@ pub record Overlays (base own all : List Schema) (tables : ℕ) : Type 0 where
   pub named : (name : List ℕ) → schema_of all name ≡ option_or (schema_of own name) (schema_of base name)
   pub count : length all ≡ tables
 
--- what an overlay shows
-abbrev pub Covers : Overlay → List Schema → Type 0
-Covers o all = Overlays o.base.now o.own.items all o.tables
+-- the table that an overlay recalls
+abbrev pub spotted : List Schema → Option Spot → Option Schema
+spotted own None = None
+spotted own (Some (spot.Own i)) = slice_get own i
+spotted own (Some (spot.Base schema)) = Some schema.now
+
+-- what an overlay shows; the table that it recalls is the one of its name
+pub record Covers (o : Overlay) (all : List Schema) : Type 0 where
+  pub shown : Overlays o.base.now o.own.items all o.tables
+  pub recent : IfSome (spotted o.own.items o.recent) (λ s. schema_of all s.name ≡ Some s)

@@ -9,13 +9,6 @@ use std::alloc::Global;
 use std::marker::Model;
 use std::mem;
 
-/// Rows that go into one table.
-#[derive(Drop)]
-struct Insertion {
-    table: Txt,
-    rows: RowList,
-}
-
 /// Changes in order, consecutive insertions into one table as one. Contracts see that list.
 #[derive(Drop)]
 pub(crate) struct Changes {
@@ -24,6 +17,13 @@ pub(crate) struct Changes {
     done: OpList,
     /// The last change, where it inserts rows.
     inserting: Option<Insertion>,
+}
+
+/// Rows that go into one table.
+#[derive(Drop)]
+struct Insertion {
+    table: Txt,
+    rows: RowList,
 }
 
 impl Model for Changes {

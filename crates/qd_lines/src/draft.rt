@@ -37,6 +37,7 @@ pub(crate) struct Faults {
 }
 
 /// What a line does to the columns of its table. Its vectors are used again for the next line.
+#[derive(Drop)]
 pub(crate) struct Draft {
     /// The columns that the line adds.
     pub(crate) added: Vec<Col>,
@@ -61,7 +62,12 @@ impl Draft {
 
     /// Goes over the tags and fields of a line. It costs time linear in them and in the columns of the table, where they
     /// come in the order of the columns.
-    pub(crate) fn draw(&mut self, alloc: Global, columns: Columns<'_>, row: &RowView<'_>) -> Result<(), Memory>
+    pub(crate) fn draw(
+        &mut self,
+        alloc: Global,
+        columns: Columns<'_>,
+        row: &RowView<'_>,
+    ) -> Result<(), Memory>
         requires usable { Usable columns }
         ensures draws { OnOk result (Draws columns.entry row.now.items self.new) }
     {
@@ -88,7 +94,13 @@ impl Draft {
     }
 
     /// Goes over one more tag or field.
-    fn take(&mut self, alloc: Global, columns: Columns<'_>, row: &RowView<'_>, at: usize) -> Result<(), Memory>
+    fn take(
+        &mut self,
+        alloc: Global,
+        columns: Columns<'_>,
+        row: &RowView<'_>,
+        at: usize,
+    ) -> Result<(), Memory>
         requires usable { Usable columns }
         requires there { at < length row.now.items }
         requires draws { Draws columns (take at row.now.items) self.old }
@@ -167,7 +179,8 @@ fn place_of(columns: Columns<'_>, added: &[Col], name: &[u8], next: usize) -> Op
 fn find(cols: &[Col], name: &[u8]) -> Option<usize>
     ensures place { result ≡ column_at cols.now name.now }
 {
-    cols.iter().position(|col| same_name(col.name.bytes(), name))
+    cols.iter()
+        .position(|col| same_name(col.name.bytes(), name))
 }
 
 /// Says whether the value of a tag or a field doesn't fit its column, which has this place among those of the table and

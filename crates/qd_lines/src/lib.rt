@@ -3,7 +3,18 @@
 //! The definitions stand in `qd_ilp`'s `specs/Transaction` (what a line does, its codes, and what all lines say).
 #![tactic(auto)]
 
+mod cells;
 mod changes;
+mod codes;
 mod draft;
+mod fault;
+mod laws;
 mod overlay;
+#[cfg(test)]
+mod tests;
 mod values;
+mod walk;
+
+pub use fault::LineFault;
+pub use laws::{every_batch_is_answered, one_answer};
+pub use walk::entry_of;

@@ -1,10 +1,11 @@
 //! Tables as the lines of a batch find them.
-ghost use Rattle.std.specs.Prelude.{◌≡◌, ◌<◌, List, None, length, option_map, IsNone, OnOk};
+ghost use Rattle.std.specs.Prelude.{◌≡◌, ◌<◌, ℕ, List, None, Some, length, option_map, IfSome, IsNone, OnOk};
+ghost use Rattle.std.specs.Option.{option_or};
 ghost use Rattle.qd_base.specs.declared.limits.TheConstants.{MAX_TABLES};
-ghost use Rattle.qd_base.specs.declared.schema.Schema.{Schema};
 ghost use Rattle.qd_base.specs.declared.op.Op.TheVariants as op;
+ghost use Rattle.qd_base.specs.declared.schema.Schema.{Schema};
 ghost use Rattle.qd_base.specs.Schemas.{schema_of, schemas_step, table_at};
-ghost use Rattle.qd_lines.specs.Overlays.{Covers};
+ghost use Rattle.qd_lines.specs.Overlays.{Covers, Overlays, spotted};
 
 use qd_base::{Col, Duplicate, Memory, Schema, Schemas, same_name};
 use std::alloc::Global;
@@ -17,6 +18,17 @@ pub(crate) struct Overlay<'a> {
     own: Vec<Schema>,
     /// The number of tables: those of `base`, and those that lines have made.
     tables: usize,
+    /// The table that was sought last, where none was made or changed since.
+    recent: Option<Spot<'a>>,
+}
+
+/// Where a table is kept.
+#[derive(Clone, Copy)]
+enum Spot<'a> {
+    /// At a position among those that lines have made or changed.
+    Own(usize),
+    /// Among those that were there before the batch.
+    Base(&'a Schema),
 }
 
 impl<'a> Overlay<'a> {
@@ -28,6 +40,7 @@ impl<'a> Overlay<'a> {
             base,
             own: Vec::new(alloc),
             tables: base.len(),
+            recent: None,
         }
     }
 
@@ -39,14 +52,26 @@ impl<'a> Overlay<'a> {
         self.tables
     }
 
+    /// Recalls the table of a name, so that `find` gives it in time linear in the name until another is sought, or one is
+    /// made or changed. It costs time linear in the number of tables, or in the name where its table is recalled already.
+    pub(crate) fn seek(&mut self, name: &[u8])
+        ensures all { (all : List Schema) → Covers self.old all → Covers self.new all }
+        ensures recent { (all : List Schema) → Covers self.old all →
+            spotted self.new.own.items self.new.recent ≡ schema_of all name.now }
+    {
+        if self.recalled(name).is_none() {
+            self.recent = self.spot(name);
+        }
+    }
+
     /// Lends the schema of the table of a name, where there is one. ASCII case is ignored. It costs time linear in the
-    /// number of tables.
+    /// number of tables, or in the name where its table is recalled.
     pub(crate) fn find(&self, name: &[u8]) -> Option<&Schema>
         ensures schema { (all : List Schema) → Covers self.now all → option_map (λ s. s.now) result ≡ schema_of all name.now }
     {
-        match self.own_position(name) {
-            Some(i) => Some(&self.own[i]),
-            None => table_of(self.base, name),
+        match self.recalled(name) {
+            Some(schema) => Some(schema),
+            None => self.at(self.spot(name)),
         }
     }
 
@@ -56,6 +81,7 @@ impl<'a> Overlay<'a> {
         ensures ok { (all : List Schema) → Covers self.old all → IsNone (schema_of all schema.now.name) →
             OnOk result (Covers self.new (schemas_step all (op.Create schema.now))) }
     {
+        self.recent = None;
         self.own.push(schema.copy()?)?;
         self.tables += 1;
         Ok(())
@@ -67,25 +93,49 @@ impl<'a> Overlay<'a> {
         ensures ok { (all : List Schema) → Covers self.old all →
             OnOk result (Covers self.new (schemas_step all (op.AddColumn table.now col.now))) }
     {
+        self.recent = None;
         let col = col.copy()?;
         match self.own_position(table) {
             Some(i) => self.own[i].cols.push(col),
-            None => self.widen(table, col),
+            None => widen(&mut self.own, self.base, table, col),
         }
     }
 
-    /// Adds a column to the copy of a table that has none yet.
-    fn widen(&mut self, table: &[u8], col: Col) -> Result<(), Memory>
-        requires { table_at self.old.own.items table.now ≡ None }
-        ensures ok { (all : List Schema) → Covers self.old all →
-            OnOk result (Covers self.new (schemas_step all (op.AddColumn table.now col))) }
+    /// Lends the table that is recalled, where it is the one of this name.
+    fn recalled(&self, name: &[u8]) -> Option<&Schema>
+        ensures recent { IfSome result (λ s. spotted self.now.own.items self.now.recent ≡ Some s.now) }
+        ensures schema { (all : List Schema) → Covers self.now all →
+            IfSome result (λ s. schema_of all name.now ≡ Some s.now) }
     {
-        if let Some(schema) = table_of(self.base, table) {
-            let mut schema = schema.copy()?;
-            schema.cols.push(col)?;
-            self.own.push(schema)?;
+        match self.at(self.recent) {
+            Some(schema) if same_name(schema.name.bytes(), name) => Some(schema),
+            _ => None,
         }
-        Ok(())
+    }
+
+    /// Lends the table of a spot.
+    fn at(&self, spot: Option<Spot<'a>>) -> Option<&Schema>
+        ensures schema { option_map (λ s. s.now) result ≡ spotted self.now.own.items spot.entry }
+    {
+        match spot {
+            None => None,
+            Some(Spot::Own(i)) => self.own.get(i),
+            Some(Spot::Base(schema)) => Some(schema),
+        }
+    }
+
+    /// Says where the table of a name is kept, where there is one.
+    fn spot(&self, name: &[u8]) -> Option<Spot<'a>>
+        ensures schema { spotted self.now.own.items result ≡
+            option_or (schema_of self.now.own.items name.now) (schema_of self.now.base.now name.now) }
+    {
+        match self.own_position(name) {
+            Some(i) => Some(Spot::Own(i)),
+            None => match table_of(self.base, name) {
+                Some(schema) => Some(Spot::Base(schema)),
+                None => None,
+            },
+        }
     }
 
     /// Gives the position of the table of a name among those that lines have made or changed.
@@ -96,6 +146,20 @@ impl<'a> Overlay<'a> {
             .iter()
             .position(|schema| same_name(schema.name.bytes(), name))
     }
+}
+
+/// Adds a column to a copy of the table of a name, which is put behind the others.
+fn widen(own: &mut Vec<Schema>, base: &Schemas, table: &[u8], col: Col) -> Result<(), Memory>
+    requires { table_at own.old.items table.now ≡ None }
+    ensures ok { (all : List Schema) (tables : ℕ) → Overlays base.now own.old.items all tables →
+        OnOk result (Overlays base.now own.new.items (schemas_step all (op.AddColumn table.now col)) tables) }
+{
+    if let Some(schema) = table_of(base, table) {
+        let mut schema = schema.copy()?;
+        schema.cols.push(col)?;
+        own.push(schema)?;
+    }
+    Ok(())
 }
 
 /// Lends the schema of the table of a name, where there is one.

@@ -1,4 +1,4 @@
-use Rattle.std.proofs.Common.{◌≡◌, ◌∙◌, sym, ap, not, refl, [], Some}
+use Rattle.std.proofs.Common.{◌∙◌, sym, ap, not, refl, []}
 use Rattle.qd_base.specs.declared.schema.ColType.TheVariants as kind
 use Rattle.qd_ilp.specs.View.{item_of}
 use Rattle.qd_lines.proofs.DraftLemmas.{clash_found, clash_behind, clash_nowhere, eqb_apart, eqb_same}

@@ -1,4 +1,4 @@
-use Rattle.std.proofs.Common.{◌≡◌, ◌∙◌, ◌++◌, ◌∷◌, [], ℕ, List, Option, None, sym, ap, map, arith}
+use Rattle.std.proofs.Common.{◌∙◌, ◌++◌, ◌∷◌, [], ℕ, List, Option, None, sym, ap, map}
 use Rattle.std.proofs.lemmas.List.{map_more, take_all}
 use Rattle.qd_base.specs.declared.schema.Col.{Col}
 use Rattle.qd_base.specs.declared.schema.ColType.TheVariants as kind

@@ -1,4 +1,4 @@
-use Rattle.std.proofs.Common.{◌≡◌, ◌∙◌, ◌+◌, ◌<◌, ◌||◌, ◌++◌, ◌∷◌, [], ℕ, List, Some, None, Bool, eqb, get_or, set, ap₂, length-append, sym, ap, refl, take, length, subst, arith}
+use Rattle.std.proofs.Common.{◌≡◌, ◌∙◌, ◌+◌, ◌||◌, ◌++◌, ◌∷◌, [], ℕ, List, Some, None, Bool, eqb, get_or, set, ap₂, length-append, sym, ap, take, length, subst, arith}
 use Rattle.std.proofs.lemmas.List.{length-take-le, length-set}
 use Rattle.std.specs.Option.{option_or, is_some}
 use Rattle.qd_base.specs.declared.schema.Col.{Col}

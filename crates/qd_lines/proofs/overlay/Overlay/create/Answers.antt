@@ -2,4 +2,10 @@ use Rattle.qd_lines.proofs.OverlayLemmas.{created}
 use Rattle.qd_lines.proofs.overlay.Overlay.create.Goals as goal
 
 pub returns : goal.returns
-returns c = record { ok = λ all covers new. rw (c.in_ok-push.ensures.items, c.in_ok-copy.ensures.same) (created c.args.self.now.base.now c.args.self.now.own.items all c.args.self.now.tables covers c.args.schema.now new) }
+returns c =
+    record {
+      ok = λ all covers new. record {
+        shown = rw (c.in_ok-push.ensures.items, c.in_ok-copy.ensures.same) (created c.args.self.now.base.now c.args.self.now.own.items all c.args.self.now.tables covers.shown c.args.schema.now new);
+        recent = tt;
+      };
+    }

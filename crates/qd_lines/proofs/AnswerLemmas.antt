@@ -84,6 +84,14 @@ refused now w (Gives row) = go (coded w.schemas w.cells now row)
     go (inl h) = inl h
     go (inr none) = inr (λ c h. none c h.0)
 
+-- a line that isn't refused has no code
+pub none_refused : (now : ℕ) (w : Work) (row : Row) → ((c : Code) → Refuses now w (Gives row) c → ⊥) → HasNone w.schemas w.cells now row
+none_refused now w row f = go (coded w.schemas w.cells now row)
+  where
+    go : ((c : Code) × LeastCode w.schemas w.cells now row c) ⊎ HasNone w.schemas w.cells now row → HasNone w.schemas w.cells now row
+    go (inl h) = absurd (f h.0 h.1)
+    go (inr none) = none
+
 pub answered : (now : ℕ) (w : Work) (number : ℕ) (lines : List Line) (whole : Bool) → (answer : Result Entry (Code × ℕ)) × Says now w number lines whole answer
 answered now w number [] true = (Ok (record { ops = w.ops }), refl)
 answered now w number [] false = (Err (code.LineSyntax, number), refl)

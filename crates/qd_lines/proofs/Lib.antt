@@ -12,3 +12,8 @@ pub mod AnswerLemmas
 pub mod ColumnLemmas
 pub mod SchemaLemmas
 pub mod WalkLemmas
+pub mod RowLemmas
+pub mod JoinLemmas
+pub mod LawfulLemmas
+pub mod ReadableLemmas
+pub mod FitLemmas

@@ -39,7 +39,8 @@ get-below Q [] i h = absurd h
 get-below Q (x ∷ xs) zero h = omega arith
 get-below Q (x ∷ xs) (suc i) h = let lt = get-below Q xs i h in omega arith
 
-get-last : {X : Type 0} (xs : List X) (x : X) → slice_get (xs ++ x ∷ []) (length xs) ≡ Some x
+-- the last of a list
+pub get-last : {X : Type 0} (xs : List X) (x : X) → slice_get (xs ++ x ∷ []) (length xs) ≡ Some x
 get-last [] x = refl
 get-last (y ∷ ys) x = get-last ys x
 

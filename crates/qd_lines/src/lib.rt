@@ -16,5 +16,5 @@ mod values;
 mod walk;
 
 pub use fault::LineFault;
-pub use laws::{every_batch_is_answered, one_answer};
+pub use laws::{answers_fit, batches_are_lawful, every_batch_is_answered, one_answer};
 pub use walk::entry_of;

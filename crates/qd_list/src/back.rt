@@ -9,13 +9,14 @@ ghost use Rattle.qd_base.specs.Replay.{after};
 ghost use Rattle.qd_ilp.specs.Whole.{IsReading};
 ghost use Rattle.qd_session.specs.Legal.{Handles};
 ghost use Rattle.qd_session.specs.Allowed.{is_letter};
+ghost use Rattle.qd_session.specs.Timing.{IsRead};
 ghost use Rattle.qd_list.specs.Listed.{AllowedAlone, IsKeyless, Writes, all_applied, listed_shown, sql_reply, with_entry};
 
 use crate::found::{table_named, table_of};
 use crate::schemas::{inserts_only, schemas_after};
 use qd_base::{Code, Entry, MAX_QUERY_BYTES, Memory, Reply, Schemas, Seq, Txt};
 use qd_ilp::Batch;
-use qd_lines::{LineFault, entry_of};
+use qd_lines::{LineFault, batches_are_lawful, entry_of};
 use qd_session::Backend;
 use std::alloc::{AllocError, Global};
 use std::marker::Model;
@@ -56,9 +57,11 @@ impl ListBack {
 
     /// Makes a batch the next transaction, or refuses it.
     fn write(&mut self, alloc: Global, batch: &Batch, now: u64) -> Result<Reply, Memory>
+        requires read { IsRead batch.now }
         ensures ok { IfOk result (λ given. Writes self.old self.new now batch.now given) }
         ensures err { OnErr result (self.new ≡ self.old) }
     {
+        batches_are_lawful();
         match entry_of(alloc, &self.schemas, batch, now) {
             Ok(entry) => self.commit(entry),
             Err(LineFault::Refused { code, line }) => Ok(Reply::Refused {
@@ -130,6 +133,7 @@ impl Backend for ListBack {
     /// Makes a batch the next transaction, or refuses it whole at its first line that has a code. It costs what the
     /// transaction does, and a copy of all schemas where it makes a table or a column.
     fn lines(&mut self, alloc: Global, batch: &Batch, now: u64) -> Result<Reply, Memory>
+        requires read { IsRead batch.now }
         ensures handled { (text : List ℕ) → IsReading text batch.now → Handles AllowedAlone (listed_shown self.old) (listed_shown self.new) now (request.Write text) result }
         ensures written { IfOk result (λ given. Writes self.old self.new now batch.now given) }
         ensures err { OnErr result (self.new ≡ self.old) }

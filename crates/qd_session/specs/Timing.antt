@@ -1,5 +1,5 @@
 -- How a session reads its clock: once for a batch that lacks a time, and for no other request.
-use Rattle.std.specs.Prelude.{◌≡◌, ℕ, Bool, true, false, ◌⊎◌, List, Result, Ok, Err}
+use Rattle.std.specs.Prelude.{◌≡◌, ℕ, ◌<◌, Bool, true, false, ◌⊎◌, List, All, Result, Ok, Err}
 use Rattle.qd_base.specs.Codes.{number_of}
 use Rattle.qd_base.specs.declared.code.Code.TheVariants as code
 use Rattle.qd_base.specs.declared.request.Request.{Request}
@@ -19,6 +19,10 @@ want_of_memory = reply.Refused (number_of code.Memory) 0
 -- the reply that says that the clock failed
 abbrev pub clock_refusal : Reply
 clock_refusal = reply.Refused (number_of code.Clock) 0
+
+-- this is what is read of some text of bytes
+abbrev pub IsRead : Reading → Type 0
+IsRead reading = (text : List ℕ) × All (λ b. b < 256) text × IsReading text reading
 
 -- The text of a batch lacks a time: all of its lines are of the grammar, and one of them gives a row and has no stamp.
 abbrev pub LacksTime : List ℕ → Type 0

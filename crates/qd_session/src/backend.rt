@@ -4,6 +4,7 @@ ghost use Rattle.qd_base.specs.declared.request.Request.TheVariants as request;
 ghost use Rattle.qd_ilp.specs.Whole.{IsReading};
 ghost use Rattle.qd_session.specs.Legal.{EndsByBye, Handles, IsLasting, MayLackClock, MayWantMemory, Rule};
 ghost use Rattle.qd_session.specs.Looks.{IsCounted, Shown};
+ghost use Rattle.qd_session.specs.Timing.{IsRead};
 
 use qd_base::{MAX_QUERY_BYTES, Memory, Reply, Txt};
 use qd_ilp::Batch;
@@ -28,6 +29,7 @@ pub trait Backend {
     /// 1970-01-01T00:00Z, of lines without a stamp; it may be any `u64`, and is 0 where the batch doesn't lack one. Where
     /// it finds no memory, it has added nothing.
     fn lines(&mut self, alloc: Global, batch: &Batch, now: u64) -> Result<Reply, Memory>
+        requires read { IsRead batch.now }
         ensures handled { (text : List ℕ) → IsReading text batch.now → Handles rule (shown self.old) (shown self.new) now (request.Write text) result };
 
     /// Answers one statement. Where it finds no memory, it has added nothing.

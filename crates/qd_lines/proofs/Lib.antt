@@ -11,9 +11,10 @@ pub mod CleanLemmas
 pub mod AnswerLemmas
 pub mod ColumnLemmas
 pub mod SchemaLemmas
-pub mod WalkLemmas
 pub mod RowLemmas
 pub mod JoinLemmas
 pub mod LawfulLemmas
 pub mod ReadableLemmas
 pub mod FitLemmas
+pub mod TurnLemmas
+pub mod WalkLemmas

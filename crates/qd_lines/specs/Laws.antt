@@ -8,6 +8,8 @@ use Rattle.qd_base.specs.declared.op.Op.{Op}
 use Rattle.qd_base.specs.declared.op.Op.TheVariants as op
 use Rattle.qd_base.specs.declared.op.Entry.{Entry}
 use Rattle.qd_base.specs.Schemas.{schema_of, schemas_step}
+use Rattle.qd_base.specs.Database.{Database, step, schemas_of}
+use Rattle.qd_base.specs.Replay.{commit}
 use Rattle.qd_base.specs.Lawful.{AreLawful, AreSchemas, cells_of}
 use Rattle.qd_ilp.specs.Value.{Value, Tag, Text, Long, Moment, At}
 use Rattle.qd_ilp.specs.Line.{Item, Row, Line, Blank, Gives}
@@ -44,6 +46,17 @@ pub record AnswersFit : Type 0 where
   pub named : (now : ℕ) (w : Work) (number : ℕ) (lines : List Line) (whole : Bool) (c : Code) (n : ℕ) → Says now w number lines whole (Err (c, n)) → (number ≤ n) × (n ≤ number + length lines)
   -- A refusal of one of the lines stands, whatever lines follow.
   pub early : (now : ℕ) (w : Work) (number : ℕ) (lines more : List Line) (whole all : Bool) (c : Code) (n : ℕ) → n < number + length lines → Says now w number lines whole (Err (c, n)) → Says now w number (lines ++ more) all (Err (c, n))
+
+-- ---- what a transaction does
+
+-- A line alone: the database after its changes, whatever its table is by then.
+abbrev pub after_line : ℕ → Database → Line → Database
+after_line now db Blank = db
+after_line now db (Gives row) = fold step db (line_ops (schema_of (schemas_of db) row.table) now row)
+
+-- The transaction of lines leaves the database that the lines leave one after the other.
+abbrev pub LinesActInTurn : Type 0
+LinesActInTurn = (now : ℕ) (db : Database) (number : ℕ) (lines : List Line) (whole : Bool) (entry : Entry) → Says now (start (schemas_of db)) number lines whole (Ok entry) → commit db entry ≡ fold (after_line now) db lines
 
 -- ---- what can be read
 

@@ -16,5 +16,7 @@ mod values;
 mod walk;
 
 pub use fault::LineFault;
-pub use laws::{answers_fit, batches_are_lawful, every_batch_is_answered, one_answer};
+pub use laws::{
+    answers_fit, batches_are_lawful, every_batch_is_answered, lines_act_in_turn, one_answer,
+};
 pub use walk::entry_of;

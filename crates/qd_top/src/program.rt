@@ -108,14 +108,28 @@ fn run<S: Source, K: Sink, H: Host>(
     ensures reads { CountsReads (S.stream input.old).reads_failed (S.stream input.new).reads_failed result }
     ensures writes { CountsWrites (K.stream output.old).writes_failed (K.stream output.new).writes_failed result }
 {
+    let mut clock = host.clock();
+    let status = run_ends(alloc, input, output, &mut clock);
+    host.clock_back(clock);
+    status
+}
+
+/// Serves the frames of the input, with a clock.
+fn run_ends<S: Source, K: Sink, C: Clock>(
+    alloc: Global,
+    input: &mut S,
+    output: &mut K,
+    clock: &mut C,
+) -> Status
+    ensures ran { Ran (no_store (C.timeline clock.old)) (C.timeline clock.new) (S.stream input.old).input (S.stream input.new).input (K.stream output.old).output (K.stream output.new).output result }
+    ensures reads { CountsReads (S.stream input.old).reads_failed (S.stream input.new).reads_failed result }
+    ensures writes { CountsWrites (K.stream output.old).writes_failed (K.stream output.new).writes_failed result }
+{
     let mut wire = Both {
         source: input,
         sink: output,
     };
-    let mut clock = host.clock();
-    let status = run_wire(alloc, &mut wire, &mut clock);
-    host.clock_back(clock);
-    status
+    run_wire(alloc, &mut wire, clock)
 }
 
 /// Serves the frames of a wire over a history in memory.

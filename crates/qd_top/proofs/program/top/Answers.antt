@@ -3,19 +3,19 @@ use Rattle.qd_top.proofs.RunLemmas.{complete-from, host-cut, host-finished, host
 use Rattle.qd_top.proofs.program.top.Goals as goal
 
 pub returns-clause-finished : goal.returns-clause-finished
-returns-clause-finished g c = λ e. host-finished _ _ _ _ _ _ c.run.result c.run.ensures.ran (sym c.number-2.ensures.number ∙ e)
+returns-clause-finished g c = λ e. host-finished (g.H.Host.supply c.args.host.now) (g.H.Host.supply c.run.new.host) _ _ _ _ c.run.result c.run.ensures.ran (sym c.number-2.ensures.number ∙ e)
 
 pub returns-clause-bad_frame : goal.returns-clause-bad_frame
-returns-clause-bad_frame g c = λ e. host-refused _ _ _ _ _ _ c.run.result c.run.ensures.ran (sym c.number-2.ensures.number ∙ e)
+returns-clause-bad_frame g c = λ e. host-refused (g.H.Host.supply c.args.host.now) (g.H.Host.supply c.run.new.host) _ _ _ _ c.run.result c.run.ensures.ran (sym c.number-2.ensures.number ∙ e)
 
 pub returns-clause-read_fault : goal.returns-clause-read_fault
-returns-clause-read_fault g c = λ e. host-stopped _ _ _ _ _ _ c.run.result c.run.ensures.ran (sym c.number-2.ensures.number ∙ e)
+returns-clause-read_fault g c = λ e. host-stopped (g.H.Host.supply c.args.host.now) (g.H.Host.supply c.run.new.host) _ _ _ _ c.run.result c.run.ensures.ran (sym c.number-2.ensures.number ∙ e)
 
 pub returns-clause-write_fault : goal.returns-clause-write_fault
-returns-clause-write_fault g c = λ e. host-cut _ _ _ _ _ _ c.run.result c.run.ensures.ran (inl (sym c.number-2.ensures.number ∙ e))
+returns-clause-write_fault g c = λ e. host-cut (g.H.Host.supply c.args.host.now) (g.H.Host.supply c.run.new.host) _ _ _ _ c.run.result c.run.ensures.ran (inl (sym c.number-2.ensures.number ∙ e))
 
 pub returns-clause-no_memory : goal.returns-clause-no_memory
-returns-clause-no_memory g c = λ e words. host-cut _ _ _ _ _ _ c.run.result c.run.ensures.ran (inr (sym c.number-2.ensures.number ∙ e))
+returns-clause-no_memory g c = λ e words. host-cut (g.H.Host.supply c.args.host.now) (g.H.Host.supply c.run.new.host) _ _ _ _ c.run.result c.run.ensures.ran (inr (sym c.number-2.ensures.number ∙ e))
 
 pub returns-clause-read_cause : goal.returns-clause-read_cause
 returns-clause-read_cause g c = λ e. (read-cause-from c.run.result _ _ (sym c.number-2.ensures.number ∙ e) c.run.ensures.reads).1

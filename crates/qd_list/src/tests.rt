@@ -51,6 +51,18 @@ fn shows(reply: &Reply, over: u64, expected: &[(i64, u64)]) -> bool {
     true
 }
 
+/// Whether a reply has two rows of three columns, the second of which has false in the last.
+fn is_widened(reply: &Reply) -> bool {
+    let Reply::Rows { table, .. } = reply else {
+        return false;
+    };
+    if table.cols.len() != 3 || table.rows.len() != 2 {
+        return false;
+    }
+    let row = table.rows.get(1).as_slice();
+    matches!(row, [Cell::Long(2), Cell::Time(2), Cell::Bool(false)])
+}
+
 #[test]
 fn late_batches_come_into_order(rt: HostRuntime) -> Result<(), Fail> {
     let alloc = rt.alloc();
@@ -133,12 +145,6 @@ fn tables_and_columns_are_made_by_lines(rt: HostRuntime) -> Result<(), Fail> {
     let first = asked(&mut back, alloc, b't')?;
     let second = asked(&mut back, alloc, b'u')?;
     assert!(rt; shows(&first, 2, &[(3, 1), (1, 2)]));
-    let Reply::Rows { table, .. } = second else {
-        return Err(Fail);
-    };
-    assert_eq!(rt; table.cols.len(), 3);
-    assert_eq!(rt; table.rows.len(), 2);
-    let row = table.rows.get(1);
-    assert!(rt; matches!(row.as_slice(), [Cell::Long(2), Cell::Time(2), Cell::Bool(false)]));
+    assert!(rt; is_widened(&second));
     Ok(())
 }

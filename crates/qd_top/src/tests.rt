@@ -144,7 +144,7 @@ A\nQ 1\nt";
 fn tables_and_columns(rt: HostRuntime) -> Result<(), Fail> {
     let input = b"W 39\nt v=1i 2000000000\nu,k=a v=2i 1000000000\
 W 23\nt v=3i,s=\"x\" 1000000000\
-W 14\nt v=4i\nt v=t 2\nA\nQ 1\ntQ 1\nuQ 1\nx";
+W 14\nt v=4i\nt v=t 2A\nQ 1\ntQ 1\nuQ 1\nx";
     let answer = b"K 1\nK 2\nE 15 2\nA 2\nR 2 77\nv,timestamp,s\n\
 3,1970-01-01T00:00:01.000000Z,x\n\
 1,1970-01-01T00:00:02.000000Z,\n\

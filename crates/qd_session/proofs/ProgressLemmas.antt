@@ -8,13 +8,15 @@ use Rattle.qd_base.specs.declared.request.Request.{Request}
 use Rattle.qd_base.specs.declared.request.Request.TheVariants as request
 use Rattle.qd_base.specs.declared.request.Reply.{Reply}
 use Rattle.qd_base.specs.Script.{Protocol, Script, SpellsOn, SpellsTurn, Turn, Asks, Says, Ending, Waiting, Ended, Malformed, with_turn, only}
+use Rattle.qd_io.specs.Clocks.{Timeline}
 use Rattle.qd_io.specs.Ends.{Stream}
 use Rattle.qd_session.specs.declared.ended.Ended.{Ended as EndedBy}
 use Rattle.qd_session.specs.declared.ended.Ended.TheVariants as ended
 use Rattle.qd_session.specs.Looks.{Extends, IsCounted, Look, Shown, look_at}
-use Rattle.qd_session.specs.Legal.{Answers, EndIsLast, GoesOn, IsLasting, LegalRun, Rule, done_in, done_numbers}
+use Rattle.qd_session.specs.Legal.{EndIsLast, GoesOn, IsLasting, LegalRun, Rule, done_in, done_numbers}
 use Rattle.qd_session.specs.Session.{Concludes, Dialogue, IsBad, IsCutShort, Moment, Moves, Progress, Serves, TakenFrom, look, refusal, requests_in, transcript, with_turns}
 use Rattle.qd_session.specs.Turns.{BadEnd, CutStep, EndOf, IsBadHere, IsHandled, IsIdle, Replied, Stepped, Stopped, TurnOf, WritesFront}
+use Rattle.qd_session.proofs.HandledLemmas.{faults_rise}
 use Rattle.qd_session.proofs.WireLemmas.{moves-none, moves-put, moves-take, over-from_out}
 use Rattle.qd_session.proofs.RunLemmas.{done_numbers-snoc, end_is_last-from_goes_on, end_is_last-snoc, extends-here, extends-on, goes_on-snoc, run-matches, run-on, run-snoc}
 
@@ -90,18 +92,18 @@ module _ (rule : Rule) (before m now : Moment) (fed : ℕ) (lasts : IsLasting ru
     own : now.back.own ≡ before.back.own ++ done_numbers (r.progress.replies ++ given ∷ [])
     grows : Extends before.back.history now.back.history
 
-  spoken : (asked : Request) (printed : Reply → List ℕ) (given : Reply) (bytes : List ℕ) → IsHandled rule m now asked given → bytes ≡ printed given → Spoken asked printed given bytes
+  spoken : (asked : Request) (printed : Reply → List ℕ) (given : Reply) (bytes : List ℕ) → IsHandled rule m.back now.back m.clock now.clock asked given → bytes ≡ printed given → Spoken asked printed given bytes
   spoken asked printed given bytes h e =
-      let a = h.answers in
       record {
         run = subst (λ (x : List Request). LegalRun rule now.back.history (look before) x (r.progress.replies ++ given ∷ []) (look now)) (sym (requests_in-snoc r.progress.turns (Asks asked printed)))
             (run-snoc rule now.back.history (look before) (requests_in r.progress.turns) r.progress.replies (look m) (look now) h.time asked given
-            (run_so_far a.grows.history)
-            (record { sequenced = a.grows.sequenced; known = a.grows.known; clock_faults = h.clock_faults; volume_faults = a.grows.faults })
-            (a.allowed m.clock_faults now.clock_faults h.clock_faults));
+            (run_so_far h.grows.history)
+            (record { sequenced = h.grows.sequenced; known = h.grows.known; clock_faults = faults_rise m.clock now.clock h.time asked given h.read; volume_faults = h.grows.faults })
+            h.read
+            h.allowed);
         bytes_are = transcript-asks r.progress.turns r.progress.replies asked printed given same_length ∙ ap (λ (x : List ℕ). x ++ printed given) (sym r.progress.bytes) ∙ ap (λ (x : List ℕ). r.written ++ x) (sym e);
-        own = a.own ∙ ap (λ (x : List ℕ). x ++ done_in given) r.progress.own ∙ append_assoc before.back.own (done_numbers r.progress.replies) (done_in given) ∙ ap (λ (x : List ℕ). before.back.own ++ x) (sym (done_numbers-snoc r.progress.replies given));
-        grows = extends-on before.back.history m.back.history now.back.history r.grows a.grows.history;
+        own = h.own ∙ ap (λ (x : List ℕ). x ++ done_in given) r.progress.own ∙ append_assoc before.back.own (done_numbers r.progress.replies) (done_in given) ∙ ap (λ (x : List ℕ). before.back.own ++ x) (sym (done_numbers-snoc r.progress.replies given));
+        grows = extends-on before.back.history m.back.history now.back.history r.grows h.grows.history;
       }
 
   -- a turn behind the others: its requests, replies and bytes
@@ -117,7 +119,7 @@ module _ (rule : Rule) (before m now : Moment) (fed : ℕ) (lasts : IsLasting ru
 
   -- the backend and the clock as they were
   same_look : IsIdle m now → look now ≡ look m
-  same_look i = ap (λ (b : Shown). look_at now.clock_faults b) i.back ∙ ap (λ (c : ℕ). look_at c m.back) i.clock_faults
+  same_look i = ap (λ (b : Shown). look_at now.clock b) i.back ∙ ap (λ (c : Timeline). look_at c m.back) i.clock
 
   same_run : IsIdle m now → LegalRun rule now.back.history (look before) (requests_in r.progress.turns) r.progress.replies (look now)
   same_run i =
@@ -325,4 +327,4 @@ module _ (rule : Rule) (before m now : Moment) (fed : ℕ) (lasts : IsLasting ru
 pub served_nothing : (rule : Rule) (before : Moment) → IsLasting rule → IsCounted before.back → Serves rule before before ended.Memory
 served_nothing rule before lasts counted =
     reached_stop rule before before before 0 lasts counted (reached_start rule before) counted (omega arith) ended.Memory
-    (inl ([], moves-none before.wire, record { back = refl; clock_faults = refl }, λ more s k. k, omega arith))
+    (inl ([], moves-none before.wire, record { back = refl; clock = refl }, λ more s k. k, omega arith))

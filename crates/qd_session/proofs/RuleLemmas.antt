@@ -1,5 +1,5 @@
--- The rule of the product, and that of a list, keep the laws of rules.
-use Rattle.std.proofs.Common.{◌≡◌, ℕ, zero, suc, ◌-◌, ◌≤◌, inl, inr, List, [], ◌∷◌, ◌++◌, length, Option, Some, None, refl, sym, ◌∙◌, ap, subst, arith, slice_get}
+-- The rule of the product keeps the laws of rules.
+use Rattle.std.proofs.Common.{◌≡◌, ℕ, zero, suc, ◌-◌, ◌≤◌, inl, inr, List, [], ◌∷◌, ◌++◌, length, Option, Some, None, Ok, Err, refl, sym, ◌∙◌, ap, subst, arith, slice_get}
 use Rattle.std.specs.Prelude.{IfSome}
 use Rattle.std.proofs.lemmas.List.{take-append-le}
 use Rattle.qd_base.specs.declared.op.Entry.{Entry}
@@ -9,11 +9,9 @@ use Rattle.qd_base.specs.declared.request.Reply.{Reply}
 use Rattle.qd_base.specs.declared.request.Reply.TheVariants as reply
 use Rattle.qd_base.specs.Database.{Database, schemas_of}
 use Rattle.qd_base.specs.Replay.{after, first}
-use Rattle.qd_session.specs.LineForm.{RefusesBatch, letters_of}
 use Rattle.qd_session.specs.Looks.{Extends, IsStill, Look}
-use Rattle.qd_session.specs.Legal.{EndsByBye, GoesOn, IsLasting, MayWantMemory, want_of_memory}
-use Rattle.qd_session.specs.Allowed.{Allowed, HasTransaction, IsTransactionOf, answer}
-use Rattle.qd_session.specs.Listed.{AllowedAlone, IsOfLastApply}
+use Rattle.qd_session.specs.Legal.{EndsByBye, GoesOn, IsLasting, MayLackClock, MayWantMemory}
+use Rattle.qd_session.specs.Allowed.{Allowed, HasTransaction, SaysBatch, answer}
 
 -- the database after a prefix, where more follows
 first-append : (h more : List Entry) (n : ℕ) → n ≤ length h → first (h ++ more) n ≡ first h n
@@ -28,9 +26,9 @@ get-append (y ∷ xs) more (suc i) x e = get-append xs more i x e
 -- what may come over a told history may come over a longer one
 allowed-more : (h more : List Entry) (before now : Look) (time : ℕ) (asked : Request) (given : Reply) → now.sequenced ≤ length h → Allowed (Some h) before now time asked given → Allowed (Some (h ++ more)) before now time asked given
 allowed-more h more before now time (request.Write text) (reply.Done n) le (is, newer, t) =
-    (is, newer, (t.0, get-append h more (n - 1) t.0 t.1, subst (λ (db : Database). IsTransactionOf (schemas_of db) text t.0) (sym (first-append h more (n - 1) (omega (arith, is, le)))) t.2))
-allowed-more h more before now time (request.Write text) (reply.Refused number place) le (inl (is, line)) =
-    inl (is, subst (λ (db : Database). RefusesBatch (letters_of (schemas_of db)) text place) (sym (first-append h more now.sequenced le)) line)
+    (is, newer, (t.0, get-append h more (n - 1) t.0 t.1, subst (λ (db : Database). SaysBatch (schemas_of db) time text (Ok t.0)) (sym (first-append h more (n - 1) (omega (arith, is, le)))) t.2))
+allowed-more h more before now time (request.Write text) (reply.Refused number place) le (inl (c, is, says)) =
+    inl (c, is, subst (λ (db : Database). SaysBatch (schemas_of db) time text (Err (c, place))) (sym (first-append h more now.sequenced le)) says)
 allowed-more h more before now time (request.Write text) (reply.Refused number place) le (inr f) = inr f
 allowed-more h more before now time (request.Sql text) (reply.Rows n table) le (between, most, is) =
     (between, most, subst (λ (db : Database). answer db text ≡ Some table) (sym (first-append h more n (omega (arith, most, le)))) is)
@@ -86,20 +84,10 @@ pub allowed-ends : EndsByBye Allowed
 allowed-ends = record { bye = λ history before now time still. tt; only_bye = only-bye; only_end = only-end }
 
 pub allowed-wants : MayWantMemory Allowed
-allowed-wants history before now time (request.Write text) on still = inr (inl (refl, refl))
+allowed-wants history before now time (request.Write text) on still = inr (inr (inl (refl, refl)))
 allowed-wants history before now time (request.Sql text) on still = inr (inl (refl, refl))
 allowed-wants history before now time request.Apply on still = inl (refl, refl)
 allowed-wants history before now time request.End on still = absurd on
 
-pub alone-lasts : IsLasting AllowedAlone
-alone-lasts old new before now time asked given e seen a = (allowed-lasts old new before now time asked given e seen a.0, a.1)
-
-pub alone-ends : EndsByBye AllowedAlone
-alone-ends = record {
-  bye = λ history before now time still. (tt, still.known);
-  only_bye = λ history before now time given a. only-bye history before now time given a.0;
-  only_end = λ history before now time asked a. only-end history before now time asked a.0;
-}
-
-pub alone-wants : MayWantMemory AllowedAlone
-alone-wants history before now time asked on still = (allowed-wants history before now time asked on still, still.known)
+pub allowed-lacks : MayLackClock Allowed
+allowed-lacks history before now time text lacks still risen = inr (inl (refl, refl, lacks, risen))

@@ -8,6 +8,7 @@ use Rattle.qd_base.specs.declared.request.Request.TheVariants as request
 use Rattle.qd_base.specs.declared.request.Reply.{Reply}
 use Rattle.qd_session.specs.Looks.{Extends, IsNoLess, Look}
 use Rattle.qd_session.specs.Legal.{EndIsLast, GoesOn, IsLasting, LegalRun, Rule, done_in, done_numbers}
+use Rattle.qd_session.specs.Timing.{ReadsClock}
 
 pub extends-here : (h : Option (List Entry)) → Extends h h
 extends-here None = refl
@@ -38,7 +39,7 @@ module _ (rule : Rule) where
   -- what is sequenced doesn't fall along a run
   pub run-rises : (h : Option (List Entry)) (from : Look) (requests : List Request) (replies : List Reply) (upto : Look) → LegalRun rule h from requests replies upto → from.sequenced ≤ upto.sequenced
   run-rises h from [] [] upto r = omega (arith, ap (λ (x : Look). x.sequenced) r)
-  run-rises h from (asked ∷ requests) (given ∷ replies) upto r = omega (arith, r.2.sequenced, run-rises h r.0 requests replies upto r.4)
+  run-rises h from (asked ∷ requests) (given ∷ replies) upto r = omega (arith, r.2.sequenced, run-rises h r.0 requests replies upto r.5)
   run-rises h from [] (given ∷ replies) upto r = absurd r
   run-rises h from (asked ∷ requests) [] upto r = absurd r
 
@@ -48,25 +49,26 @@ module _ (rule : Rule) where
     r.0,
     r.1,
     r.2,
-    lasts old new from r.0 r.1 asked given e (seen-below old r.0.sequenced upto.sequenced (run-rises old r.0 requests replies upto r.4) seen) r.3,
-    run-on lasts old new r.0 requests replies upto e seen r.4,
+    r.3,
+    lasts old new from r.0 r.1 asked given e (seen-below old r.0.sequenced upto.sequenced (run-rises old r.0 requests replies upto r.5) seen) r.4,
+    run-on lasts old new r.0 requests replies upto e seen r.5,
   )
   run-on lasts old new from [] (given ∷ replies) upto e seen r = absurd r
   run-on lasts old new from (asked ∷ requests) [] upto e seen r = absurd r
 
   -- one reply more
-  pub run-snoc : (h : Option (List Entry)) (from : Look) (requests : List Request) (replies : List Reply) (upto now : Look) (time : ℕ) (asked : Request) (given : Reply) → LegalRun rule h from requests replies upto → IsNoLess upto now → rule h upto now time asked given → LegalRun rule h from (requests ++ asked ∷ []) (replies ++ given ∷ []) now
-  run-snoc h from [] [] upto now time asked given r less a =
-      (now, time, subst (λ (x : Look). IsNoLess x now) r less, subst (λ (x : Look). rule h x now time asked given) r a, refl)
-  run-snoc h from (q ∷ requests) (t ∷ replies) upto now time asked given r less a =
-      (r.0, r.1, r.2, r.3, run-snoc h r.0 requests replies upto now time asked given r.4 less a)
-  run-snoc h from [] (t ∷ replies) upto now time asked given r less a = absurd r
-  run-snoc h from (q ∷ requests) [] upto now time asked given r less a = absurd r
+  pub run-snoc : (h : Option (List Entry)) (from : Look) (requests : List Request) (replies : List Reply) (upto now : Look) (time : ℕ) (asked : Request) (given : Reply) → LegalRun rule h from requests replies upto → IsNoLess upto now → ReadsClock upto.clock now.clock time asked given → rule h upto now time asked given → LegalRun rule h from (requests ++ asked ∷ []) (replies ++ given ∷ []) now
+  run-snoc h from [] [] upto now time asked given r less read a =
+      (now, time, subst (λ (x : Look). IsNoLess x now) r less, subst (λ (x : Look). ReadsClock x.clock now.clock time asked given) r read, subst (λ (x : Look). rule h x now time asked given) r a, refl)
+  run-snoc h from (q ∷ requests) (t ∷ replies) upto now time asked given r less read a =
+      (r.0, r.1, r.2, r.3, r.4, run-snoc h r.0 requests replies upto now time asked given r.5 less read a)
+  run-snoc h from [] (t ∷ replies) upto now time asked given r less read a = absurd r
+  run-snoc h from (q ∷ requests) [] upto now time asked given r less read a = absurd r
 
   -- one reply for each request
   pub run-matches : (h : Option (List Entry)) (from : Look) (requests : List Request) (replies : List Reply) (upto : Look) → LegalRun rule h from requests replies upto → length replies ≡ length requests
   run-matches h from [] [] upto r = refl
-  run-matches h from (asked ∷ requests) (given ∷ replies) upto r = ap suc (run-matches h r.0 requests replies upto r.4)
+  run-matches h from (asked ∷ requests) (given ∷ replies) upto r = ap suc (run-matches h r.0 requests replies upto r.5)
   run-matches h from [] (given ∷ replies) upto r = absurd r
   run-matches h from (asked ∷ requests) [] upto r = absurd r
 

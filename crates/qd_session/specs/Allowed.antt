@@ -1,8 +1,8 @@
 -- The rule of the product: which reply may come to which request.
-use Rattle.std.specs.Prelude.{◌≡◌, ℕ, ◌-◌, ◌<◌, ◌≤◌, ◌⊎◌, List, Option, Some, None, IfSome, option_map, slice_get, find, nat_eq}
-use Rattle.std.specs.Cmp.Lexicographic.{pointwise}
+use Rattle.std.specs.Prelude.{◌≡◌, ℕ, ◌-◌, ◌<◌, ◌≤◌, ◌⊎◌, Bool, false, ◌&&◌, if◌then◌else◌, nat_le, List, [], ◌∷◌, Option, Some, None, IfSome, option_map, slice_get, find, Result, Ok, Err}
 use Rattle.qd_io.specs.Ends.{HasRisen}
 use Rattle.qd_base.specs.Codes.{number_of}
+use Rattle.qd_base.specs.declared.code.Code.{Code}
 use Rattle.qd_base.specs.declared.code.Code.TheVariants as code
 use Rattle.qd_base.specs.declared.op.Entry.{Entry}
 use Rattle.qd_base.specs.declared.schema.Schema.{Schema}
@@ -13,18 +13,26 @@ use Rattle.qd_base.specs.declared.request.Reply.{Reply}
 use Rattle.qd_base.specs.declared.request.Reply.TheVariants as reply
 use Rattle.qd_base.specs.Database.{Database, StoredTable, schemas_of}
 use Rattle.qd_base.specs.Replay.{first}
-use Rattle.qd_session.specs.LineForm.{Line, ReadsBatch, RefusesBatch, entry_of, letters_of}
+use Rattle.qd_base.specs.Schemas.{same_name}
+use Rattle.qd_ilp.specs.Transaction.{Says, start}
+use Rattle.qd_ilp.specs.Whole.{IsReading, Reading}
 use Rattle.qd_session.specs.Looks.{Look}
+use Rattle.qd_session.specs.Timing.{LacksTime}
 
--- the transaction that a batch is, over the schemas before it
-pub record IsTransactionOf (schemas : List Schema) (text : List ℕ) (entry : Entry) : Type 0 where
-  pub lines : List Line
-  pub reads : ReadsBatch (letters_of schemas) text lines
-  pub says : entry ≡ entry_of (letters_of schemas) lines
+-- What the lines of a batch say over the schemas of the tables that are there, with the time of those without a stamp: their
+-- transaction, or a code and the number of the line that has it.
+abbrev pub SaysBatch : List Schema → (time : ℕ) → (text : List ℕ) → Result Entry (Code × ℕ) → Type 0
+SaysBatch schemas time text said = (reading : Reading) × IsReading text reading × Says time (start schemas) 1 reading.lines reading.whole said
 
--- the answer to a statement that is exactly the name of a table: all of its rows
+-- one letter from a to z
+abbrev pub is_letter : List ℕ → Bool
+is_letter (b ∷ []) = nat_le 97 b && nat_le b 122
+is_letter _ = false
+
+-- the answer to a statement that is one lower-case letter and the name of a table: all of its rows
 abbrev pub answer : Database → List ℕ → Option Table
-answer db text = option_map (λ (t : StoredTable). record { cols = t.schema.cols; rows = t.rows }) (find (λ t. pointwise nat_eq t.schema.name text) db)
+answer db text =
+    if is_letter text then option_map (λ (t : StoredTable). record { cols = t.schema.cols; rows = t.rows }) (find (λ t. same_name t.schema.name text) db) else None
 
 -- transaction n of the history, counted from 1, has P
 abbrev pub HasTransaction : List Entry → ℕ → (Entry → Type 0) → Type 0
@@ -42,10 +50,20 @@ IsVolumeFault before now number place = (number ≡ number_of code.Volume) × (p
 abbrev pub IsFault : Look → Look → ℕ → ℕ → Type 0
 IsFault before now number place = IsWantOfMemory number place ⊎ IsVolumeFault before now number place
 
--- a batch of which some line is none of this version's form: the first such line is the place
-abbrev pub IsRefusedBatch : Option (List Entry) → (sequenced : ℕ) → List ℕ → ℕ → ℕ → Type 0
-IsRefusedBatch history sequenced text number place =
-    (number ≡ number_of code.UnbuiltLine) × IfSome history (λ h. RefusesBatch (letters_of (schemas_of (first h sequenced))) text place)
+-- the codes of lines
+abbrev pub IsLineCode : ℕ → Type 0
+IsLineCode number = (number_of code.LineSyntax ≤ number) × (number ≤ number_of code.TooManyCells)
+
+-- The clock failed in this request, which is a batch that lacks a time.
+abbrev pub IsClockFault : Look → Look → List ℕ → ℕ → ℕ → Type 0
+IsClockFault before now text number place =
+    (number ≡ number_of code.Clock) × (place ≡ 0) × LacksTime text × HasRisen before.clock.faults now.clock.faults
+
+-- A batch is refused over the schemas of the first transactions: for its first line that has a code, by the least one.
+abbrev pub IsRefusedBatch : Option (List Entry) → (sequenced time : ℕ) → List ℕ → ℕ → ℕ → Type 0
+IsRefusedBatch None sequenced time text number place = IsLineCode number
+IsRefusedBatch (Some h) sequenced time text number place =
+    (c : Code) × (number ≡ number_of c) × SaysBatch (schemas_of (first h sequenced)) time text (Err (c, place))
 
 -- a number that the answers between two looks may be over
 abbrev pub IsBetween : Look → Look → ℕ → Type 0
@@ -56,9 +74,9 @@ IsBetween before now n = (before.known ≤ n) × (n ≤ now.known)
 abbrev pub Allowed : Option (List Entry) → (before now : Look) → (time : ℕ) → Request → Reply → Type 0
 -- a batch becomes transaction n, the last one now, over the schemas of those before it
 Allowed history before now time (request.Write text) (reply.Done n) =
-    (n ≡ now.sequenced) × (before.sequenced < n) × IfSome history (λ h. HasTransaction h n (IsTransactionOf (schemas_of (first h (n - 1))) text))
+    (n ≡ now.sequenced) × (before.sequenced < n) × IfSome history (λ h. HasTransaction h n (λ entry. SaysBatch (schemas_of (first h (n - 1))) time text (Ok entry)))
 Allowed history before now time (request.Write text) (reply.Refused number place) =
-    IsRefusedBatch history now.sequenced text number place ⊎ IsFault before now number place
+    IsRefusedBatch history now.sequenced time text number place ⊎ (IsClockFault before now text number place ⊎ IsFault before now number place)
 -- a statement is answered over the first n transactions, or it is none that this version builds
 Allowed history before now time (request.Sql text) (reply.Rows n table) =
     IsBetween before now n × (n ≤ now.sequenced) × IfSome history (λ h. answer (first h n) text ≡ Some table)

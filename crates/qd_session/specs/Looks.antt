@@ -1,6 +1,7 @@
--- What a backend shows at a moment, and what a session knows when it looks.
+-- What a backend shows at a moment, and what stands at a look: what a session knows, and what its clock tells.
 use Rattle.std.specs.Prelude.{◌≡◌, ℕ, ◌≤◌, List, ◌++◌, Option, Some, None, IfSome, length}
 use Rattle.qd_base.specs.declared.op.Entry.{Entry}
+use Rattle.qd_io.specs.Clocks.{Timeline}
 
 -- a version that could not be retired, since it was pinned: its row, and the word that counts its pins
 pub record PinnedRow : Type 0 where
@@ -22,21 +23,22 @@ pub record Shown : Type 0 where
   -- the versions that its last hold could not retire
   pub pinned : List PinnedRow
 
--- What a session knows at a look: numbers alone.
+-- What stands at a look: what a session knows of its backend, numbers alone, and its clock.
 pub record Look : Type 0 where
   pub sequenced : ℕ
   pub known : ℕ
-  -- how many calls of the clock, and of the volume, have failed
-  pub clock_faults : ℕ
+  -- the times ahead, where they are told, and how many calls have failed
+  pub clock : Timeline
+  -- how many calls of the volume have failed
   pub volume_faults : ℕ
   pub pinned : List PinnedRow
 
--- a look at a backend, where so many calls of the clock have failed
-abbrev pub look_at : ℕ → Shown → Look
-look_at clock_faults s = record {
+-- a look at a backend, with a clock
+abbrev pub look_at : Timeline → Shown → Look
+look_at clock s = record {
   sequenced = s.sequenced;
   known = s.known;
-  clock_faults = clock_faults;
+  clock = clock;
   volume_faults = s.faults;
   pinned = s.pinned;
 }
@@ -45,14 +47,14 @@ look_at clock_faults s = record {
 pub record IsNoLess (before now : Look) : Type 0 where
   pub sequenced : before.sequenced ≤ now.sequenced
   pub known : before.known ≤ now.known
-  pub clock_faults : before.clock_faults ≤ now.clock_faults
+  pub clock_faults : before.clock.faults ≤ now.clock.faults
   pub volume_faults : before.volume_faults ≤ now.volume_faults
 
 -- all is as it was, but for the clock
 pub record IsStill (before now : Look) : Type 0 where
   pub sequenced : now.sequenced ≡ before.sequenced
   pub known : now.known ≡ before.known
-  pub clock_faults : before.clock_faults ≤ now.clock_faults
+  pub clock_faults : before.clock.faults ≤ now.clock.faults
   pub volume_faults : now.volume_faults ≡ before.volume_faults
   pub pinned : now.pinned ≡ before.pinned
 

@@ -7,27 +7,26 @@ use Rattle.qd_base.specs.declared.request.Request.{Request}
 use Rattle.qd_base.specs.declared.request.Reply.{Reply}
 use Rattle.qd_base.specs.declared.request.Reply.TheVariants as reply
 use Rattle.qd_base.specs.Script.{Protocol, Script, Turn, Asks, Says, Ending, Waiting, Ended, Malformed}
+use Rattle.qd_io.specs.Clocks.{Timeline}
 use Rattle.qd_io.specs.Ends.{HasRisen, Stream}
 use Rattle.qd_session.specs.declared.ended.Ended.{Ended as EndedBy}
 use Rattle.qd_session.specs.declared.ended.Ended.TheVariants as ended
 use Rattle.qd_session.specs.Looks.{Look, Shown, look_at}
 use Rattle.qd_session.specs.Legal.{GoesOn, Legal, LegalRun, Rule, done_numbers}
 
--- What a session shows at a moment: its front, its backend, its wire, and how many calls of the clock have failed. So far it
--- reads no clock.
+-- What a session shows at a moment: its front, its backend, its wire and its clock.
 pub record Moment : Type 1 where
   pub front : Protocol
   pub back : Shown
   pub wire : Stream
-  pub clock_faults : ℕ
+  pub clock : Timeline
 
--- a moment of a session that reads no clock
-abbrev pub moment : Protocol → Shown → Stream → Moment
-moment front back wire = record { front = front; back = back; wire = wire; clock_faults = 0 }
+abbrev pub moment : Protocol → Shown → Stream → Timeline → Moment
+moment front back wire clock = record { front = front; back = back; wire = wire; clock = clock }
 
 -- what a session knows at a moment
 abbrev pub look : Moment → Look
-look m = look_at m.clock_faults m.back
+look m = look_at m.clock m.back
 
 -- the requests of turns, in order
 abbrev pub requests_in : List Turn → List Request

@@ -5,13 +5,15 @@ use Rattle.qd_base.specs.declared.request.Request.{Request}
 use Rattle.qd_base.specs.declared.request.Request.TheVariants as request
 use Rattle.qd_base.specs.declared.request.Reply.{Reply}
 use Rattle.qd_base.specs.Script.{Protocol, Script, SpellsOn, SpellsTurn, Turn, Asks, Says, Ending, Waiting, Ended, Malformed, with_turn, only}
+use Rattle.qd_io.specs.Clocks.{Timeline}
 use Rattle.qd_io.specs.Ends.{Counts, InputStays, Stream}
 use Rattle.qd_io.specs.declared.fault.IoFault.{IoFault}
 use Rattle.qd_io.specs.declared.fault.IoFault.TheVariants as fault
 use Rattle.qd_session.specs.declared.ended.Ended.{Ended as EndedBy}
 use Rattle.qd_session.specs.declared.ended.Ended.TheVariants as ended
-use Rattle.qd_session.specs.Looks.{Shown}
-use Rattle.qd_session.specs.Legal.{Answers, GoesOn, Rule}
+use Rattle.qd_session.specs.Looks.{Grows, Shown, look_at}
+use Rattle.qd_session.specs.Legal.{GoesOn, Rule, done_in}
+use Rattle.qd_session.specs.Timing.{ReadsClock}
 use Rattle.qd_session.specs.Session.{IsAllOf, Moment, Moves, TakenFrom, refusal}
 
 -- a statement is no longer than one may be
@@ -40,18 +42,21 @@ pub record Wrote {T : Type 0} (old new : Stream) (bytes : List ℕ) (result : Re
 -- the backend and the clock are as they were
 pub record IsIdle (old new : Moment) : Type 0 where
   pub back : new.back ≡ old.back
-  pub clock_faults : new.clock_faults ≡ old.clock_faults
+  pub clock : new.clock ≡ old.clock
 
--- a request was handled: the clock may have failed, and the backend answered
-pub record IsHandled (rule : Rule) (old new : Moment) (asked : Request) (given : Reply) : Type 0 where
+-- A request was handled: the clock was read as the request is to, what the backend shows has grown, the reply may come by
+-- its rule, and its own transactions are those that the reply acknowledges.
+pub record IsHandled (rule : Rule) (old new : Shown) (clock clock' : Timeline) (asked : Request) (given : Reply) : Type 0 where
   pub time : ℕ
-  pub clock_faults : old.clock_faults ≤ new.clock_faults
-  pub answers : Answers rule old.back new.back time asked given
+  pub read : ReadsClock clock clock' time asked given
+  pub grows : Grows old new
+  pub allowed : rule new.history (look_at clock old) (look_at clock' new) time asked given
+  pub own : new.own ≡ old.own ++ done_in given
 
 -- a turn that isn't the last was handled, and these are its bytes
 abbrev pub Replied : Rule → (old new : Moment) (bytes : List ℕ) → Turn → Type 0
 Replied rule old new bytes (Asks asked printed) =
-    (given : Reply) × GoesOn (asked ∷ []) × IsHandled rule old new asked given × (bytes ≡ printed given)
+    (given : Reply) × GoesOn (asked ∷ []) × IsHandled rule old.back new.back old.clock new.clock asked given × (bytes ≡ printed given)
 Replied rule old new bytes (Says said) = IsIdle old new × (bytes ≡ said)
 
 pub record TurnOf (rule : Rule) (old new : Moment) (bytes : List ℕ) : Type 0 where
@@ -64,7 +69,7 @@ pub record EndOf (rule : Rule) (old new : Moment) (bytes : List ℕ) : Type 0 wh
   pub printed : Reply → List ℕ
   pub given : Reply
   pub spelled : (more : List ℕ) → old.front.spells more (with_turn (Asks request.End printed) (only Ended))
-  pub handled : IsHandled rule old new request.End given
+  pub handled : IsHandled rule old.back new.back old.clock new.clock request.End given
   pub printing : bytes ≡ printed given
 
 -- the input has ended, once these many bytes are fed: nothing is left of it, or so many as offsets count are fed
@@ -123,15 +128,15 @@ ended_by_write fault.Failed = ended.WriteFault
 ended_by_write fault.Memory = ended.Memory
 
 -- A request was handled and its reply written, by whether the session is over after it.
-abbrev pub TakesTurn : Rule → (printed : Reply → List ℕ) (back back' : Shown) (wire wire' : Stream) → Request → Option EndedBy → Type 0
-TakesTurn rule printed back back' wire wire' asked None =
-    (given : Reply) × GoesOn (asked ∷ []) × Answers rule back back' 0 asked given × Moves wire wire' [] (printed given)
-TakesTurn rule printed back back' wire wire' asked (Some ended.Finished) =
-    (given : Reply) × (asked ≡ request.End) × Answers rule back back' 0 asked given × Moves wire wire' [] (printed given)
-TakesTurn rule printed back back' wire wire' asked (Some ended.BadFrame) = ⊥
-TakesTurn rule printed back back' wire wire' asked (Some ended.ReadFault) = ⊥
-TakesTurn rule printed back back' wire wire' asked (Some how) =
-    (given : Reply) × Answers rule back back' 0 asked given × WritesFront wire wire' (printed given)
+abbrev pub TakesTurn : Rule → (printed : Reply → List ℕ) (back back' : Shown) (clock clock' : Timeline) (wire wire' : Stream) → Request → Option EndedBy → Type 0
+TakesTurn rule printed back back' clock clock' wire wire' asked None =
+    (given : Reply) × GoesOn (asked ∷ []) × IsHandled rule back back' clock clock' asked given × Moves wire wire' [] (printed given)
+TakesTurn rule printed back back' clock clock' wire wire' asked (Some ended.Finished) =
+    (given : Reply) × (asked ≡ request.End) × IsHandled rule back back' clock clock' asked given × Moves wire wire' [] (printed given)
+TakesTurn rule printed back back' clock clock' wire wire' asked (Some ended.BadFrame) = ⊥
+TakesTurn rule printed back back' clock clock' wire wire' asked (Some ended.ReadFault) = ⊥
+TakesTurn rule printed back back' clock clock' wire wire' asked (Some how) =
+    (given : Reply) × IsHandled rule back back' clock clock' asked given × WritesFront wire wire' (printed given)
 
 -- a refusal of these bytes was written, or a prefix of it
 abbrev pub Refuses : (wire wire' : Stream) (bytes : List ℕ) → EndedBy → Type 0

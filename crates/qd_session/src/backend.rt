@@ -1,10 +1,13 @@
 //! What a session needs of what it serves.
-ghost use Rattle.std.specs.Prelude.{◌≤◌, length};
+ghost use Rattle.std.specs.Prelude.{◌≤◌, ℕ, List, length};
 ghost use Rattle.qd_base.specs.declared.request.Request.TheVariants as request;
-ghost use Rattle.qd_session.specs.Legal.{EndsByBye, Handles, IsLasting, MayWantMemory, Rule};
+ghost use Rattle.qd_ilp.specs.Whole.{IsReading};
+ghost use Rattle.qd_session.specs.Legal.{EndsByBye, Handles, IsLasting, MayLackClock, MayWantMemory, Rule};
 ghost use Rattle.qd_session.specs.Looks.{IsCounted, Shown};
+ghost use Rattle.qd_session.specs.Timing.{IsRead};
 
 use qd_base::{MAX_QUERY_BYTES, Memory, Reply, Txt};
+use qd_ilp::Batch;
 use std::alloc::Global;
 
 /// What handles the requests of a session.
@@ -22,10 +25,12 @@ pub trait Backend {
     /// Which reply may come to which request.
     ghost rule: { Rule };
 
-    /// Makes a batch of lines one transaction, or refuses it whole. `now` is the time, in microseconds, of lines
-    /// without one. Where it finds no memory, it has added nothing.
-    fn lines(&mut self, alloc: Global, text: &Txt, now: u64) -> Result<Reply, Memory>
-        ensures handled { Handles rule (shown self.old) (shown self.new) now (request.Write text.now) result };
+    /// Makes a batch of lines one transaction, or refuses it whole. `now` is the time, in microseconds since
+    /// 1970-01-01T00:00Z, of lines without a stamp; it may be any `u64`, and is 0 where the batch doesn't lack one. Where
+    /// it finds no memory, it has added nothing.
+    fn lines(&mut self, alloc: Global, batch: &Batch, now: u64) -> Result<Reply, Memory>
+        requires read { IsRead batch.now }
+        ensures handled { (text : List ℕ) → IsReading text batch.now → Handles rule (shown self.old) (shown self.new) now (request.Write text) result };
 
     /// Answers one statement. Where it finds no memory, it has added nothing.
     fn sql(&mut self, alloc: Global, text: &Txt) -> Result<Reply, Memory>
@@ -40,10 +45,12 @@ pub trait Backend {
     fn is_counted(&self)
         ensures counted { IsCounted (shown self.now) };
 
-    /// Laws of the rule: Bye answers a request for the end, and nothing else does; want of memory may answer any other;
-    /// and what may come over a history may come over each that it grows to. The call does nothing.
+    /// Laws of the rule: Bye answers a request for the end, and nothing else does; want of memory may answer any other; a
+    /// failed clock may answer a batch that lacks a time; and what may come over a history may come over each that it
+    /// grows to. The call does nothing.
     fn keeps_to_its_rule(&self)
         ensures bye { EndsByBye rule }
         ensures memory { MayWantMemory rule }
+        ensures clock { MayLackClock rule }
         ensures lasting { IsLasting rule };
 }

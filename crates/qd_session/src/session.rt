@@ -1,16 +1,20 @@
-//! A session over one wire.
+//! A session over one wire and one clock.
 ghost use Rattle.std.specs.Prelude.{◌≡◌, ℕ, ◌+◌, ◌-◌, ◌*◌, ◌<◌, ◌≤◌, List, [], length, take, IfOk, OnOk, OnErr, IsErrOf, Ok, Err, Some, None};
+ghost use Rattle.qd_base.specs.declared.request.Request.TheVariants as request;
 ghost use Rattle.qd_base.specs.Script.{ReadsOn, ends_with};
+ghost use Rattle.qd_ilp.specs.Whole.{lacks_time};
 ghost use Rattle.qd_io.specs.Ends.{Counts, OutputStays};
-ghost use Rattle.qd_session.specs.Legal.{Answers, IsLasting};
+ghost use Rattle.qd_session.specs.Legal.{IsLasting};
 ghost use Rattle.qd_session.specs.Looks.{Extends, IsCounted};
 ghost use Rattle.qd_session.specs.Session.{Faults, IsAllOf, Moves, Serves, TakenFrom, moment, refusal};
-ghost use Rattle.qd_session.specs.Turns.{Finishes, IsAskable, Refuses, Said, SessionStep, TakesPiece, TakesTurn, Wrote, ended_by_write};
+ghost use Rattle.qd_session.specs.Timing.{TimesBatch, want_of_memory};
+ghost use Rattle.qd_session.specs.Turns.{Finishes, IsAskable, IsHandled, Refuses, Said, SessionStep, TakesPiece, TakesTurn, Wrote, ended_by_write};
 
 use crate::backend::Backend;
 use crate::ended::Ended;
 use qd_base::{Code, Front, LAST_OFFSET, Reply, Request, Step};
-use qd_io::{IoFault, Sink, Source, write_all};
+use qd_ilp::{Batch, lacks_time, parse_batch};
+use qd_io::{Clock, IoFault, Sink, Source, write_all};
 use std::alloc::Global;
 
 /// How many bytes one read asks for.
@@ -21,15 +25,19 @@ const PIECE: usize = 65_536;
 /// It costs what the requests cost, and time linear in the bytes however they come; it keeps one read buffer of 65,536
 /// bytes beside what the front and the backend keep. A request that finds no memory is refused with its code, and the
 /// session goes on. An input is taken as ended at the last offset, 2^64 - 1.
-pub fn serve<F: Front, B: Backend, W: Source + Sink>(
+///
+/// The clock is read once for each batch whose lines are all of the grammar and one of which has no stamp, and for
+/// nothing else. Where it fails, that batch is refused with its code, the backend isn't asked, and the session goes on.
+pub fn serve<F: Front, B: Backend, W: Source + Sink, C: Clock>(
     alloc: Global,
     front: &mut F,
     back: &mut B,
     wire: &mut W,
+    clock: &mut C,
 ) -> Ended
     // What was written is the replies to what was read, and these are legal over the backend's history.
-    ensures served { Serves B.rule (moment (F.protocol front.old) (B.shown back.old) (W.stream wire.old))
-        (moment (F.protocol front.new) (B.shown back.new) (W.stream wire.new)) result }
+    ensures served { Serves B.rule (moment (F.protocol front.old) (B.shown back.old) (W.stream wire.old) (C.timeline clock.old))
+        (moment (F.protocol front.new) (B.shown back.new) (W.stream wire.new) (C.timeline clock.new)) result }
     ensures history { Extends (B.shown back.old).history (B.shown back.new).history }
 
     // Faults come exactly where the wire counts one.
@@ -42,7 +50,7 @@ pub fn serve<F: Front, B: Backend, W: Source + Sink>(
     };
     let mut fed = 0;
     'steps: loop {
-        match take_step(alloc, front, back, wire, &mut buffer, &mut fed) {
+        match take_step(alloc, front, back, wire, clock, &mut buffer, &mut fed) {
             Some(ended) => {
                 back.is_counted();
                 return ended;
@@ -53,18 +61,19 @@ pub fn serve<F: Front, B: Backend, W: Source + Sink>(
 }
 
 /// Takes one step of a session, and says whether it is over.
-fn take_step<F: Front, B: Backend, W: Source + Sink>(
+fn take_step<F: Front, B: Backend, W: Source + Sink, C: Clock>(
     alloc: Global,
     front: &mut F,
     back: &mut B,
     wire: &mut W,
+    clock: &mut C,
     buffer: &mut [u8],
     fed: &mut u64,
 ) -> Option<Ended>
     requires room { 0 < length buffer.old }
     requires few { fed.old ≤ LAST_OFFSET }
-    ensures step { SessionStep B.rule (moment (F.protocol front.old) (B.shown back.old) (W.stream wire.old))
-        (moment (F.protocol front.new) (B.shown back.new) (W.stream wire.new)) fed.old fed.new result }
+    ensures step { SessionStep B.rule (moment (F.protocol front.old) (B.shown back.old) (W.stream wire.old) (C.timeline clock.old))
+        (moment (F.protocol front.new) (B.shown back.new) (W.stream wire.new) (C.timeline clock.new)) fed.old fed.new result }
     ensures nearer { result ≡ None → 2 * (LAST_OFFSET - fed.new) + length (F.protocol front.new).waiting
         < 2 * (LAST_OFFSET - fed.old) + length (F.protocol front.old).waiting }
     ensures most { fed.new ≤ LAST_OFFSET }
@@ -75,7 +84,7 @@ fn take_step<F: Front, B: Backend, W: Source + Sink>(
     back.keeps_to_its_rule();
     back.is_counted();
     match front.next_step(alloc) {
-        Ok(Step::Ask(asked)) => take_request(alloc, front, back, wire, &asked),
+        Ok(Step::Ask(asked)) => take_request(alloc, front, back, wire, clock, &asked),
         Ok(Step::Say(text)) => say(wire, text.bytes()),
         Ok(Step::More) => take_piece(alloc, front, wire, buffer, fed),
         Ok(Step::Clean) => unreachable!(),
@@ -85,20 +94,21 @@ fn take_step<F: Front, B: Backend, W: Source + Sink>(
 }
 
 /// Handles one request, writes its reply, and says whether the session is over.
-fn take_request<F: Front, B: Backend, W: Sink>(
+fn take_request<F: Front, B: Backend, W: Sink, C: Clock>(
     alloc: Global,
     front: &mut F,
     back: &mut B,
     wire: &mut W,
+    clock: &mut C,
     asked: &Request,
 ) -> Option<Ended>
     requires { IsAskable asked.now }
     ensures reply { TakesTurn B.rule (F.protocol front.old).printed (B.shown back.old) (B.shown back.new)
-        (W.stream wire.old) (W.stream wire.new) asked.now result }
+        (C.timeline clock.old) (C.timeline clock.new) (W.stream wire.old) (W.stream wire.new) asked.now result }
     ensures faults { Faults (W.stream wire.old) (W.stream wire.new) result }
     ensures front { ReadsOn (F.protocol front.old) (F.protocol front.new) }
 {
-    let given = handle(alloc, back, asked);
+    let given = handle(alloc, back, clock, asked);
     match print(alloc, front, wire, &given) {
         Ok(()) if matches!(asked, Request::End) => Some(Ended::Finished),
         Ok(()) => None,
@@ -107,12 +117,17 @@ fn take_request<F: Front, B: Backend, W: Sink>(
 }
 
 /// Lets a backend handle a request. Where it finds no memory, the reply says so.
-fn handle<B: Backend>(alloc: Global, back: &mut B, asked: &Request) -> Reply
+fn handle<B: Backend, C: Clock>(
+    alloc: Global,
+    back: &mut B,
+    clock: &mut C,
+    asked: &Request,
+) -> Reply
     requires { IsAskable asked.now }
-    ensures { Answers B.rule (B.shown back.old) (B.shown back.new) 0 asked.now result }
+    ensures { IsHandled B.rule (B.shown back.old) (B.shown back.new) (C.timeline clock.old) (C.timeline clock.new) asked.now result }
 {
     let handled = match asked {
-        Request::Write(text) => back.lines(alloc, text, 0),
+        Request::Write(text) => return handle_batch(alloc, back, clock, text.bytes()),
         Request::Sql(text) => back.sql(alloc, text),
         Request::Apply => back.apply(alloc),
         Request::End => {
@@ -122,10 +137,55 @@ fn handle<B: Backend>(alloc: Global, back: &mut B, asked: &Request) -> Reply
     };
     match handled {
         Ok(given) => given,
-        Err(_) => Reply::Refused {
-            code: Code::Memory.number(),
+        Err(_) => refuse_for_memory(),
+    }
+}
+
+/// Lets a backend handle a batch of lines, with the time of the clock where it lacks one. Where the clock fails, the
+/// reply says so, and the backend isn't asked.
+fn handle_batch<B: Backend, C: Clock>(
+    alloc: Global,
+    back: &mut B,
+    clock: &mut C,
+    text: &[u8],
+) -> Reply
+    ensures { IsHandled B.rule (B.shown back.old) (B.shown back.new) (C.timeline clock.old) (C.timeline clock.new) (request.Write text.now) result }
+{
+    back.keeps_to_its_rule();
+    let Ok(batch) = parse_batch(alloc, text) else {
+        return refuse_for_memory();
+    };
+    match time_for(clock, &batch) {
+        Ok(now) => match back.lines(alloc, &batch, now) {
+            Ok(given) => given,
+            Err(_) => refuse_for_memory(),
+        },
+        Err(IoFault::Failed) => Reply::Refused {
+            code: Code::Clock.number(),
             place: 0,
         },
+        Err(IoFault::Memory) => refuse_for_memory(),
+    }
+}
+
+/// Reads the clock for a batch that lacks a time, and for no other.
+fn time_for<C: Clock>(clock: &mut C, batch: &Batch) -> Result<u64, IoFault>
+    ensures time { TimesBatch (lacks_time batch.now) (C.timeline clock.old) (C.timeline clock.new) result }
+{
+    if lacks_time(batch) {
+        clock.now()
+    } else {
+        Ok(0)
+    }
+}
+
+/// The reply that says that no memory was found.
+fn refuse_for_memory() -> Reply
+    ensures reply { result ≡ want_of_memory }
+{
+    Reply::Refused {
+        code: Code::Memory.number(),
+        place: 0,
     }
 }
 

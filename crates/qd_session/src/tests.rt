@@ -3,18 +3,20 @@ ghost use Rattle.std.specs.Prelude.{◌≤◌};
 
 use crate::{Backend, Ended, FrameFront, serve};
 use qd_base::{Code, Front, Memory, Reply, Request, Step, Txt};
-use qd_io::{Both, MemSink, MemSource};
+use qd_ilp::Batch;
+use qd_io::{Both, Clock, MemClock, MemSink, MemSource};
 use qd_print::print_reply;
 use std::alloc::{AllocError, Global};
 use std::marker::Model;
 use std::test::Fail;
 
-/// A backend that tells no transaction. Its volume fails from its third batch on.
+/// A backend that tells no transaction. Its volume fails from its third batch on. It adds up the times that it is given.
 #[derive(Drop)]
 struct SilentBack {
     sequenced: u64,
     known: u64,
     faults: u64,
+    times: u64,
     ghost within: { known ≤ sequenced },
 }
 
@@ -26,7 +28,8 @@ impl Backend for SilentBack {
 
     ghost rule = { Allowed };
 
-    fn lines(&mut self, _alloc: Global, _text: &Txt, _now: u64) -> Result<Reply, Memory> {
+    fn lines(&mut self, _alloc: Global, _batch: &Batch, now: u64) -> Result<Reply, Memory> {
+        self.times = self.times.saturating_add(now);
         if self.sequenced >= 2 {
             self.faults = self.faults.saturating_add(1);
             return Ok(Reply::Refused {
@@ -66,7 +69,7 @@ impl Backend for PingBack {
 
     ghost rule = { AllowedOrPing };
 
-    fn lines(&mut self, _alloc: Global, _text: &Txt, _now: u64) -> Result<Reply, Memory> {
+    fn lines(&mut self, _alloc: Global, _batch: &Batch, _now: u64) -> Result<Reply, Memory> {
         Err(AllocError)
     }
 
@@ -151,10 +154,22 @@ fn served<F: Front, B: Backend>(
     back: &mut B,
     input: &[u8],
 ) -> Result<(Ended, MemSink), Memory> {
+    let mut clock = MemClock::new(alloc, &[0], &[])?;
+    served_by(alloc, front, back, input, &mut clock)
+}
+
+/// The same with this clock.
+fn served_by<F: Front, B: Backend>(
+    alloc: Global,
+    front: &mut F,
+    back: &mut B,
+    input: &[u8],
+    clock: &mut MemClock,
+) -> Result<(Ended, MemSink), Memory> {
     let source = MemSource::new(alloc, input, 3, &[])?;
     let sink = MemSink::new(alloc, 4, &[])?;
     let mut wire = Both::new(source, sink);
-    let ended = serve(alloc, front, back, &mut wire);
+    let ended = serve(alloc, front, back, &mut wire, clock);
     Ok((ended, wire.sink))
 }
 
@@ -166,6 +181,7 @@ fn a_backend_may_tell_nothing(rt: HostRuntime) -> Result<(), Fail> {
         sequenced: 0,
         known: 0,
         faults: 0,
+        times: 0,
     };
     let input = b"W 1\naA\nW 1\nbQ 1\ntW 1\ncA\nX\n";
     let (ended, output) = served(alloc, &mut front, &mut back, input)?;
@@ -182,6 +198,30 @@ fn a_backend_may_know_a_statement_of_its_own(rt: HostRuntime) -> Result<(), Fail
     let (ended, output) = served(alloc, &mut front, &mut PingBack, b"Q 4\npingQ 1\ntA\nW 0\n")?;
     assert_eq!(rt; ended, Ended::Finished);
     assert_eq!(rt; output.bytes(), b"A 0\nE 61 0\nE 61 0\nE 61 0\n".as_slice());
+    Ok(())
+}
+
+#[test]
+fn the_clock_is_read_for_batches_that_lack_a_time(rt: HostRuntime) -> Result<(), Fail> {
+    let alloc = rt.alloc();
+    let mut front = FrameFront::new(alloc);
+    let mut back = SilentBack {
+        sequenced: 0,
+        known: 0,
+        faults: 0,
+        times: 0,
+    };
+    let mut clock = MemClock::new(alloc, &[5, 6, 7], &[2])?;
+    let stamped = b"W 8\nt v=1i 9";
+    let faulty = b"W 9\nt v=1i\nt,";
+    let lacking = b"W 6\nt v=1iW 10\n# c\nt v=1iW 6\nt v=1iW 6\nt v=1i";
+    let (_, stamps) = served_by(alloc, &mut front, &mut back, stamped, &mut clock)?;
+    let (_, faults) = served_by(alloc, &mut front, &mut back, faulty, &mut clock)?;
+    let (_, times) = served_by(alloc, &mut front, &mut back, lacking, &mut clock)?;
+    assert_eq!(rt; stamps.bytes(), b"K 1\n".as_slice());
+    assert_eq!(rt; faults.bytes(), b"K 2\n".as_slice());
+    assert_eq!(rt; times.bytes(), b"E 52 0\nE 52 0\nE 42 0\nE 52 0\n".as_slice());
+    assert_eq!(rt; back.times, 18);
     Ok(())
 }
 
@@ -203,6 +243,7 @@ fn a_front_may_say_bytes_by_itself(rt: HostRuntime) -> Result<(), Fail> {
         sequenced: 0,
         known: 0,
         faults: 0,
+        times: 0,
     };
     let (ended, output) = served(alloc, &mut front, &mut back, b"aAb")?;
     assert_eq!(rt; ended, Ended::Finished);

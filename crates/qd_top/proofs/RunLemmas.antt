@@ -4,7 +4,8 @@ use Rattle.std.specs.List.{range_with_len}
 use Rattle.std.proofs.lemmas.List.{append-nil, append_assoc, length-append, take-append-drop, take_all}
 use Rattle.std.proofs.Math.Seq.{take-append-add}
 use Rattle.std.specs.Cmp.Lexicographic.{bytes_decides, pointwise}
-use Rattle.qd_io.specs.Ends.{HasRisen, Stream, WritesAll}
+use Rattle.qd_io.specs.Clocks.{Supply, Timeline, Times, after_clock}
+use Rattle.qd_io.specs.Ends.{HasRisen, Stream, WritesAll, counts_together}
 use Rattle.qd_io.specs.declared.fault.IoFault.{IoFault}
 use Rattle.qd_base.specs.declared.limits.TheConstants.{LAST_OFFSET}
 use Rattle.qd_base.specs.declared.op.Entry.{Entry}
@@ -18,11 +19,11 @@ use Rattle.qd_session.specs.declared.ended.Ended.TheVariants as ended
 use Rattle.qd_frames.specs.Frames.{Frames, Steps, asked, frame, frames_protocol}
 use Rattle.qd_print.specs.Printed.{reply_bytes}
 use Rattle.qd_session.specs.Allowed.{Allowed}
-use Rattle.qd_session.specs.Listed.{AllowedAlone, Listed, listed_shown}
+use Rattle.qd_list.specs.Listed.{AllowedAlone, Listed, listed_shown}
 use Rattle.qd_session.specs.Looks.{Look}
 use Rattle.qd_session.specs.Legal.{Legal, LegalRun, done_numbers}
 use Rattle.qd_session.specs.Session.{Dialogue, Faults, IsBad, IsCutShort, Moment, Moves, PutTo, Serves, TakenFrom, moment, refusal, requests_in, transcript}
-use Rattle.qd_top.specs.Run.{AnswersLast, AppliesAll, CountsReads, CountsWrites, CutRun, FinishedRun, IsRun, IsWellFramed, Ran, RefusedRun, Replied, Run, StoppedRun, Store, WroteUsage, look_of, no_store, printed, reached, usage}
+use Rattle.qd_top.specs.Run.{AnswersLast, AppliesAll, ByHost, CountsReads, CountsWrites, CutRun, FinishedRun, IsRun, IsWellFramed, Ran, RefusedRun, Replied, Run, StoppedRun, Store, WroteUsage, fresh, look_of, no_store, printed, reached, usage}
 use Rattle.qd_top.specs.Status.{number_of, status_of}
 use Rattle.qd_top.specs.declared.status.Status.{Status}
 use Rattle.qd_top.specs.declared.status.Status.TheVariants as status
@@ -35,7 +36,7 @@ requests_in-asked (r ∷ rs) = ap (λ (x : List Request). r ∷ x) (requests_in-
 -- one reply for each request
 matches : (h : Option (List Entry)) (from : Look) (rs : List Request) (replies : List Reply) (upto : Look) → LegalRun AllowedAlone h from rs replies upto → length replies ≡ length rs
 matches h from [] [] upto r = refl
-matches h from (q ∷ rs) (t ∷ replies) upto r = ap suc (matches h r.0 rs replies upto r.4)
+matches h from (q ∷ rs) (t ∷ replies) upto r = ap suc (matches h r.0 rs replies upto r.5)
 matches h from [] (t ∷ replies) upto r = absurd r
 matches h from (q ∷ rs) [] upto r = absurd r
 
@@ -130,24 +131,24 @@ counted h c from [] (t ∷ replies) upto r le own low = absurd r
 counted h c from (q ∷ requests) [] upto r le own low = absurd r
 counted h c from (q ∷ requests) (reply.Done m ∷ replies) upto r le own low =
     let f = range_first m (done_numbers replies) (c + 1) (length h - c) own in
-    let says = done-says (Some h) from r.0 r.1 q m r.3 in
+    let says = done-says (Some h) from r.0 r.1 q m r.4 in
     let rest : done_numbers replies ≡ range_with_len (c + 1 + 1) (length h - (c + 1)) = f.rest ∙ ap (λ (x : ℕ). range_with_len (c + 1 + 1) x) (omega arith) in
-    let later = counted h (c + 1) r.0 requests replies upto r.4 le rest (omega (arith, says.0, f.first_is)) in
+    let later = counted h (c + 1) r.0 requests replies upto r.5 le rest (omega (arith, says.0, f.first_is)) in
     record { most = omega (arith, says.1, f.first_is); applies = later.applies }
 counted h c from (q ∷ requests) (reply.Applied m ∷ replies) upto r le own low =
-    let says = applied-says (Some h) from r.0 r.1 q m r.3 in
-    let later = counted h c r.0 requests replies upto r.4 le own (omega (arith, r.2.sequenced)) in
+    let says = applied-says (Some h) from r.0 r.1 q m r.4 in
+    let later = counted h c r.0 requests replies upto r.5 le own (omega (arith, r.2.sequenced)) in
     record { most = omega (arith, r.2.sequenced, later.most); applies = (omega (arith, r.2.sequenced, later.most, says.0, says.1), later.applies) }
 counted h c from (q ∷ requests) (reply.Rows m table ∷ replies) upto r le own low =
-    let later = counted h c r.0 requests replies upto r.4 le own (omega (arith, r.2.sequenced)) in record { most = omega (arith, r.2.sequenced, later.most); applies = later.applies }
+    let later = counted h c r.0 requests replies upto r.5 le own (omega (arith, r.2.sequenced)) in record { most = omega (arith, r.2.sequenced, later.most); applies = later.applies }
 counted h c from (q ∷ requests) (reply.Refused number place ∷ replies) upto r le own low =
-    let later = counted h c r.0 requests replies upto r.4 le own (omega (arith, r.2.sequenced)) in record { most = omega (arith, r.2.sequenced, later.most); applies = later.applies }
+    let later = counted h c r.0 requests replies upto r.5 le own (omega (arith, r.2.sequenced)) in record { most = omega (arith, r.2.sequenced, later.most); applies = later.applies }
 counted h c from (q ∷ requests) (reply.QueryRefused m number place ∷ replies) upto r le own low =
-    let later = counted h c r.0 requests replies upto r.4 le own (omega (arith, r.2.sequenced)) in record { most = omega (arith, r.2.sequenced, later.most); applies = later.applies }
+    let later = counted h c r.0 requests replies upto r.5 le own (omega (arith, r.2.sequenced)) in record { most = omega (arith, r.2.sequenced, later.most); applies = later.applies }
 counted h c from (q ∷ requests) (reply.Damaged file at ∷ replies) upto r le own low =
-    let later = counted h c r.0 requests replies upto r.4 le own (omega (arith, r.2.sequenced)) in record { most = omega (arith, r.2.sequenced, later.most); applies = later.applies }
+    let later = counted h c r.0 requests replies upto r.5 le own (omega (arith, r.2.sequenced)) in record { most = omega (arith, r.2.sequenced, later.most); applies = later.applies }
 counted h c from (q ∷ requests) (reply.Bye ∷ replies) upto r le own low =
-    let later = counted h c r.0 requests replies upto r.4 le own (omega (arith, r.2.sequenced)) in record { most = omega (arith, r.2.sequenced, later.most); applies = later.applies }
+    let later = counted h c r.0 requests replies upto r.5 le own (omega (arith, r.2.sequenced)) in record { most = omega (arith, r.2.sequenced, later.most); applies = later.applies }
 
 -- each query is over the last apply
 answers-last : (h : Option (List Entry)) (from : Look) (requests : List Request) (replies : List Reply) (upto : Look) → LegalRun AllowedAlone h from requests replies upto → AnswersLast from.known replies
@@ -155,20 +156,20 @@ answers-last h from [] [] upto r = tt
 answers-last h from [] (t ∷ replies) upto r = absurd r
 answers-last h from (q ∷ requests) [] upto r = absurd r
 answers-last h from (q ∷ requests) (reply.Applied m ∷ replies) upto r =
-    subst (λ (n : ℕ). AnswersLast n replies) r.3.1 (answers-last h r.0 requests replies upto r.4)
+    subst (λ (n : ℕ). AnswersLast n replies) r.4.1 (answers-last h r.0 requests replies upto r.5)
 answers-last h from (q ∷ requests) (reply.Rows m table ∷ replies) upto r =
-    (r.3.1.1, subst (λ (n : ℕ). AnswersLast n replies) r.3.1.0 (answers-last h r.0 requests replies upto r.4))
+    (r.4.1.1, subst (λ (n : ℕ). AnswersLast n replies) r.4.1.0 (answers-last h r.0 requests replies upto r.5))
 answers-last h from (q ∷ requests) (reply.QueryRefused m number place ∷ replies) upto r =
-    (r.3.1.1, subst (λ (n : ℕ). AnswersLast n replies) r.3.1.0 (answers-last h r.0 requests replies upto r.4))
-answers-last h from (q ∷ requests) (reply.Done m ∷ replies) upto r = subst (λ (n : ℕ). AnswersLast n replies) r.3.1 (answers-last h r.0 requests replies upto r.4)
-answers-last h from (q ∷ requests) (reply.Refused number place ∷ replies) upto r = subst (λ (n : ℕ). AnswersLast n replies) r.3.1 (answers-last h r.0 requests replies upto r.4)
-answers-last h from (q ∷ requests) (reply.Damaged file at ∷ replies) upto r = subst (λ (n : ℕ). AnswersLast n replies) r.3.1 (answers-last h r.0 requests replies upto r.4)
-answers-last h from (q ∷ requests) (reply.Bye ∷ replies) upto r = subst (λ (n : ℕ). AnswersLast n replies) r.3.1 (answers-last h r.0 requests replies upto r.4)
+    (r.4.1.1, subst (λ (n : ℕ). AnswersLast n replies) r.4.1.0 (answers-last h r.0 requests replies upto r.5))
+answers-last h from (q ∷ requests) (reply.Done m ∷ replies) upto r = subst (λ (n : ℕ). AnswersLast n replies) r.4.1 (answers-last h r.0 requests replies upto r.5)
+answers-last h from (q ∷ requests) (reply.Refused number place ∷ replies) upto r = subst (λ (n : ℕ). AnswersLast n replies) r.4.1 (answers-last h r.0 requests replies upto r.5)
+answers-last h from (q ∷ requests) (reply.Damaged file at ∷ replies) upto r = subst (λ (n : ℕ). AnswersLast n replies) r.4.1 (answers-last h r.0 requests replies upto r.5)
+answers-last h from (q ∷ requests) (reply.Bye ∷ replies) upto r = subst (λ (n : ℕ). AnswersLast n replies) r.4.1 (answers-last h r.0 requests replies upto r.5)
 
 -- what the rule of a list allows, that of the product does
 product-run : (h : Option (List Entry)) (from : Look) (requests : List Request) (replies : List Reply) (upto : Look) → LegalRun AllowedAlone h from requests replies upto → LegalRun Allowed h from requests replies upto
 product-run h from [] [] upto r = r
-product-run h from (q ∷ requests) (t ∷ replies) upto r = (r.0, r.1, r.2, r.3.0, product-run h r.0 requests replies upto r.4)
+product-run h from (q ∷ requests) (t ∷ replies) upto r = (r.0, r.1, r.2, r.3, r.4.0, product-run h r.0 requests replies upto r.5)
 product-run h from [] (t ∷ replies) upto r = absurd r
 product-run h from (q ∷ requests) [] upto r = absurd r
 
@@ -177,26 +178,26 @@ abbrev stored : Store → Listed
 stored s = record { history = s.history; applied = s.applied }
 
 -- the replies of a session alone over a store that began empty
-replied-from_legal : (after : Store) (requests : List Request) (replies : List Reply) → Legal AllowedAlone (Some after.history) (look_of no_store) (look_of after) requests replies → range_with_len 1 (length after.history) ≡ done_numbers replies → Replied no_store after requests replies
-replied-from_legal after requests replies l own =
-    let run = product-run (Some after.history) (look_of no_store) requests replies (look_of after) l.run in
+replied-from_legal : (start : Timeline) (after : Store) (requests : List Request) (replies : List Reply) → Legal AllowedAlone (Some after.history) (look_of (no_store start)) (look_of after) requests replies → range_with_len 1 (length after.history) ≡ done_numbers replies → Replied (no_store start) after requests replies
+replied-from_legal start after requests replies l own =
+    let run = product-run (Some after.history) (look_of (no_store start)) requests replies (look_of after) l.run in
     let numbers : done_numbers replies ≡ range_with_len (0 + 1) (length after.history - 0) = sym own ∙ ap (λ (x : ℕ). range_with_len 1 x) (omega arith) in
     record {
       legal = record { run = run; seen = l.seen; end_is_last = l.end_is_last };
       own = record { grows = (after.history, refl); numbers = numbers };
-      applies = (counted after.history 0 (look_of no_store) requests replies (look_of after) run l.seen numbers (omega arith)).applies;
-      answers = answers-last (Some after.history) (look_of no_store) requests replies (look_of after) l.run;
+      applies = (counted after.history 0 (look_of (no_store start)) requests replies (look_of after) run l.seen numbers (omega arith)).applies;
+      answers = answers-last (Some after.history) (look_of (no_store start)) requests replies (look_of after) l.run;
     }
 
-module _ (total : Total) (later : Frames) (after : Store) (wire wire' : Stream) where
+module _ (total : Total) (later : Frames) (start : Timeline) (after : Store) (wire wire' : Stream) where
   abbrev first_moment : Moment
-  first_moment = moment (frames_protocol new_frames) (listed_shown (stored no_store)) wire
+  first_moment = moment (frames_protocol new_frames) (listed_shown (stored (no_store start))) wire start
 
   abbrev last_moment : Moment
-  last_moment = moment (frames_protocol later) (listed_shown (stored after)) wire'
+  last_moment = moment (frames_protocol later) (listed_shown (stored after)) wire' after.clock
 
   -- a whole session is a run
-  abbrev run_of : (taken : List ℕ) → TakenFrom wire.input wire'.input taken → length taken ≤ LAST_OFFSET → Dialogue AllowedAlone first_moment last_moment taken → Run no_store wire.input wire'.input
+  abbrev run_of : (taken : List ℕ) → TakenFrom wire.input wire'.input taken → length taken ≤ LAST_OFFSET → Dialogue AllowedAlone first_moment last_moment taken → Run (no_store start) after.clock wire.input wire'.input
   run_of taken from short d = record {
     taken = taken;
     requests = d.spelled.0;
@@ -206,27 +207,28 @@ module _ (total : Total) (later : Frames) (after : Store) (wire wire' : Stream) 
     from = from;
     short = short;
     spelled = d.spelled.2;
-    replied = replied-from_legal after d.spelled.0 d.replies
-        (subst (λ (rs : List Request). Legal AllowedAlone (Some after.history) (look_of no_store) (look_of after) rs d.replies) (ap requests_in d.spelled.1 ∙ requests_in-asked d.spelled.0) d.legal) d.own;
+    replied = replied-from_legal start after d.spelled.0 d.replies
+        (subst (λ (rs : List Request). Legal AllowedAlone (Some after.history) (look_of (no_store start)) (look_of after) rs d.replies) (ap requests_in d.spelled.1 ∙ requests_in-asked d.spelled.0) d.legal) d.own;
+    clock_is = refl;
   }
 
   written_is : (taken : List ℕ) (d : Dialogue AllowedAlone first_moment last_moment taken) → transcript d.script.turns d.replies ≡ printed d.replies
   written_is taken d =
-      let legal : Legal AllowedAlone (Some after.history) (look_of no_store) (look_of after) d.spelled.0 d.replies =
-      subst (λ (rs : List Request). Legal AllowedAlone (Some after.history) (look_of no_store) (look_of after) rs d.replies) (ap requests_in d.spelled.1 ∙ requests_in-asked d.spelled.0) d.legal in
-      ap (λ (ts : List Turn). transcript ts d.replies) d.spelled.1 ∙ transcript-asked d.spelled.0 d.replies (matches (Some after.history) (look_of no_store) d.spelled.0 d.replies (look_of after) legal.run)
+      let legal : Legal AllowedAlone (Some after.history) (look_of (no_store start)) (look_of after) d.spelled.0 d.replies =
+      subst (λ (rs : List Request). Legal AllowedAlone (Some after.history) (look_of (no_store start)) (look_of after) rs d.replies) (ap requests_in d.spelled.1 ∙ requests_in-asked d.spelled.0) d.legal in
+      ap (λ (ts : List Turn). transcript ts d.replies) d.spelled.1 ∙ transcript-asked d.spelled.0 d.replies (matches (Some after.history) (look_of (no_store start)) d.spelled.0 d.replies (look_of after) legal.run)
 
   bad_of : (taken : List ℕ) (d : Dialogue AllowedAlone first_moment last_moment taken) (place : ℕ) (f : Reply → List ℕ) → IsBad wire.input taken d.script.ending place f → f ≡ reply_bytes
   bad_of taken d place f bad = bad_prints wire.input taken d.script.ending place f (prints 0 taken d.spelled.0 d.script.ending d.spelled.2) bad
 
   cut_of : (taken written : List ℕ) → Moves wire wire' taken written → length taken ≤ LAST_OFFSET
-      → IsCutShort AllowedAlone first_moment last_moment taken written → CutRun no_store wire.input wire'.input wire.output wire'.output
+      → IsCutShort AllowedAlone first_moment last_moment taken written → CutRun (no_store start) after.clock wire.input wire'.input wire.output wire'.output
   cut_of taken written moved short (inl (b, missing, e)) =
       let t = total later.start (later.waiting ++ (b.unfed ++ [])) in
       let q = b.begins [] (record { turns = asked t.0; ending = t.1 }) (t.0, refl, t.2) in
       let s = split_asked b.turns (asked t.0) q.0 q.1 in
-      let legal : Legal AllowedAlone (Some after.history) (look_of no_store) (look_of after) s.front b.replies =
-      subst (λ (rs : List Request). Legal AllowedAlone (Some after.history) (look_of no_store) (look_of after) rs b.replies) (ap requests_in s.turns_are ∙ requests_in-asked s.front) b.legal in
+      let legal : Legal AllowedAlone (Some after.history) (look_of (no_store start)) (look_of after) s.front b.replies =
+      subst (λ (rs : List Request). Legal AllowedAlone (Some after.history) (look_of (no_store start)) (look_of after) rs b.replies) (ap requests_in s.turns_are ∙ requests_in-asked s.front) b.legal in
       record {
         taken = taken;
         requests = s.front;
@@ -239,9 +241,10 @@ module _ (total : Total) (later : Frames) (after : Store) (wire wire' : Stream) 
         from = moved.from;
         short = short;
         spelled = subst (λ (rs : List Request). Steps 0 taken rs t.1) s.whole (subst (λ (x : List ℕ). Steps 0 x q.0 t.1) (append-nil taken) q.2);
-        replied = replied-from_legal after s.front b.replies legal b.own;
+        replied = replied-from_legal start after s.front b.replies legal b.own;
+        clock_is = refl;
         put = moved.to;
-        front = inl (sym (ap (λ (ts : List Turn). transcript ts b.replies) s.turns_are ∙ transcript-asked s.front b.replies (matches (Some after.history) (look_of no_store) s.front b.replies (look_of after) legal.run)) ∙ e);
+        front = inl (sym (ap (λ (ts : List Turn). transcript ts b.replies) s.turns_are ∙ transcript-asked s.front b.replies (matches (Some after.history) (look_of (no_store start)) s.front b.replies (look_of after) legal.run)) ∙ e);
       }
   cut_of taken written moved short (inr (inl (d, missing, e))) =
       let r = run_of taken moved.from short d in
@@ -258,6 +261,7 @@ module _ (total : Total) (later : Frames) (after : Store) (wire wire' : Stream) 
         short = short;
         spelled = subst (λ (rs : List Request). Steps 0 taken rs d.script.ending) (sym (append-nil r.requests)) r.spelled;
         replied = r.replied;
+        clock_is = refl;
         put = moved.to;
         front = inl (sym (written_is taken d) ∙ e);
       }
@@ -277,6 +281,7 @@ module _ (total : Total) (later : Frames) (after : Store) (wire wire' : Stream) 
         short = short;
         spelled = subst (λ (rs : List Request). Steps 0 taken rs d.script.ending) (sym (append-nil r.requests)) r.spelled;
         replied = r.replied;
+        clock_is = refl;
         put = moved.to;
         front = inr (
           refl,
@@ -286,7 +291,7 @@ module _ (total : Total) (later : Frames) (after : Store) (wire wire' : Stream) 
         );
       }
 
-  ran : (how : EndedBy) → Serves AllowedAlone first_moment last_moment how → Ran no_store wire.input wire'.input wire.output wire'.output (status_of how)
+  ran : (how : EndedBy) → Serves AllowedAlone first_moment last_moment how → Ran (no_store start) after.clock wire.input wire'.input wire.output wire'.output (status_of how)
   ran ended.Finished s =
       let c = s.concluded in
       (run_of s.taken s.moved.from s.short c.0, c.1, subst (λ (x : List ℕ). PutTo wire.output wire'.output x) (c.2 ∙ written_is s.taken c.0) s.moved.to)
@@ -306,13 +311,13 @@ module _ (total : Total) (later : Frames) (after : Store) (wire wire' : Stream) 
 
   -- the same, where the front and the list are known to be new by equations
   pub ran-from_serves : (f : Frames) (l : Listed) (how : EndedBy) → f ≡ new_frames → l.history ≡ [] → l.applied ≡ 0
-      → Serves AllowedAlone (moment (frames_protocol f) (listed_shown l) wire) last_moment how
-      → Ran no_store wire.input wire'.input wire.output wire'.output (status_of how)
+      → Serves AllowedAlone (moment (frames_protocol f) (listed_shown l) wire start) last_moment how
+      → Ran (no_store start) after.clock wire.input wire'.input wire.output wire'.output (status_of how)
   ran-from_serves f l how ef eh en s =
       ran how
-      (subst (λ (x : List Entry). Serves AllowedAlone (moment (frames_protocol new_frames) (listed_shown (record { history = x; applied = 0 })) wire) last_moment how) eh
-      (subst (λ (x : ℕ). Serves AllowedAlone (moment (frames_protocol new_frames) (listed_shown (record { history = l.history; applied = x })) wire) last_moment how) en
-      (subst (λ (x : Frames). Serves AllowedAlone (moment (frames_protocol x) (listed_shown l) wire) last_moment how) ef s)))
+      (subst (λ (x : List Entry). Serves AllowedAlone (moment (frames_protocol new_frames) (listed_shown (record { history = x; applied = 0 })) wire start) last_moment how) eh
+      (subst (λ (x : ℕ). Serves AllowedAlone (moment (frames_protocol new_frames) (listed_shown (record { history = l.history; applied = x })) wire start) last_moment how) en
+      (subst (λ (x : Frames). Serves AllowedAlone (moment (frames_protocol x) (listed_shown l) wire start) last_moment how) ef s)))
 
 -- one word is `run`
 pub word_is_run : (words : List (List ℕ)) (only : List ℕ) (r : Bool) → 1 ≤ length words → length words < 2 → only ≡ get_or words 0 only → r ≡ pointwise nat_eq only (codes "run") → (IsTrue r → IsRun words) × (IsRun words → IsTrue r)
@@ -369,9 +374,9 @@ module _ (bytes taken left : List ℕ) (rs : List Request) (place : ℕ) (whole 
   not_bad (Malformed at f) s bad =
       well rs (Malformed at f) (subst (λ (x : List ℕ). Steps 0 x rs (Malformed at f)) (sym reached_is) (malformed_more 0 taken (take (LAST_OFFSET - length taken) left) rs at f s))
 
-not_refused : (input input' output output' : Option (List ℕ)) → IsWellFramed input → RefusedRun no_store input input' output output' → ⊥
-not_refused None input' output output' well r = well
-not_refused (Some bytes) input' output output' well (r, place, bad, put) = not_bad bytes r.taken r.from.0 r.requests place r.from.2 r.short well r.ending r.spelled bad
+not_refused : (before : Store) (clock : Timeline) (input input' output output' : Option (List ℕ)) → IsWellFramed input → RefusedRun before clock input input' output output' → ⊥
+not_refused before clock None input' output output' well r = well
+not_refused before clock (Some bytes) input' output output' well (r, place, bad, put) = not_bad bytes r.taken r.from.0 r.requests place r.from.2 r.short well r.ending r.spelled bad
 
 -- the status of a number
 status_with : ℕ → Status
@@ -401,26 +406,37 @@ status_with-number_of status.NoMemory = refl
 one_status : (s t : Status) → number_of s ≡ number_of t → s ≡ t
 one_status s t e = sym (status_with-number_of s) ∙ ap status_with e ∙ status_with-number_of t
 
-module _ (input input' output output' : Option (List ℕ)) where
+module _ (before : Store) (clock : Timeline) (input input' output output' : Option (List ℕ)) where
   -- what a run with the number of a status is
-  is_run_of : (s t : Status) → number_of s ≡ number_of t → Ran no_store input input' output output' s → Ran no_store input input' output output' t
-  is_run_of s t e r = subst (λ (u : Status). Ran no_store input input' output output' u) (one_status s t e) r
+  is_run_of : (s t : Status) → number_of s ≡ number_of t → Ran before clock input input' output output' s → Ran before clock input input' output output' t
+  is_run_of s t e r = subst (λ (u : Status). Ran before clock input input' output output' u) (one_status s t e) r
 
-  pub finished-from : (s : Status) → number_of s ≡ 0 → Ran no_store input input' output output' s → FinishedRun no_store input input' output output'
+  pub finished-from : (s : Status) → number_of s ≡ 0 → Ran before clock input input' output output' s → FinishedRun before clock input input' output output'
   finished-from s e r = is_run_of s status.Finished e r
 
-  pub refused-from : (s : Status) → number_of s ≡ 2 → Ran no_store input input' output output' s → RefusedRun no_store input input' output output'
+  pub refused-from : (s : Status) → number_of s ≡ 2 → Ran before clock input input' output output' s → RefusedRun before clock input input' output output'
   refused-from s e r = is_run_of s status.BadFrame e r
 
-  pub stopped-from : (s : Status) → number_of s ≡ 3 → Ran no_store input input' output output' s → StoppedRun no_store input input' output output'
+  pub stopped-from : (s : Status) → number_of s ≡ 3 → Ran before clock input input' output output' s → StoppedRun before clock input input' output output'
   stopped-from s e r = is_run_of s status.ReadFault e r
 
+  pub cut-from : (s : Status) → (number_of s ≡ 4) ⊎ (number_of s ≡ 7) → Ran before clock input input' output output' s → CutRun before clock input input' output output'
+  cut-from status.WriteFault e r = r
+  cut-from status.NoMemory e r = r
+  cut-from status.Finished (inl e) r = absurd (omega (arith, e))
+  cut-from status.Finished (inr e) r = absurd (omega (arith, e))
+  cut-from status.Usage e r = absurd r
+  cut-from status.BadFrame (inl e) r = absurd (omega (arith, e))
+  cut-from status.BadFrame (inr e) r = absurd (omega (arith, e))
+  cut-from status.ReadFault (inl e) r = absurd (omega (arith, e))
+  cut-from status.ReadFault (inr e) r = absurd (omega (arith, e))
+
   -- over whole frames, and where no count rises, a run finishes or finds no memory
-  pub complete-from : (s : Status) (reads reads' writes writes' : ℕ) → Ran no_store input input' output output' s → CountsReads reads reads' s → CountsWrites writes writes' s
+  pub complete-from : (s : Status) (reads reads' writes writes' : ℕ) → Ran before clock input input' output output' s → CountsReads reads reads' s → CountsWrites writes writes' s
       → IsWellFramed input → (HasRisen reads reads' → ⊥) → (HasRisen writes writes' → ⊥) → (number_of s ≡ 0) ⊎ (number_of s ≡ 7)
   complete-from status.Finished reads reads' writes writes' r read write well no_read no_write = inl refl
   complete-from status.Usage reads reads' writes writes' r read write well no_read no_write = absurd r
-  complete-from status.BadFrame reads reads' writes writes' r read write well no_read no_write = absurd (not_refused input input' output output' well r)
+  complete-from status.BadFrame reads reads' writes writes' r read write well no_read no_write = absurd (not_refused before clock input input' output output' well r)
   complete-from status.ReadFault reads reads' writes writes' r read write well no_read no_write = absurd (no_read read.1)
   complete-from status.WriteFault reads reads' writes writes' r read write well no_read no_write = absurd (no_write write.1)
   complete-from status.NoMemory reads reads' writes writes' r read write well no_read no_write = inr refl
@@ -463,3 +479,31 @@ writes-stay-from status.Finished before now e u c = c
 writes-stay-from status.BadFrame before now e u c = c
 writes-stay-from status.ReadFault before now e u c = c
 writes-stay-from status.NoMemory before now e u c = c
+
+-- ---- the host's clock
+
+-- the clock that a host gave was read by nobody
+pub fresh-from : (host : Supply) (c : Timeline) → c.ahead ≡ host.clock_times → c.faults ≡ 0 → c ≡ fresh host
+fresh-from host c a f = ap (λ (o : Option Times). record { ahead = o; faults = c.faults }) a ∙ ap (λ (n : ℕ). record { ahead = host.clock_times; faults = n }) f
+
+-- a run with a clock of the host, which took it back
+pub by-host : (host middle host' : Supply) (c c' : Timeline) (R : Store → Timeline → Type 0) → c.ahead ≡ host.clock_times → c.faults ≡ 0 → middle.clock_faults ≡ host.clock_faults → host' ≡ after_clock c'.faults middle → R (no_store c) c' → ByHost host host' R
+by-host host middle host' c c' R a f same back run = (
+  c',
+  ap (λ (h : Supply). h.clock_faults) back ∙ ap (λ (n : ℕ). counts_together n c'.faults) same,
+  subst (λ (x : Timeline). R (no_store x) c') (fresh-from host c a f) run,
+)
+
+-- what a run says, by the number of its status
+module _ (host host' : Supply) (input input' output output' : Option (List ℕ)) (s : Status) (run : ByHost host host' (λ before clock. Ran before clock input input' output output' s)) where
+  pub host-finished : number_of s ≡ 0 → ByHost host host' (λ before clock. FinishedRun before clock input input' output output')
+  host-finished e = (run.0, run.1, finished-from (no_store (fresh host)) run.0 input input' output output' s e run.2)
+
+  pub host-refused : number_of s ≡ 2 → ByHost host host' (λ before clock. RefusedRun before clock input input' output output')
+  host-refused e = (run.0, run.1, refused-from (no_store (fresh host)) run.0 input input' output output' s e run.2)
+
+  pub host-stopped : number_of s ≡ 3 → ByHost host host' (λ before clock. StoppedRun before clock input input' output output')
+  host-stopped e = (run.0, run.1, stopped-from (no_store (fresh host)) run.0 input input' output output' s e run.2)
+
+  pub host-cut : (number_of s ≡ 4) ⊎ (number_of s ≡ 7) → ByHost host host' (λ before clock. CutRun before clock input input' output output')
+  host-cut e = (run.0, run.1, cut-from (no_store (fresh host)) run.0 input input' output output' s e run.2)

@@ -7,7 +7,8 @@ use Rattle.qd_base.specs.declared.request.Request.{Request}
 use Rattle.qd_base.specs.declared.request.Reply.{Reply}
 use Rattle.qd_base.specs.declared.request.Reply.TheVariants as reply
 use Rattle.qd_base.specs.Script.{Ending}
-use Rattle.qd_io.specs.Ends.{HasRisen, Stream}
+use Rattle.qd_io.specs.Clocks.{Supply, Timeline}
+use Rattle.qd_io.specs.Ends.{HasRisen, Stream, counts_together}
 use Rattle.qd_frames.specs.Frames.{Steps}
 use Rattle.qd_print.specs.Printed.{reply_bytes}
 use Rattle.qd_session.specs.Allowed.{Allowed}
@@ -29,18 +30,28 @@ usage = codes "usage: tsdb run [--dir D] | gen NUMBER LINES | serve PORT --dir D
 abbrev pub printed : List Reply → List ℕ
 printed replies = flat_map reply_bytes replies
 
--- what a run begins with, and what it ends with: the transactions, and how many of them are applied
+-- what a run begins with, and what it ends with: the transactions, how many of them are applied, and its clock
 pub record Store : Type 0 where
   pub history : List Entry
   pub applied : ℕ
+  pub clock : Timeline
 
--- a run in memory begins with nothing
-abbrev pub no_store : Store
-no_store = record { history = []; applied = 0 }
+-- a run in memory begins with nothing but a clock
+abbrev pub no_store : Timeline → Store
+no_store clock = record { history = []; applied = 0; clock = clock }
 
--- what a session knows of a store that no fault has met
+-- what a session knows of a store in memory
 abbrev pub look_of : Store → Look
-look_of s = record { sequenced = length s.history; known = s.applied; clock_faults = 0; volume_faults = 0; pinned = [] }
+look_of s = record { sequenced = length s.history; known = s.applied; clock = s.clock; volume_faults = 0; pinned = [] }
+
+-- the clock that a host gives: no call of it was made
+abbrev pub fresh : Supply → Timeline
+fresh host = record { ahead = host.clock_times; faults = 0 }
+
+-- A run began with the clock that the host gave, and the host has taken it back, with its faults: R holds of what the run
+-- began with, and of the clock in the end.
+abbrev pub ByHost : (host host' : Supply) → (Store → Timeline → Type 0) → Type 0
+ByHost host host' R = (clock : Timeline) × (host'.clock_faults ≡ counts_together host.clock_faults clock.faults) × R (no_store (fresh host)) clock
 
 -- The history grew by the transactions of the `K` replies, in order, and by nothing else.
 pub record IsOwn (before after : Store) (replies : List Reply) : Type 0 where
@@ -70,8 +81,8 @@ pub record Replied (before after : Store) (requests : List Request) (replies : L
   pub answers : AnswersLast before.applied replies
 
 -- A run over frames: the bytes taken from the input, the requests that they spell and how they end, and the replies, one
--- for each request, from a store to the one that it left.
-pub record Run (before : Store) (input input' : Option (List ℕ)) : Type 0 where
+-- for each request, from a store to the one that it left, with this clock.
+pub record Run (before : Store) (clock : Timeline) (input input' : Option (List ℕ)) : Type 0 where
   pub taken : List ℕ
   pub requests : List Request
   pub ending : Ending
@@ -81,27 +92,28 @@ pub record Run (before : Store) (input input' : Option (List ℕ)) : Type 0 wher
   pub short : length taken ≤ LAST_OFFSET
   pub spelled : Steps 0 taken requests ending
   pub replied : Replied before after requests replies
+  pub clock_is : after.clock ≡ clock
 
 -- Status 0: the bytes taken are whole frames up to the end of the input or to a request for the end, and the bytes
 -- written are the replies.
-abbrev pub FinishedRun : Store → (input input' output output' : Option (List ℕ)) → Type 0
-FinishedRun before input input' output output' =
-    (r : Run before input input') × IsClean input r.taken r.ending × PutTo output output' (printed r.replies)
+abbrev pub FinishedRun : Store → Timeline → (input input' output output' : Option (List ℕ)) → Type 0
+FinishedRun before clock input input' output output' =
+    (r : Run before clock input input') × IsClean input r.taken r.ending × PutTo output output' (printed r.replies)
 
 -- Status 2: the same up to the first bytes that are no frame, or to a frame inside which the input ended; its place is
 -- answered, and nothing after it.
-abbrev pub RefusedRun : Store → (input input' output output' : Option (List ℕ)) → Type 0
-RefusedRun before input input' output output' =
-    (r : Run before input input') × (place : ℕ) × IsBad input r.taken r.ending place reply_bytes × PutTo output output' (printed r.replies ++ reply_bytes (refusal place))
+abbrev pub RefusedRun : Store → Timeline → (input input' output output' : Option (List ℕ)) → Type 0
+RefusedRun before clock input input' output output' =
+    (r : Run before clock input input') × (place : ℕ) × IsBad input r.taken r.ending place reply_bytes × PutTo output output' (printed r.replies ++ reply_bytes (refusal place))
 
 -- Status 3: the bytes written are the replies to all requests of the bytes taken.
-abbrev pub StoppedRun : Store → (input input' output output' : Option (List ℕ)) → Type 0
-StoppedRun before input input' output output' =
-    (r : Run before input input') × IsWaiting r.ending × PutTo output output' (printed r.replies)
+abbrev pub StoppedRun : Store → Timeline → (input input' output output' : Option (List ℕ)) → Type 0
+StoppedRun before clock input input' output output' =
+    (r : Run before clock input input') × IsWaiting r.ending × PutTo output output' (printed r.replies)
 
 -- Statuses 4 and 7: the bytes written are a prefix of such a transcript. The replies are those to the first requests of
 -- the bytes taken; where there is no later one, the refusal of a bad frame may stand behind them.
-pub record CutRun (before : Store) (input input' output output' : Option (List ℕ)) : Type 0 where
+pub record CutRun (before : Store) (clock : Timeline) (input input' output output' : Option (List ℕ)) : Type 0 where
   pub taken : List ℕ
   pub requests : List Request
   pub later : List Request
@@ -114,18 +126,19 @@ pub record CutRun (before : Store) (input input' output output' : Option (List �
   pub short : length taken ≤ LAST_OFFSET
   pub spelled : Steps 0 taken (requests ++ later) ending
   pub replied : Replied before after requests replies
+  pub clock_is : after.clock ≡ clock
   pub put : PutTo output output' written
   pub front : (printed replies ≡ written ++ missing)
       ⊎ ((later ≡ []) × (place : ℕ) × IsBad input taken ending place reply_bytes × (printed replies ++ reply_bytes (refusal place) ≡ written ++ missing))
 
 -- a run that ended with a status
-abbrev pub Ran : Store → (input input' output output' : Option (List ℕ)) → Status → Type 0
-Ran before input input' output output' status.Finished = FinishedRun before input input' output output'
-Ran before input input' output output' status.Usage = ⊥
-Ran before input input' output output' status.BadFrame = RefusedRun before input input' output output'
-Ran before input input' output output' status.ReadFault = StoppedRun before input input' output output'
-Ran before input input' output output' status.WriteFault = CutRun before input input' output output'
-Ran before input input' output output' status.NoMemory = CutRun before input input' output output'
+abbrev pub Ran : Store → Timeline → (input input' output output' : Option (List ℕ)) → Status → Type 0
+Ran before clock input input' output output' status.Finished = FinishedRun before clock input input' output output'
+Ran before clock input input' output output' status.Usage = ⊥
+Ran before clock input input' output output' status.BadFrame = RefusedRun before clock input input' output output'
+Ran before clock input input' output output' status.ReadFault = StoppedRun before clock input input' output output'
+Ran before clock input input' output output' status.WriteFault = CutRun before clock input input' output output'
+Ran before clock input input' output output' status.NoMemory = CutRun before clock input input' output output'
 
 -- the usage line was written, or a prefix of it
 abbrev pub WroteUsage : (output output' : Option (List ℕ)) (missing : List ℕ) → Type 0
@@ -152,8 +165,8 @@ CountsWrites before now status.WriteFault = (before ≤ now) × HasRisen before 
 CountsWrites before now status.Usage = before ≤ now
 CountsWrites before now s = now ≡ before
 
--- What the top call says of these words, with an input and an output before it and after it, and a status.
-pub record Answered (given : List (List ℕ)) (input input' output output' : Stream) (number : ℕ) : Type 0 where
+-- What the top call says of these words, with an input, an output and a host before it and after it, and a status.
+pub record Answered (given : List (List ℕ)) (input input' output output' : Stream) (host host' : Supply) (number : ℕ) : Type 0 where
   pub statuses : (number ≡ 0) ⊎ (number ≡ 1) ⊎ (number ≡ 2) ⊎ (number ≡ 3) ⊎ (number ≡ 4) ⊎ (number ≡ 7)
   -- only words that are not known are answered with the usage line, and with nothing else
   pub words : number ≡ 1 → IsRun given → ⊥
@@ -161,12 +174,13 @@ pub record Answered (given : List (List ℕ)) (input input' output output' : Str
   pub usage : number ≡ 1 → (missing : List ℕ) × WroteUsage output.output output'.output missing × ((missing ≡ []) ⊎ HasRisen output.writes_failed output'.writes_failed)
   pub other_output : (IsRun given → ⊥) → (missing : List ℕ) × WroteUsage output.output output'.output missing
   pub unread : (IsRun given → ⊥) → input' ≡ input
+  pub unused : (IsRun given → ⊥) → host' ≡ host
   -- what a run took and wrote
-  pub finished : number ≡ 0 → FinishedRun no_store input.input input'.input output.output output'.output
-  pub bad_frame : number ≡ 2 → RefusedRun no_store input.input input'.input output.output output'.output
-  pub read_fault : number ≡ 3 → StoppedRun no_store input.input input'.input output.output output'.output
-  pub write_fault : number ≡ 4 → CutRun no_store input.input input'.input output.output output'.output
-  pub no_memory : number ≡ 7 → IsRun given → CutRun no_store input.input input'.input output.output output'.output
+  pub finished : number ≡ 0 → ByHost host host' (λ before clock. FinishedRun before clock input.input input'.input output.output output'.output)
+  pub bad_frame : number ≡ 2 → ByHost host host' (λ before clock. RefusedRun before clock input.input input'.input output.output output'.output)
+  pub read_fault : number ≡ 3 → ByHost host host' (λ before clock. StoppedRun before clock input.input input'.input output.output output'.output)
+  pub write_fault : number ≡ 4 → ByHost host host' (λ before clock. CutRun before clock input.input input'.input output.output output'.output)
+  pub no_memory : number ≡ 7 → IsRun given → ByHost host host' (λ before clock. CutRun before clock input.input input'.input output.output output'.output)
   -- causes
   pub read_cause : number ≡ 3 → HasRisen input.reads_failed input'.reads_failed
   pub reads_stay : (number ≡ 3 → ⊥) → input'.reads_failed ≡ input.reads_failed

@@ -27,10 +27,10 @@ pub fn run_program<R, S: Source, K: Sink, H: Host>(
     host: &mut H,
 ) -> u8
     // No memory was found for the words, and nothing was done; or this is what `top` says of them.
-    ensures answered { ((result ≡ 7) × (input.new ≡ input.old) × (output.new ≡ output.old))
+    ensures answered { ((result ≡ 7) × (input.new ≡ input.old) × (output.new ≡ output.old) × (host.new ≡ host.old))
         ⊎ MatchResult args
-        (λ a. Answered (drop 1 (map (λ s. string_bytes s) (into_iter_items a))) (S.stream input.old) (S.stream input.new) (K.stream output.old) (K.stream output.new) result)
-        (λ e. Answered [] (S.stream input.old) (S.stream input.new) (K.stream output.old) (K.stream output.new) result) }
+        (λ a. Answered (drop 1 (map (λ s. string_bytes s) (into_iter_items a))) (S.stream input.old) (S.stream input.new) (K.stream output.old) (K.stream output.new) (H.supply host.old) (H.supply host.new) result)
+        (λ e. Answered [] (S.stream input.old) (S.stream input.new) (K.stream output.old) (K.stream output.new) (H.supply host.old) (H.supply host.new) result) }
 {
     match args {
         Ok(args) => match words_of(alloc, args) {

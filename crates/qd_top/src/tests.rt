@@ -1,9 +1,9 @@
 //! The program over memory, on inputs and outputs from its description.
-ghost use Rattle.std.specs.Prelude.{◌≤◌};
+ghost use Rattle.std.specs.Prelude.{◌<◌, ◌≤◌, length};
 
 use super::top;
 use qd_base::Txt;
-use qd_io::{MemHost, MemSink, MemSource};
+use qd_io::{MemClock, MemHost, MemSink, MemSource};
 use std::alloc::{AllocError, Global};
 use std::process::Abort;
 use std::test::Fail;
@@ -23,7 +23,10 @@ struct Case<'a> {
     piece: usize,
     read_fails: &'a [u64],
     write_fails: &'a [u64],
-    ghost some: { 1 ≤ piece },
+    /// What the calls of the clock give, and which of them fail.
+    times: &'a [u64],
+    clock_fails: &'a [u64],
+    ghost some: { (1 ≤ piece) × (0 < length times.now) },
 }
 
 /// Runs the program, and gives its status and the output.
@@ -35,6 +38,7 @@ fn run_case(alloc: Global, case: &Case<'_>) -> Result<(u8, MemSink), AllocError>
     let mut input = MemSource::new(alloc, case.input, case.piece, case.read_fails)?;
     let mut output = MemSink::new(alloc, case.piece, case.write_fails)?;
     let mut host = MemHost::empty(alloc);
+    host.set_clock(MemClock::new(alloc, case.times, case.clock_fails)?);
     let status = top(
         &(),
         alloc,
@@ -62,6 +66,8 @@ fn expect(
         piece,
         read_fails: &[],
         write_fails: &[],
+        times: &[0],
+        clock_fails: &[],
     };
     let (found, output) = run_case(rt.alloc(), &case)?;
     assert_eq!(rt; found, status);
@@ -111,7 +117,7 @@ fn bad_frames(rt: HostRuntime) -> Result<(), Fail> {
         (b"W 16777217\n", 2, b"E 1 0\n"),
         (b"Q 65537\n", 2, b"E 1 0\n"),
         (b"A\nA\nW -1\n", 2, b"A 0\nA 0\nE 1 4\n"),
-        (b"W 11\nt v=1i 1\nu\nA\n", 0, b"E 9 2\nA 0\n"),
+        (b"W 11\nt v=1i 1\nu\nA\n", 0, b"E 11 2\nA 0\n"),
         (b"Q 1\nt", 0, b"E 40 0\n"),
     ];
     for (input, status, answer) in &rows {
@@ -133,6 +139,40 @@ A\nQ 1\nt";
     expect(&rt, input, 64, 0, answer)
 }
 
+/// A batch of two tables; a column that comes later; a batch that is refused.
+#[test]
+fn tables_and_columns(rt: HostRuntime) -> Result<(), Fail> {
+    let input = b"W 39\nt v=1i 2000000000\nu,k=a v=2i 1000000000\
+W 23\nt v=3i,s=\"x\" 1000000000\
+W 14\nt v=4i\nt v=t 2A\nQ 1\ntQ 1\nuQ 1\nx";
+    let answer = b"K 1\nK 2\nE 15 2\nA 2\nR 2 77\nv,timestamp,s\n\
+3,1970-01-01T00:00:01.000000Z,x\n\
+1,1970-01-01T00:00:02.000000Z,\n\
+R 2 46\nk,v,timestamp\na,2,1970-01-01T00:00:01.000000Z\nE 40 0\n";
+    expect(&rt, input, 64, 0, answer)
+}
+
+/// The clock is read for the two batches that lack a time, and fails for the second.
+#[test]
+fn times_of_the_clock(rt: HostRuntime) -> Result<(), Fail> {
+    let case = Case {
+        words: &[b"run"],
+        input: b"W 6\nt v=1iW 8\nt v=2i 0W 6\nt v=3iW 9\nt v=4i\nt,A\nQ 1\nt",
+        piece: 64,
+        read_fails: &[],
+        write_fails: &[],
+        times: &[1_000_000],
+        clock_fails: &[1],
+    };
+    let (status, output) = run_case(rt.alloc(), &case)?;
+    assert_eq!(rt; status, 0);
+    let answer = b"K 1\nK 2\nE 42 0\nE 11 2\nA 2\nR 2 72\nv,timestamp\n\
+2,1970-01-01T00:00:00.000000Z\n\
+1,1970-01-01T00:00:01.000000Z\n";
+    assert_eq!(rt; output.bytes(), answer.as_slice());
+    Ok(())
+}
+
 #[test]
 fn faults(rt: HostRuntime) -> Result<(), Fail> {
     let second: [u64; 1] = [1];
@@ -142,6 +182,8 @@ fn faults(rt: HostRuntime) -> Result<(), Fail> {
         piece: 8,
         read_fails: &second,
         write_fails: &[],
+        times: &[0],
+        clock_fails: &[],
     };
     let (status, output) = run_case(rt.alloc(), &case)?;
     assert_eq!(rt; status, 3);
@@ -153,6 +195,8 @@ fn faults(rt: HostRuntime) -> Result<(), Fail> {
         piece: 8,
         read_fails: &[],
         write_fails: &first,
+        times: &[0],
+        clock_fails: &[],
     };
     let (status, output) = run_case(rt.alloc(), &case)?;
     assert_eq!(rt; status, 4);
@@ -170,6 +214,8 @@ fn every_fault(rt: HostRuntime) -> Result<(), Fail> {
             piece: 5,
             read_fails: &fails,
             write_fails: &[],
+            times: &[0],
+            clock_fails: &[],
         };
         let (status, output) = run_case(rt.alloc(), &case)?;
         assert_eq!(rt; status == 3, number < 9);
@@ -180,6 +226,8 @@ fn every_fault(rt: HostRuntime) -> Result<(), Fail> {
             piece: 5,
             read_fails: &[],
             write_fails: &fails,
+            times: &[0],
+            clock_fails: &[],
         };
         let (status, output) = run_case(rt.alloc(), &case)?;
         assert_eq!(rt; status == 4, number < 13);
@@ -198,6 +246,8 @@ fn other_words(rt: HostRuntime) -> Result<(), Fail> {
             piece: 64,
             read_fails: &[],
             write_fails: &[],
+            times: &[0],
+            clock_fails: &[],
         };
         let (status, output) = run_case(rt.alloc(), &case)?;
         assert_eq!(rt; status, 1);

@@ -7,7 +7,7 @@ use Rattle.qd_session.proofs.WireLemmas.{faults-later}
 use Rattle.qd_session.proofs.session.serve.Goals as goal
 
 pub returns-in_default-clause-served : goal.returns-in_default-clause-served
-returns-in_default-clause-served g c = served_nothing g.B.Backend.rule (moment (g.F.Front.protocol c.args.front.now) (g.B.Backend.shown c.args.back.now) (g.W.Ends.stream c.args.wire.now)) c.keeps_to_its_rule.ensures.lasting c.is_counted.ensures.counted
+returns-in_default-clause-served g c = served_nothing g.B.Backend.rule (moment (g.F.Front.protocol c.args.front.now) (g.B.Backend.shown c.args.back.now) (g.W.Ends.stream c.args.wire.now) (g.C.Clock.timeline c.args.clock.now)) c.keeps_to_its_rule.ensures.lasting c.is_counted.ensures.counted
 
 pub returns-in_default-clause-history : goal.returns-in_default-clause-history
 returns-in_default-clause-history g c = extends-here _

@@ -8,8 +8,8 @@ use Rattle.qd_session.proofs.session.serve.Given as goal
 abbrev pub invariant-steps : goal.invariant-steps
 invariant-steps g l = record {
   reached : Reached g.B.Backend.rule
-      (moment (g.F.Front.protocol l.fn.front) (g.B.Backend.shown l.fn.back) (g.W.Ends.stream l.fn.wire))
-      (moment (g.F.Front.protocol l.front) (g.B.Backend.shown l.back) (g.W.Ends.stream l.wire)) l.fed;
+      (moment (g.F.Front.protocol l.fn.front) (g.B.Backend.shown l.fn.back) (g.W.Ends.stream l.fn.wire) (g.C.Clock.timeline l.fn.clock))
+      (moment (g.F.Front.protocol l.front) (g.B.Backend.shown l.back) (g.W.Ends.stream l.wire) (g.C.Clock.timeline l.clock)) l.fed;
   few : l.fed ≤ LAST_OFFSET;
   room : 0 < length l.buffer.items;
   faults : Faults (g.W.Ends.stream l.fn.wire) (g.W.Ends.stream l.wire) None;

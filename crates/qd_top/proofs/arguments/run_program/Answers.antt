@@ -7,7 +7,7 @@ use Rattle.qd_top.proofs.arguments.run_program.Goals as goal
 
 pub returns-in-Ok-words_of : goal.returns-in-Ok-words_of
 returns-in-Ok-words_of g c =
-    let Says : List (List ℕ) → Type 0 = λ words. Answered words (g.S.Ends.stream c.args.input.now) (g.S.Ends.stream c.top.new.input) (g.K.Ends.stream c.args.output.now) (g.K.Ends.stream c.top.new.output) c.top.result in
+    let Says : List (List ℕ) → Type 0 = λ words. Answered words (g.S.Ends.stream c.args.input.now) (g.S.Ends.stream c.top.new.input) (g.K.Ends.stream c.args.output.now) (g.K.Ends.stream c.top.new.output) (g.H.Host.supply c.args.host.now) (g.H.Host.supply c.top.new.host) c.top.result in
     let e = c.top.ensures in
     let said : Says c.as_slice.result.now = record {
       statuses = e.statuses;
@@ -16,6 +16,7 @@ returns-in-Ok-words_of g c =
       usage = e.usage;
       other_output = e.other_output;
       unread = λ other. ap g.S.Ends.stream (e.unread other);
+      unused = λ other. ap g.H.Host.supply (e.unused other);
       finished = e.finished;
       bad_frame = e.bad_frame;
       read_fault = e.read_fault;

@@ -6,8 +6,8 @@ use Rattle.qd_top.proofs.program.run_wire.Goals as goal
 
 pub returns-clause-ran : goal.returns-clause-ran
 returns-clause-ran g c =
-    subst (λ (s : Status). Ran no_store (g.W.Ends.stream c.args.wire.now).input (g.W.Ends.stream c.serve.new.wire).input (g.W.Ends.stream c.args.wire.now).output (g.W.Ends.stream c.serve.new.wire).output s) (sym c.of.ensures.status)
-    (ran-from_serves c.every_text_has_steps.ensures c.serve.new.front (record { history = c.serve.new.back.history; applied = c.serve.new.back.applied }) (g.W.Ends.stream c.args.wire.now) (g.W.Ends.stream c.serve.new.wire) c.new-front.result c.new-back.result c.serve.result
+    subst (λ (s : Status). Ran (no_store (g.C.Clock.timeline c.args.clock.now)) (g.C.Clock.timeline c.serve.new.clock) (g.W.Ends.stream c.args.wire.now).input (g.W.Ends.stream c.serve.new.wire).input (g.W.Ends.stream c.args.wire.now).output (g.W.Ends.stream c.serve.new.wire).output s) (sym c.of.ensures.status)
+    (ran-from_serves c.every_text_has_steps.ensures c.serve.new.front (g.C.Clock.timeline c.args.clock.now) (record { history = c.serve.new.back.history; applied = c.serve.new.back.applied; clock = g.C.Clock.timeline c.serve.new.clock }) (g.W.Ends.stream c.args.wire.now) (g.W.Ends.stream c.serve.new.wire) c.new-front.result c.new-back.result c.serve.result
     c.new-front.ensures.empty c.new-back.ensures.history c.new-back.ensures.applied c.serve.ensures.served)
 
 pub returns-clause-reads : goal.returns-clause-reads

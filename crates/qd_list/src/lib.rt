@@ -1,0 +1,13 @@
+//! A backend over one list of transactions in memory.
+//!
+//! `specs/Listed` says what it shows, and its rule: that of the product, and what is exact where one session alone applies.
+#![tactic(auto)]
+
+mod back;
+mod found;
+mod schemas;
+mod sorting;
+#[cfg(test)]
+mod tests;
+
+pub use back::ListBack;

@@ -1,6 +1,0 @@
-use Rattle.std.proofs.Common.{ℕ, ◌<◌, get_or}
-use Rattle.qd_session.specs.LineParts.{IsDigit}
-use Rattle.qd_session.proofs.list.form.leading_digits.Given as goal
-
-abbrev pub invariant-loop-i : goal.invariant-loop-i
-invariant-loop-i l = (k : ℕ) → k < l.i → IsDigit (get_or l.text k 0)

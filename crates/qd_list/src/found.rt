@@ -10,8 +10,8 @@ ghost use Rattle.qd_list.specs.Sorting.{in_time_order};
 
 use crate::sorting::in_time_order;
 use qd_base::{
-    Cell, Col, ColList, ColType, Duplicate, Entry, Memory, Op, Row, RowList, Schema, Table,
-    Txt, same_name,
+    Cell, Col, ColList, ColType, Duplicate, Entry, Memory, Op, Row, RowList, Schema, Table, Txt,
+    same_name,
 };
 use std::alloc::Global;
 
@@ -26,11 +26,7 @@ pub struct Found {
 
 /// Finds the table of a name in the database that transactions come to. It costs time linear in the number of their
 /// changes, and time and memory linear in the table's rows.
-pub fn table_named(
-    alloc: Global,
-    history: &[Entry],
-    name: &[u8],
-) -> Result<Option<Found>, Memory>
+pub fn table_named(alloc: Global, history: &[Entry], name: &[u8]) -> Result<Option<Found>, Memory>
     requires keyless { All IsKeyless history.now }
     ensures found { IfOk result (λ found. Shows found (find (λ t. same_name t.schema.name name.now) (after history.now))) }
 {

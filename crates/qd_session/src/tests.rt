@@ -220,7 +220,10 @@ fn the_clock_is_read_for_batches_that_lack_a_time(rt: HostRuntime) -> Result<(),
     let (_, times) = served_by(alloc, &mut front, &mut back, lacking, &mut clock)?;
     assert_eq!(rt; stamps.bytes(), b"K 1\n".as_slice());
     assert_eq!(rt; faults.bytes(), b"K 2\n".as_slice());
-    assert_eq!(rt; times.bytes(), b"E 52 0\nE 52 0\nE 42 0\nE 52 0\n".as_slice());
+    assert_eq!(rt;
+        times.bytes(),
+        b"E 52 0\nE 52 0\nE 42 0\nE 52 0\n".as_slice()
+    );
     assert_eq!(rt; back.times, 18);
     Ok(())
 }

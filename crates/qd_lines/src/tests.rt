@@ -4,6 +4,7 @@ use crate::fault::LineFault;
 use crate::walk::entry_of;
 use qd_base::{Cell, ColType, Entry, Op, Schemas};
 use qd_ilp::parse_batch;
+use std::alloc::Global;
 use std::test::Fail;
 
 /// The time of lines without a stamp.
@@ -44,9 +45,7 @@ fn lines_are_refused(rt: HostRuntime) -> Result<(), Fail> {
         (b"t v=-9223372036854775808i 1", 13, 1),
     ];
     for (text, code, line) in cases {
-        let alloc = rt.alloc();
-        let batch = parse_batch(alloc, text)?;
-        match entry_of(alloc, &Schemas::new(alloc), &batch, NOW) {
+        match said(rt.alloc(), text) {
             Err(
                 LineFault::Refused {
                     code: found,
@@ -66,11 +65,9 @@ fn lines_are_refused(rt: HostRuntime) -> Result<(), Fail> {
 /// Tables and columns by lines: what each change is, in order.
 #[test]
 fn lines_make_tables(rt: HostRuntime) -> Result<(), Fail> {
-    let alloc = rt.alloc();
     let text =
         b"# sensors\nt,room=A\\ 1 v=1i,on=t 5000\nT v=-2i,note=\"a\\\"b\" 2000\nu w=F\nt,room=B 3999\n";
-    let batch = parse_batch(alloc, text)?;
-    let Ok(entry) = entry_of(alloc, &Schemas::new(alloc), &batch, NOW) else {
+    let Ok(entry) = said(rt.alloc(), text) else {
         assert!(rt; false);
         return Ok(());
     };
@@ -93,6 +90,12 @@ fn lines_make_tables(rt: HostRuntime) -> Result<(), Fail> {
         }
     }
     Ok(())
+}
+
+/// What a batch says where no table is there.
+fn said(alloc: Global, text: &[u8]) -> Result<Entry, LineFault> {
+    let batch = parse_batch(alloc, text)?;
+    entry_of(alloc, &Schemas::new(alloc), &batch, NOW)
 }
 
 /// What a change is: `c` where it makes a table, `a` a column, `i` where it inserts one row.

@@ -51,7 +51,7 @@ def allowed():
     for write, apply, query in itertools.product((True, False), repeat=3):
         applied = 1 if write and apply else 0
         replies = [b"K 1\n" if write else NO_MEMORY, (b"A %d\n" % (1 if write else 0)) if apply else NO_MEMORY]
-        replies.append((ROWS if applied else b"E 40 0\n") if query else NO_MEMORY)
+        replies.append((ROWS if applied else b"F 0 32 0\n") if query else NO_MEMORY)
         found.add(b"".join(replies) + b"X\n")
     return found
 

@@ -1,11 +1,10 @@
 -- What the list does is what a backend of its rule may do.
-use Rattle.std.proofs.Common.{◌≡◌, ℕ, ◌+◌, ◌-◌, ◌≤◌, inl, inr, suc, zero, List, [], ◌∷◌, ◌++◌, length, take, subst, refl, sym, ap, ◌∙◌, arith, Some, None, Option, Result, Ok, Err, append-nil}
+use Rattle.std.proofs.Common.{◌≡◌, ℕ, ◌+◌, ◌-◌, ◌≤◌, inl, suc, zero, List, [], ◌∷◌, ◌++◌, length, take, subst, refl, sym, ap, ◌∙◌, arith, Some, None, Option, Result, Ok, Err, append-nil}
 use Rattle.std.specs.List.{range_with_len, slice_get}
 use Rattle.std.specs.Result.{IfOk, OnErr, OnOk}
 use Rattle.std.proofs.lemmas.List.{take_all, take_at, length_push}
 use Rattle.qd_base.specs.Codes.{number_of}
 use Rattle.qd_base.specs.declared.code.Code.{Code}
-use Rattle.qd_base.specs.declared.code.Code.TheVariants as code
 use Rattle.qd_base.specs.declared.op.Entry.{Entry}
 use Rattle.qd_base.specs.declared.request.Request.{Request}
 use Rattle.qd_base.specs.declared.request.Request.TheVariants as request
@@ -15,11 +14,15 @@ use Rattle.qd_base.specs.declared.request.Reply.TheVariants as reply
 use Rattle.qd_base.specs.Database.{Database, schemas_of}
 use Rattle.qd_base.specs.Replay.{after, first}
 use Rattle.qd_ilp.specs.Whole.{IsReading, Reading}
-use Rattle.qd_session.specs.Looks.{Grows, Shown, look_at}
+use Rattle.qd_session.specs.Looks.{Grows, look_at}
 use Rattle.qd_session.specs.Legal.{Answers, GoesOn, Handles}
 use Rattle.qd_session.specs.Timing.{want_of_memory}
-use Rattle.qd_session.specs.Allowed.{SaysBatch, answer}
-use Rattle.qd_list.specs.Listed.{AllowedAlone, Listed, SaysOver, Writes, all_applied, answered, listed_shown, sql_reply, with_entry}
+use Rattle.qd_session.specs.Allowed.{SaysBatch}
+use Rattle.qd_session.specs.Asking.{asks_for, rows_of}
+use Rattle.qd_trees.specs.declared.tree.Name.{Name}
+use Rattle.qd_sql.specs.declared.stmt.SqlFault.{SqlFault}
+use Rattle.qd_sql.specs.declared.stmt.SqlFault.TheVariants as fault
+use Rattle.qd_list.specs.Listed.{AllowedAlone, Listed, Writes, all_applied, answered, listed_shown, replied, sql_reply, with_entry}
 use Rattle.qd_session.proofs.RuleLemmas.{allowed-wants}
 
 -- the numbers from a on with one more
@@ -90,25 +93,36 @@ handles_written old new time reading (Ok (reply.QueryRefused n number place)) ok
 handles_written old new time reading (Ok (reply.Damaged file at)) ok err text reads = absurd ok
 handles_written old new time reading (Ok reply.Bye) ok err text reads = absurd ok
 
--- a statement is answered over what is applied
-answers_sql : (l : Listed) (time : ℕ) (text : List ℕ) (found : Option Table) → l.applied ≤ length l.history → answer (first l.history l.applied) text ≡ found
-    → Answers AllowedAlone (listed_shown l) (listed_shown l) time (request.Sql text) (answered l.applied found)
-answers_sql l time text (Some table) within is = record {
+-- a table is answered over what is applied
+answers_table : (l : Listed) (time : ℕ) (text : List ℕ) (name : Name) (found : Option Table) → l.applied ≤ length l.history → asks_for text ≡ Ok name → rows_of (first l.history l.applied) name.text ≡ found
+    → Answers AllowedAlone (listed_shown l) (listed_shown l) time (request.Sql text) (answered l.applied name.at found)
+answers_table l time text name (Some table) within asks is = record {
   grows = grows_still l;
-  allowed = λ clock clock' later. (((omega arith, omega arith), within, is), (refl, refl));
+  allowed = λ clock clock' later. ((name, asks, (omega arith, omega arith), within, is), (refl, refl));
   own = sym (append-nil (range_with_len 1 (length l.history)));
 }
-answers_sql l time text None within is = record {
+answers_table l time text name None within asks is = record {
   grows = grows_still l;
-  allowed = λ clock clock' later. (inl (refl, refl, (l.applied, (omega arith, omega arith), within, is)), refl);
+  allowed = λ clock clock' later. ((name, asks, refl, refl, (omega arith, omega arith), within, is), (refl, refl));
   own = sym (append-nil (range_with_len 1 (length l.history)));
 }
+
+-- a text is answered as it asks
+answers_sql : (l : Listed) (time : ℕ) (text : List ℕ) (asks : Result Name SqlFault) → l.applied ≤ length l.history → asks_for text ≡ asks
+    → Answers AllowedAlone (listed_shown l) (listed_shown l) time (request.Sql text) (replied l asks)
+answers_sql l time text (Ok name) within is = answers_table l time text name (rows_of (first l.history l.applied) name.text) within is refl
+answers_sql l time text (Err (fault.Refused why place)) within is = record {
+  grows = grows_still l;
+  allowed = λ clock clock' later. (inl (why, refl, is), refl);
+  own = sym (append-nil (range_with_len 1 (length l.history)));
+}
+answers_sql l time text (Err fault.Memory) within is = answers_want l time (request.Sql text) tt
 
 pub handles_sql : {E : Type 0} (old new : Listed) (time : ℕ) (text : List ℕ) (result : Result Reply E) → old.applied ≤ length old.history → IfOk result (λ given. given ≡ sql_reply old text) → new ≡ old → Handles AllowedAlone (listed_shown old) (listed_shown new) time (request.Sql text) result
 handles_sql old new time text (Err e) within ok same = wants old new time (request.Sql text) tt same
 handles_sql old new time text (Ok given) within ok same =
     subst (λ (l : Listed). Answers AllowedAlone (listed_shown old) (listed_shown l) time (request.Sql text) given) (sym same)
-    (subst (λ (r : Reply). Answers AllowedAlone (listed_shown old) (listed_shown old) time (request.Sql text) r) (sym ok) (answers_sql old time text (answer (first old.history old.applied) text) within refl))
+    (subst (λ (r : Reply). Answers AllowedAlone (listed_shown old) (listed_shown old) time (request.Sql text) r) (sym ok) (answers_sql old time text (asks_for text) within refl))
 
 -- all is applied
 answers_applied : (l : Listed) (time : ℕ) → l.applied ≤ length l.history → Answers AllowedAlone (listed_shown l) (listed_shown (all_applied l)) time request.Apply (reply.Applied (length l.history))

@@ -1,15 +1,14 @@
 -- A history with one transaction more.
-use Rattle.std.proofs.Common.{◌≡◌, ℕ, ◌+◌, ◌≤◌, suc, List, [], ◌∷◌, ◌++◌, length, take, drop, get_or, All, refl, sym, ap, ◌∙◌, subst, fold, arith}
+use Rattle.std.proofs.Common.{◌≡◌, ℕ, ◌≤◌, List, [], ◌∷◌, ◌++◌, length, sym, ap, ◌∙◌, subst, fold, arith}
 use Rattle.std.proofs.lemmas.List.{length_push}
 use Rattle.std.proofs.lemmas.List.Elements.{All-push}
 use Rattle.std.proofs.lemmas.List.Sums.{fold-append}
 use Rattle.qd_base.specs.declared.limits.TheConstants.{MAX_BATCH_CELLS}
 use Rattle.qd_base.specs.declared.schema.Schema.{Schema}
-use Rattle.qd_base.specs.declared.op.Op.{Op}
 use Rattle.qd_base.specs.declared.op.Entry.{Entry}
 use Rattle.qd_base.specs.Schemas.{schemas_from, schemas_step}
-use Rattle.qd_base.specs.Database.{schemas_of, step}
-use Rattle.qd_base.specs.Lawful.{AreLawful, Lawful, LawfulFrom, cells_of}
+use Rattle.qd_base.specs.Database.{schemas_of}
+use Rattle.qd_base.specs.Lawful.{AreLawful, LawfulFrom, cells_of}
 use Rattle.qd_base.specs.Replay.{after, commit}
 use Rattle.qd_base.proofs.Tables.{schemas_of-commit, schemas_of-replay}
 use Rattle.qd_list.specs.Listed.{FitsTogether, IsKeyless}

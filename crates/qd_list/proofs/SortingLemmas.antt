@@ -1,5 +1,5 @@
 -- A stable order by time is the order in which rows are put one after another.
-use Rattle.std.proofs.Common.{◌≡◌, ◌≢◌, ℕ, ◌+◌, ◌-◌, ◌<◌, ◌≤◌, inl, inr, suc, zero, Bool, true, false, cond, eqb, leb, ltb, List, [], ◌∷◌, ◌++◌, length, get_or, take, map, subst, refl, sym, ap, ap₂, ◌∙◌, arith, filter, fold, append-nil}
+use Rattle.std.proofs.Common.{◌≡◌, ◌≢◌, ℕ, ◌+◌, ◌-◌, ◌<◌, ◌≤◌, inl, inr, suc, Bool, true, false, cond, eqb, leb, ltb, List, [], ◌∷◌, ◌++◌, length, get_or, take, map, subst, refl, sym, ap, ap₂, ◌∙◌, arith, filter, fold}
 use Rattle.std.specs.List.{AllByRecursion}
 use Rattle.std.specs.List.Sorted.{IsNonDecreasingBy, IsStableByKey, ties}
 use Rattle.std.specs.Ordering.{nat_cmp, is_lt}
@@ -9,8 +9,7 @@ use Rattle.std.proofs.lemmas.List.{length-take-le, get_or-take, get_or_default, 
 use Rattle.std.proofs.lemmas.List.Elements.{All-from_recursion, filter_agree, recursion_from_All}
 use Rattle.std.proofs.lemmas.List.Sorted.{All-permutation, IsNonDecreasingBy-push}
 use Rattle.qd_base.specs.declared.cell.Cell.{Cell}
-use Rattle.qd_base.specs.declared.cell.Cell.TheVariants as cell
-use Rattle.qd_base.specs.Rows.{Row, in_time, put, time_in, time_of}
+use Rattle.qd_base.specs.Rows.{Row, put, time_in, time_of}
 use Rattle.qd_base.specs.Laws.{IsInOrder, at_time}
 use Rattle.qd_base.proofs.Order.{at_time-fold, in_order-fold, time-longer}
 use Rattle.qd_list.specs.Sorting.{IsSortedFrom, at_moment, in_time_order, timed_at}

@@ -17,8 +17,13 @@ use Rattle.qd_base.specs.declared.request.Reply.{Reply}
 use Rattle.qd_base.specs.declared.request.Reply.TheVariants as reply
 use Rattle.qd_ilp.specs.Transaction.{Says, start}
 use Rattle.qd_ilp.specs.Whole.{Reading}
-use Rattle.qd_session.specs.Allowed.{Allowed, answer}
+use Rattle.qd_session.specs.Allowed.{Allowed}
+use Rattle.qd_session.specs.Asking.{asks_for, rows_of}
 use Rattle.qd_session.specs.Looks.{Look, Shown}
+use Rattle.qd_session.specs.Timing.{want_of_memory}
+use Rattle.qd_trees.specs.declared.tree.Name.{Name}
+use Rattle.qd_sql.specs.declared.stmt.SqlFault.{SqlFault}
+use Rattle.qd_sql.specs.declared.stmt.SqlFault.TheVariants as fault
 
 -- the transactions, and the number of those that are applied
 pub record Listed : Type 0 where
@@ -62,13 +67,19 @@ Writes old new time reading (reply.Done n) =
 Writes old new time reading (reply.Refused number line) = (c : Code) × (number ≡ number_of c) × SaysOver old time reading (Err (c, line)) × (new ≡ old)
 Writes old new time reading _ = ⊥
 
--- the reply to a statement: the table that it names, or that it is none of this version's
-abbrev pub answered : ℕ → Option Table → Reply
-answered n (Some table) = reply.Rows n table
-answered n None = reply.Refused (number_of code.NotBuilt) 0
+-- the reply to a query of one table over n transactions: its rows, or that there is none of the name at this place
+abbrev pub answered : (n place : ℕ) → Option Table → Reply
+answered n place (Some table) = reply.Rows n table
+answered n place None = reply.QueryRefused n (number_of code.UnknownTable) place
+
+-- the reply to a text that asks for a table, over what is applied, or is refused
+abbrev pub replied : Listed → Result Name SqlFault → Reply
+replied l (Ok name) = answered l.applied name.at (rows_of (first l.history l.applied) name.text)
+replied l (Err (fault.Refused why place)) = reply.Refused (number_of why) place
+replied l (Err fault.Memory) = want_of_memory
 
 abbrev pub sql_reply : Listed → List ℕ → Reply
-sql_reply l text = answered l.applied (answer (first l.history l.applied) text)
+sql_reply l text = replied l (asks_for text)
 
 -- with all that is there applied
 abbrev pub all_applied : Listed → Listed

@@ -1,5 +1,6 @@
 //! The backend: what it keeps, and how it answers.
-ghost use Rattle.std.specs.Prelude.{◌≡◌, ℕ, ◌+◌, ◌≤◌, List, [], ◌∷◌, ◌++◌, length, IfOk, OnOk, OnErr};
+ghost use Rattle.std.specs.Prelude.{◌≡◌, ℕ, ◌+◌, ◌≤◌, List, [], ◌∷◌, ◌++◌, length, Ok, IfOk, OnOk, OnErr};
+ghost use Rattle.qd_base.specs.Codes.{number_of};
 ghost use Rattle.qd_base.specs.declared.limits.TheConstants.{MAX_BATCH_CELLS};
 ghost use Rattle.qd_base.specs.declared.request.Request.TheVariants as request;
 ghost use Rattle.qd_base.specs.declared.request.Reply.TheVariants as reply;
@@ -8,9 +9,9 @@ ghost use Rattle.qd_base.specs.Lawful.{AreLawful, cells_of};
 ghost use Rattle.qd_base.specs.Replay.{after};
 ghost use Rattle.qd_ilp.specs.Whole.{IsReading};
 ghost use Rattle.qd_session.specs.Legal.{Handles};
-ghost use Rattle.qd_session.specs.Allowed.{is_letter};
+ghost use Rattle.qd_session.specs.Asking.{has_only_source, table_asked};
 ghost use Rattle.qd_session.specs.Timing.{IsRead};
-ghost use Rattle.qd_list.specs.Listed.{AllowedAlone, IsKeyless, Writes, all_applied, listed_shown, sql_reply, with_entry};
+ghost use Rattle.qd_list.specs.Listed.{AllowedAlone, IsKeyless, Writes, all_applied, listed_shown, replied, sql_reply, with_entry};
 
 use crate::found::{table_named, table_of};
 use crate::schemas::{inserts_only, schemas_after};
@@ -18,6 +19,7 @@ use qd_base::{Code, Entry, MAX_QUERY_BYTES, Memory, Reply, Schemas, Seq, Txt};
 use qd_ilp::Batch;
 use qd_lines::{LineFault, batches_are_lawful, entry_of};
 use qd_session::Backend;
+use qd_sql::{Name, Query, SqlFault, Stmt, parse_stmt};
 use std::alloc::{AllocError, Global};
 use std::marker::Model;
 
@@ -93,24 +95,48 @@ impl ListBack {
         })
     }
 
-    /// Makes the reply to a statement.
+    /// Makes the reply to a text of SQL.
     fn reply_to(&self, alloc: Global, text: &[u8]) -> Result<Reply, Memory>
         ensures ok { IfOk result (λ given. given ≡ sql_reply self.now text.now) }
         ensures within { self.now.applied ≤ length self.now.history }
     {
-        if is_letter(text) {
-            let applied = &self.history.as_slice()[..self.applied];
-            if let Some(found) = table_named(alloc, applied, text)? {
-                return Ok(Reply::Rows {
-                    n: self.applied as u64,
-                    table: table_of(alloc, found)?,
-                });
-            }
+        let _ = &self.history;
+        match parse_stmt(alloc, text) {
+            Ok(stmt) => self.reply_to_stmt(alloc, &stmt),
+            Err(SqlFault::Refused { code, place }) => Ok(refused(code, place)),
+            Err(SqlFault::Memory) => Err(AllocError),
         }
-        Ok(Reply::Refused {
-            code: Code::NotBuilt.number(),
-            place: 0,
-        })
+    }
+
+    /// Makes the reply to a statement.
+    fn reply_to_stmt(&self, alloc: Global, stmt: &Stmt) -> Result<Reply, Memory>
+        ensures ok { IfOk result (λ given. given ≡ replied self.now (table_asked stmt.now)) }
+    {
+        match stmt {
+            Stmt::Query(query) if has_only_source(query) => {
+                self.rows_of(alloc, &query.source.table)
+            }
+            _ => Ok(refused(Code::NotBuilt, 0)),
+        }
+    }
+
+    /// Makes the reply to a query of all rows of a table.
+    fn rows_of(&self, alloc: Global, name: &Name) -> Result<Reply, Memory>
+        ensures ok { IfOk result (λ given. given ≡ replied self.now (Ok name.now)) }
+    {
+        let applied = &self.history.as_slice()[..self.applied];
+        let n = self.applied as u64;
+        match table_named(alloc, applied, name.text.bytes())? {
+            Some(found) => Ok(Reply::Rows {
+                n,
+                table: table_of(alloc, found)?,
+            }),
+            None => Ok(Reply::QueryRefused {
+                n,
+                code: Code::UnknownTable.number(),
+                place: name.at,
+            }),
+        }
     }
 
     /// Takes all transactions as applied.
@@ -141,9 +167,12 @@ impl Backend for ListBack {
         self.write(alloc, batch, now)
     }
 
-    /// Answers a statement of one lower-case letter that names a table with all of its applied rows, and refuses each
-    /// other one. It costs time linear in the number of changes that are applied and in the table's rows, and n log n in
-    /// these where one is late; and memory linear in them.
+    /// Answers a query that has no part but its source with all applied rows of the table, or refuses it where no table
+    /// that is applied has the name. Each other text is refused: as `parse_stmt` refuses it, and a statement of another
+    /// form as one that is not built.
+    ///
+    /// It costs time and memory linear in the text; and for an answer time linear in the number of changes that are
+    /// applied and in the table's rows, n log n in these where one is late, and memory linear in them.
     fn sql(&mut self, alloc: Global, text: &Txt) -> Result<Reply, Memory>
         requires { length text.now ≤ MAX_QUERY_BYTES }
         ensures handled { Handles AllowedAlone (listed_shown self.old) (listed_shown self.new) 0 (request.Sql text.now) result }
@@ -168,12 +197,25 @@ impl Backend for ListBack {
     fn keeps_to_its_rule(&self) {}
 }
 
-/// Whether a text is one letter from a to z.
-fn is_letter(text: &[u8]) -> bool
-    ensures letter { result ≡ is_letter text.now }
+/// Whether a query has no part but its source.
+fn has_only_source(query: &Query) -> bool
+    ensures { result ≡ has_only_source query.now }
 {
-    match text {
-        [only] => b'a' <= *only && *only <= b'z',
-        _ => false,
+    query.selected.is_none()
+        && query.join.is_none()
+        && query.filter.is_none()
+        && query.latest.is_none()
+        && query.sampled.is_none()
+        && query.order.is_none()
+        && query.limit.is_none()
+}
+
+/// The refusal of a text with a code at a place.
+fn refused(code: Code, place: u64) -> Reply
+    ensures { result ≡ reply.Refused (number_of code) place }
+{
+    Reply::Refused {
+        code: code.number(),
+        place,
     }
 }

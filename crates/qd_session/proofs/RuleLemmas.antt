@@ -11,7 +11,8 @@ use Rattle.qd_base.specs.Database.{Database, schemas_of}
 use Rattle.qd_base.specs.Replay.{after, first}
 use Rattle.qd_session.specs.Looks.{Extends, IsStill, Look}
 use Rattle.qd_session.specs.Legal.{EndsByBye, GoesOn, IsLasting, MayLackClock, MayWantMemory}
-use Rattle.qd_session.specs.Allowed.{Allowed, HasTransaction, SaysBatch, answer}
+use Rattle.qd_session.specs.Allowed.{Allowed, HasTransaction, SaysBatch}
+use Rattle.qd_session.specs.Asking.{rows_of}
 
 -- the database after a prefix, where more follows
 first-append : (h more : List Entry) (n : ℕ) → n ≤ length h → first (h ++ more) n ≡ first h n
@@ -30,10 +31,11 @@ allowed-more h more before now time (request.Write text) (reply.Done n) le (is, 
 allowed-more h more before now time (request.Write text) (reply.Refused number place) le (inl (c, is, says)) =
     inl (c, is, subst (λ (db : Database). SaysBatch (schemas_of db) time text (Err (c, place))) (sym (first-append h more now.sequenced le)) says)
 allowed-more h more before now time (request.Write text) (reply.Refused number place) le (inr f) = inr f
-allowed-more h more before now time (request.Sql text) (reply.Rows n table) le (between, most, is) =
-    (between, most, subst (λ (db : Database). answer db text ≡ Some table) (sym (first-append h more n (omega (arith, most, le)))) is)
-allowed-more h more before now time (request.Sql text) (reply.Refused number place) le (inl (is, at, t)) =
-    inl (is, at, (t.0, t.1, t.2, subst (λ (db : Database). answer db text ≡ None) (sym (first-append h more t.0 (omega (arith, t.2, le)))) t.3))
+allowed-more h more before now time (request.Sql text) (reply.Rows n table) le (name, asks, between, most, is) =
+    (name, asks, between, most, subst (λ (db : Database). rows_of db name.text ≡ Some table) (sym (first-append h more n (omega (arith, most, le)))) is)
+allowed-more h more before now time (request.Sql text) (reply.QueryRefused n number place) le (name, asks, is, at, between, most, none) =
+    (name, asks, is, at, between, most, subst (λ (db : Database). rows_of db name.text ≡ None) (sym (first-append h more n (omega (arith, most, le)))) none)
+allowed-more h more before now time (request.Sql text) (reply.Refused number place) le (inl is) = inl is
 allowed-more h more before now time (request.Sql text) (reply.Refused number place) le (inr f) = inr f
 allowed-more h more before now time request.Apply (reply.Applied n) le a = a
 allowed-more h more before now time request.Apply (reply.Refused number place) le a = a
@@ -45,7 +47,6 @@ allowed-more h more before now time (request.Write text) (reply.Damaged file at)
 allowed-more h more before now time (request.Write text) reply.Bye le a = absurd a
 allowed-more h more before now time (request.Sql text) (reply.Done n) le a = absurd a
 allowed-more h more before now time (request.Sql text) (reply.Applied n) le a = absurd a
-allowed-more h more before now time (request.Sql text) (reply.QueryRefused n number place) le a = absurd a
 allowed-more h more before now time (request.Sql text) (reply.Damaged file at) le a = absurd a
 allowed-more h more before now time (request.Sql text) reply.Bye le a = absurd a
 allowed-more h more before now time request.Apply (reply.Done n) le a = absurd a

@@ -1,21 +1,22 @@
 -- The rule of the product: which reply may come to which request.
-use Rattle.std.specs.Prelude.{◌≡◌, ℕ, ◌-◌, ◌<◌, ◌≤◌, ◌⊎◌, Bool, false, ◌&&◌, if◌then◌else◌, nat_le, List, [], ◌∷◌, Option, Some, None, IfSome, option_map, slice_get, find, Result, Ok, Err}
+use Rattle.std.specs.Prelude.{◌≡◌, ℕ, ◌-◌, ◌<◌, ◌≤◌, ◌⊎◌, List, Option, Some, None, IfSome, slice_get, Result, Ok, Err}
 use Rattle.qd_io.specs.Ends.{HasRisen}
 use Rattle.qd_base.specs.Codes.{number_of}
 use Rattle.qd_base.specs.declared.code.Code.{Code}
 use Rattle.qd_base.specs.declared.code.Code.TheVariants as code
 use Rattle.qd_base.specs.declared.op.Entry.{Entry}
 use Rattle.qd_base.specs.declared.schema.Schema.{Schema}
-use Rattle.qd_base.specs.declared.request.Table.{Table}
 use Rattle.qd_base.specs.declared.request.Request.{Request}
 use Rattle.qd_base.specs.declared.request.Request.TheVariants as request
 use Rattle.qd_base.specs.declared.request.Reply.{Reply}
 use Rattle.qd_base.specs.declared.request.Reply.TheVariants as reply
-use Rattle.qd_base.specs.Database.{Database, StoredTable, schemas_of}
+use Rattle.qd_base.specs.Database.{schemas_of}
 use Rattle.qd_base.specs.Replay.{first}
-use Rattle.qd_base.specs.Schemas.{same_name}
 use Rattle.qd_ilp.specs.Transaction.{Says, start}
 use Rattle.qd_ilp.specs.Whole.{IsReading, Reading}
+use Rattle.qd_trees.specs.declared.tree.Name.{Name}
+use Rattle.qd_sql.specs.declared.stmt.SqlFault.TheVariants as fault
+use Rattle.qd_session.specs.Asking.{asks_for, rows_of}
 use Rattle.qd_session.specs.Looks.{Look}
 use Rattle.qd_session.specs.Timing.{LacksTime}
 
@@ -23,16 +24,6 @@ use Rattle.qd_session.specs.Timing.{LacksTime}
 -- transaction, or a code and the number of the line that has it.
 abbrev pub SaysBatch : List Schema → (time : ℕ) → (text : List ℕ) → Result Entry (Code × ℕ) → Type 0
 SaysBatch schemas time text said = (reading : Reading) × IsReading text reading × Says time (start schemas) 1 reading.lines reading.whole said
-
--- one letter from a to z
-abbrev pub is_letter : List ℕ → Bool
-is_letter (b ∷ []) = nat_le 97 b && nat_le b 122
-is_letter _ = false
-
--- the answer to a statement that is one lower-case letter and the name of a table: all of its rows
-abbrev pub answer : Database → List ℕ → Option Table
-answer db text =
-    if is_letter text then option_map (λ (t : StoredTable). record { cols = t.schema.cols; rows = t.rows }) (find (λ t. same_name t.schema.name text) db) else None
 
 -- transaction n of the history, counted from 1, has P
 abbrev pub HasTransaction : List Entry → ℕ → (Entry → Type 0) → Type 0
@@ -77,13 +68,16 @@ Allowed history before now time (request.Write text) (reply.Done n) =
     (n ≡ now.sequenced) × (before.sequenced < n) × IfSome history (λ h. HasTransaction h n (λ entry. SaysBatch (schemas_of (first h (n - 1))) time text (Ok entry)))
 Allowed history before now time (request.Write text) (reply.Refused number place) =
     IsRefusedBatch history now.sequenced time text number place ⊎ (IsClockFault before now text number place ⊎ IsFault before now number place)
--- a statement is answered over the first n transactions, or it is none that this version builds
+-- the table that a text asks for is answered over the first n transactions: by its rows, or by its name's place where none
+-- is there
 Allowed history before now time (request.Sql text) (reply.Rows n table) =
-    IsBetween before now n × (n ≤ now.sequenced) × IfSome history (λ h. answer (first h n) text ≡ Some table)
+    (name : Name) × (asks_for text ≡ Ok name) × IsBetween before now n × (n ≤ now.sequenced) × IfSome history (λ h. rows_of (first h n) name.text ≡ Some table)
+Allowed history before now time (request.Sql text) (reply.QueryRefused n number place) =
+    (name : Name) × (asks_for text ≡ Ok name) × (number ≡ number_of code.UnknownTable) × (place ≡ name.at)
+    × IsBetween before now n × (n ≤ now.sequenced) × IfSome history (λ h. rows_of (first h n) name.text ≡ None)
+-- any other text is refused as it is
 Allowed history before now time (request.Sql text) (reply.Refused number place) =
-    ((number ≡ number_of code.NotBuilt) × (place ≡ 0)
-    × IfSome history (λ h. (n : ℕ) × IsBetween before now n × (n ≤ now.sequenced) × (answer (first h n) text ≡ None)))
-    ⊎ IsFault before now number place
+    ((c : Code) × (number ≡ number_of c) × (asks_for text ≡ Err (fault.Refused c place))) ⊎ IsFault before now number place
 -- all that was sequenced at the look before is applied
 Allowed history before now time request.Apply (reply.Applied n) =
     IsBetween before now n × (before.sequenced ≤ n) × (n ≤ now.sequenced)

@@ -1,5 +1,6 @@
 -- The definitions that the contracts of this crate cite.
 pub mod Allowed
+pub mod Asking
 pub mod Legal
 pub mod Looks
 pub mod Session

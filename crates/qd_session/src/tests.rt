@@ -6,11 +6,13 @@ use qd_base::{Code, Front, Memory, Reply, Request, Step, Txt};
 use qd_ilp::Batch;
 use qd_io::{Both, Clock, MemClock, MemSink, MemSource};
 use qd_print::print_reply;
+use qd_sql::{SqlFault, parse_stmt};
 use std::alloc::{AllocError, Global};
 use std::marker::Model;
 use std::test::Fail;
 
 /// A backend that tells no transaction. Its volume fails from its third batch on. It adds up the times that it is given.
+/// It refuses texts, and finds no memory for statements.
 #[derive(Drop)]
 struct SilentBack {
     sequenced: u64,
@@ -41,11 +43,14 @@ impl Backend for SilentBack {
         Ok(Reply::Done { n: self.sequenced })
     }
 
-    fn sql(&mut self, _alloc: Global, _text: &Txt) -> Result<Reply, Memory> {
-        Ok(Reply::Refused {
-            code: Code::NotBuilt.number(),
-            place: 0,
-        })
+    fn sql(&mut self, alloc: Global, text: &Txt) -> Result<Reply, Memory> {
+        match parse_stmt(alloc, text.bytes()) {
+            Err(SqlFault::Refused { code, place }) => Ok(Reply::Refused {
+                code: code.number(),
+                place,
+            }),
+            _ => Err(AllocError),
+        }
     }
 
     fn apply(&mut self, _alloc: Global) -> Result<Reply, Memory> {
@@ -183,10 +188,10 @@ fn a_backend_may_tell_nothing(rt: HostRuntime) -> Result<(), Fail> {
         faults: 0,
         times: 0,
     };
-    let input = b"W 1\naA\nW 1\nbQ 1\ntW 1\ncA\nX\n";
+    let input = b"W 1\naA\nW 1\nbQ 1\ntQ 4\nDROPQ 5\nt AS W 1\ncA\nX\n";
     let (ended, output) = served(alloc, &mut front, &mut back, input)?;
     assert_eq!(rt; ended, Ended::Finished);
-    let answer = b"K 1\nA 1\nK 2\nE 40 0\nE 52 0\nA 2\nX\n";
+    let answer = b"K 1\nA 1\nK 2\nE 61 0\nE 40 0\nE 31 5\nE 52 0\nA 2\nX\n";
     assert_eq!(rt; output.bytes(), answer.as_slice());
     Ok(())
 }

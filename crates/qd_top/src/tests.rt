@@ -118,7 +118,7 @@ fn bad_frames(rt: HostRuntime) -> Result<(), Fail> {
         (b"Q 65537\n", 2, b"E 1 0\n"),
         (b"A\nA\nW -1\n", 2, b"A 0\nA 0\nE 1 4\n"),
         (b"W 11\nt v=1i 1\nu\nA\n", 0, b"E 11 2\nA 0\n"),
-        (b"Q 1\nt", 0, b"E 40 0\n"),
+        (b"Q 1\nt", 0, b"F 0 32 0\n"),
     ];
     for (input, status, answer) in &rows {
         expect(&rt, input, 4, *status, answer)?;
@@ -148,8 +148,23 @@ W 14\nt v=4i\nt v=t 2A\nQ 1\ntQ 1\nuQ 1\nx";
     let answer = b"K 1\nK 2\nE 15 2\nA 2\nR 2 77\nv,timestamp,s\n\
 3,1970-01-01T00:00:01.000000Z,x\n\
 1,1970-01-01T00:00:02.000000Z,\n\
-R 2 46\nk,v,timestamp\na,2,1970-01-01T00:00:01.000000Z\nE 40 0\n";
+R 2 46\nk,v,timestamp\na,2,1970-01-01T00:00:01.000000Z\nF 2 32 0\n";
     expect(&rt, input, 64, 0, answer)
+}
+
+/// An unknown table, a text that is no statement, one that is not built, and a number out of its range.
+#[test]
+fn refused_texts(rt: HostRuntime) -> Result<(), Fail> {
+    let rows: [Row<'_>; 4] = [
+        (b"Q 2\nzz", 0, b"F 0 32 0\n"),
+        (b"Q 13\nSELECT FROM t", 0, b"E 31 7\n"),
+        (b"Q 12\nDROP TABLE t", 0, b"E 40 0\n"),
+        (b"Q 27\nt LIMIT 9223372036854775808", 0, b"E 13 8\n"),
+    ];
+    for (input, status, answer) in &rows {
+        expect(&rt, input, 5, *status, answer)?;
+    }
+    Ok(())
 }
 
 /// The clock is read for the two batches that lack a time, and fails for the second.

@@ -1,8 +1,8 @@
-use Rattle.std.proofs.Common.{Option, ap, subst, sym, arith, ◌∙◌, fold, None}
+use Rattle.std.proofs.Common.{Option, subst, sym, arith}
 use Rattle.std.proofs.lemmas.List.{take_all}
 use Rattle.qd_base.specs.Database.{StoredTable}
 use Rattle.qd_list.specs.Finding.{Shows}
-use Rattle.qd_list.proofs.FindingLemmas.{entry_step, named_after}
+use Rattle.qd_list.proofs.FindingLemmas.{named_after}
 use Rattle.qd_list.proofs.found.table_named.Goals as goal
 
 pub returns : goal.returns

@@ -1,7 +1,7 @@
 -- What lawful histories leave: sound schemas of distinct names, and rows that fit them.
-use Rattle.std.proofs.Common.{◌≡◌, ℕ, zero, suc, ◌+◌, ◌<◌, ◌≤◌, false, ◌&&◌, leb, ltb, nat_eq, List, [], ◌∷◌, ◌++◌, Option, Some, None, IsSomeAnd, IfSome, IsNone, All, Contains, map, length, length-append, slice_get, refl, sym, ap, ap₂, ◌∙◌, inl, inr, ⊎_elim, ◌⊎◌, arith}
+use Rattle.std.proofs.Common.{◌≡◌, ℕ, zero, suc, ◌+◌, ◌<◌, ◌≤◌, false, ◌&&◌, leb, ltb, nat_eq, List, [], ◌∷◌, ◌++◌, Option, Some, None, IsSomeAnd, IfSome, IsNone, All, Contains, map, length, slice_get, refl, sym, ap, ap₂, ◌∙◌, inl, inr, ⊎_elim, ◌⊎◌, arith}
 use Rattle.std.specs.List.{AllByRecursion, IsDistinct, filter, fold}
-use Rattle.std.proofs.lemmas.List.{length-map}
+use Rattle.std.proofs.lemmas.List.{length-map, length_push}
 use Rattle.std.proofs.lemmas.List.Elements.{All-push, All-weaker, All-nil, All-from_recursion, recursion_from_All}
 use Rattle.qd_base.specs.declared.cell.Cell.{Cell}
 use Rattle.qd_base.specs.declared.schema.ColType.{ColType}
@@ -23,18 +23,15 @@ use Rattle.qd_base.proofs.Keys.{IsDistinct-fold}
 use Rattle.qd_base.proofs.Tables.{each-at_name, each-at_found, find-part, map-kept, position-none, schemas_of-step, schemas_of-commit, schemas_of-replay}
 
 -- what a list has at a place stays there when the list grows
-get-grown : {X : Type 0} (Q : X → Type 0) (xs ys : List X) (i : ℕ) → IsSomeAnd (slice_get xs i) Q → IsSomeAnd (slice_get (xs ++ ys) i) Q
+pub get-grown : {X : Type 0} (Q : X → Type 0) (xs ys : List X) (i : ℕ) → IsSomeAnd (slice_get xs i) Q → IsSomeAnd (slice_get (xs ++ ys) i) Q
 get-grown Q [] ys i h = absurd h
 get-grown Q (x ∷ xs) ys zero h = h
 get-grown Q (x ∷ xs) ys (suc i) h = get-grown Q xs ys i h
 
-get-below : {X : Type 0} (Q : X → Type 0) (xs : List X) (i : ℕ) → IsSomeAnd (slice_get xs i) Q → i < length xs
+pub get-below : {X : Type 0} (Q : X → Type 0) (xs : List X) (i : ℕ) → IsSomeAnd (slice_get xs i) Q → i < length xs
 get-below Q [] i h = absurd h
 get-below Q (x ∷ xs) zero h = omega arith
 get-below Q (x ∷ xs) (suc i) h = let lt = get-below Q xs i h in omega arith
-
-length-push : {X : Type 0} (xs : List X) (x : X) → length (xs ++ x ∷ []) ≡ length xs + 1
-length-push xs x = length-append xs (x ∷ [])
 
 both : {X : Type 0} (P Q : X → Type 0) (o : Option X) → IsSomeAnd o P → IfSome o Q → IfSome o (λ x. P x × Q x)
 both P Q None h k = absurd h
@@ -42,9 +39,9 @@ both P Q (Some x) h k = (h, k)
 
 -- a column that is new, of an allowed name
 module _ (col : Col) (named : IsColumnName col.name) where
-  IsSchema-wider : (s : Schema) → IsSchema s → IsNone (column_at s.cols col.name) × (length s.cols < MAX_COLUMNS) → IsSchema (with_column col s)
+  pub IsSchema-wider : (s : Schema) → IsSchema s → IsNone (column_at s.cols col.name) × (length s.cols < MAX_COLUMNS) → IsSchema (with_column col s)
   IsSchema-wider s h new =
-      let grown : length (s.cols ++ col ∷ []) ≡ length s.cols + 1 = length-push s.cols col in
+      let grown : length (s.cols ++ col ∷ []) ≡ length s.cols + 1 = length_push s.cols col in
       record {
         name = h.name;
         few = let below : length s.cols < MAX_COLUMNS = new.1 in omega arith;
@@ -58,7 +55,7 @@ module _ (col : Col) (named : IsColumnName col.name) where
 names-kept : (col : Col) (table : List ℕ) (schemas : List Schema) → map (λ (s : Schema). s.name) (at_name (λ (s : Schema). s.name) (with_column col) table schemas) ≡ map (λ (s : Schema). s.name) schemas
 names-kept col table schemas = map-kept (λ (s : Schema). s.name) (with_column col) (λ (s : Schema). s.name) table (λ s. refl) schemas
 
-length-at_name : (col : Col) (table : List ℕ) (schemas : List Schema) → length (at_name (λ (s : Schema). s.name) (with_column col) table schemas) ≡ length schemas
+pub length-at_name : (col : Col) (table : List ℕ) (schemas : List Schema) → length (at_name (λ (s : Schema). s.name) (with_column col) table schemas) ≡ length schemas
 length-at_name col table schemas =
     sym (length-map (at_name (λ (s : Schema). s.name) (with_column col) table schemas) (λ (s : Schema). s.name))
     ∙ ap length (names-kept col table schemas) ∙ length-map schemas (λ (s : Schema). s.name)
@@ -69,10 +66,10 @@ distinct-kept col table schemas d =
     rw (names-kept col table schemas) (IsDistinct-map (λ (s : Schema). s.name) same_name schemas d) in
     IsDistinct-from_map (λ (s : Schema). s.name) same_name (at_name (λ (s : Schema). s.name) (with_column col) table schemas) e
 
-AreSchemas-step : (schemas : List Schema) (o : Op) → AreSchemas schemas → Fits schemas o → IsSound schemas o → AreSchemas (schemas_step schemas o)
+pub AreSchemas-step : (schemas : List Schema) (o : Op) → AreSchemas schemas → Fits schemas o → IsSound schemas o → AreSchemas (schemas_step schemas o)
 AreSchemas-step schemas (op.Create schema) h fits sound =
     record {
-      few = let grown = length-push schemas schema in let below : length schemas < MAX_TABLES = sound.0 in omega arith;
+      few = let grown = length_push schemas schema in let below : length schemas < MAX_TABLES = sound.0 in omega arith;
       each = All-push IsSchema schemas schema h.each sound.1;
       distinct = IsDistinct-push (λ (a : Schema) (b : Schema). same_name a.name b.name) schemas schema h.distinct (position-none (λ (s : Schema). same_name s.name schema.name) schemas fits);
     }
@@ -87,7 +84,7 @@ AreSchemas-step schemas (op.AddColumn table col) h fits sound =
     }
 AreSchemas-step schemas (op.Insert table rows) h fits sound = h
 
-AreSchemas-ops : (schemas : List Schema) (ops : List Op) → AreSchemas schemas → AreLawful schemas ops → AreSchemas (fold schemas_step schemas ops)
+pub AreSchemas-ops : (schemas : List Schema) (ops : List Op) → AreSchemas schemas → AreLawful schemas ops → AreSchemas (fold schemas_step schemas ops)
 AreSchemas-ops schemas [] h lawful = h
 AreSchemas-ops schemas (o ∷ os) h lawful = AreSchemas-ops (schemas_step schemas o) os (AreSchemas-step schemas o h lawful.0 lawful.1) lawful.2
 
@@ -108,7 +105,7 @@ record Fitting (t : StoredTable) : Type 0 where
   rows : AllByRecursion (IsRowOf t.schema) t.rows
   unique : (t.schema.keys ≡ []) ⊎ IsDistinct (same_on t.schema.keys) t.rows
 
-missing-taken : (k : ColType) → Takes k (missing k)
+pub missing-taken : (k : ColType) → Takes k (missing k)
 missing-taken kind.Long = tt
 missing-taken kind.Bool = tt
 missing-taken kind.Symbol = tt
@@ -116,7 +113,7 @@ missing-taken kind.Varchar = tt
 missing-taken kind.Time = tt
 
 -- a row has as many cells as there are columns, and one more of each fits again
-HasKinds-length : (cols : List Col) (row : Row) → HasKinds cols row → length cols ≡ length row
+pub HasKinds-length : (cols : List Col) (row : Row) → HasKinds cols row → length cols ≡ length row
 HasKinds-length [] [] h = refl
 HasKinds-length [] (x ∷ xs) h = absurd h
 HasKinds-length (c ∷ cs) [] h = absurd h
@@ -129,7 +126,7 @@ HasKinds-push (d ∷ ds) [] c x h k = absurd h
 HasKinds-push (d ∷ ds) (y ∷ ys) c x h k = (h.0, HasKinds-push ds ys c x h.1 k)
 
 -- a cell behind a row leaves those before it
-cell_at-longer : (row : Row) (x : Cell) (n : ℕ) → n < length row → cell_at (row ++ x ∷ []) n ≡ cell_at row n
+pub cell_at-longer : (row : Row) (x : Cell) (n : ℕ) → n < length row → cell_at (row ++ x ∷ []) n ≡ cell_at row n
 cell_at-longer [] x n lt = absurd (omega arith)
 cell_at-longer (y ∷ ys) x zero lt = refl
 cell_at-longer (y ∷ ys) x (suc n) lt = cell_at-longer ys x n (omega arith)
@@ -168,7 +165,7 @@ Fitting-wider : (col : Col) (t : StoredTable) → Fitting t → Fitting (widened
 Fitting-wider col t h =
     record {
       designated = get-grown (λ (c : Col). c.kind ≡ kind.Time) t.schema.cols (col ∷ []) t.schema.time_col h.designated;
-      keys = let grown = length-push t.schema.cols col in each-weaker (λ k. k < length t.schema.cols) (λ k. k < length (t.schema.cols ++ col ∷ [])) (λ k lt. omega arith) t.schema.keys h.keys;
+      keys = let grown = length_push t.schema.cols col in each-weaker (λ k. k < length t.schema.cols) (λ k. k < length (t.schema.cols ++ col ∷ [])) (λ k lt. omega arith) t.schema.keys h.keys;
       rows = rows-longer col t.schema (get-below (λ (c : Col). c.kind ≡ kind.Time) t.schema.cols t.schema.time_col h.designated) t.rows h.rows;
       unique = ⊎_elim inl (λ d. inr (distinct-longer t.schema.keys (length t.schema.cols) (missing col.kind) t.rows h.keys (each-weaker (IsRowOf t.schema) (λ r. length t.schema.cols ≡ length r) (λ r f. HasKinds-length t.schema.cols r f.kinds) t.rows h.rows) d)) h.unique;
     }

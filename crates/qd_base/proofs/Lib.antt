@@ -1,6 +1,9 @@
 pub mod Lists
 pub mod Order
+pub mod Sorted
 pub mod Keys
+pub mod Alike
 pub mod Tables
 pub mod Lawful
 pub mod Texts
+pub mod NameIndex

@@ -1,5 +1,5 @@
 -- Lemmas on lists: what a filter and joined lists keep of a fact of each element, or of each two.
-use Rattle.std.proofs.Common.{◌≡◌, ℕ, zero, suc, ◌<◌, Bool, true, false, cond, List, [], ◌∷◌, ◌++◌, map, length, get_or, refl, sym, subst, true≢false, suc-le-suc, le_of_suc-le-suc, arith}
+use Rattle.std.proofs.Common.{◌≡◌, ℕ, zero, suc, ◌<◌, Bool, true, false, cond, List, [], ◌∷◌, ◌++◌, map, length, get_or, Some, slice_get, refl, sym, subst, true≢false, suc-le-suc, le_of_suc-le-suc, arith}
 use Rattle.std.specs.List.{AllByRecursion, IsDistinct, filter, Contains}
 
 module _ {X : Type 0} (P : X → Type 0) where
@@ -26,6 +26,11 @@ module _ {X : Type 0} (P : X → Type 0) where
   pub each-fact : ((x : X) → P x) → (xs : List X) → AllByRecursion P xs
   each-fact f [] = tt
   each-fact f (x ∷ xs) = (f x, each-fact f xs)
+
+-- the last of a list
+pub get-last : {X : Type 0} (xs : List X) (x : X) → slice_get (xs ++ x ∷ []) (length xs) ≡ Some x
+get-last [] x = refl
+get-last (y ∷ ys) x = get-last ys x
 
 pub Contains-cons : {X : Type 0} (y : X) (xs : List X) (x : X) → Contains xs x → Contains (y ∷ xs) x
 Contains-cons y xs x c = (suc c.0, suc-le-suc c.1, c.2)

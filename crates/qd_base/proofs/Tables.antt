@@ -2,6 +2,7 @@
 use Rattle.std.proofs.Common.{◌≡◌, ℕ, zero, suc, ◌+◌, ◌<◌, ◌≤◌, Bool, true, false, cond, not, ltb, List, [], ◌∷◌, ◌++◌, Option, Some, None, is_some, IsSome, IsNone, IsSomeAnd, IfSome, IsTrue, ◌↔◌, if◌then◌else◌, map, length, get_or, set, refl, sym, ap, ◌∙◌, true≢false, suc-le-suc, le_of_suc-le-suc, zero-lt-suc, arith}
 use Rattle.std.specs.List.{AllByRecursion, fold, find, position, position_or_len}
 use Rattle.std.proofs.lemmas.Bool.{cond-true, cond-false, lt-ltb, ltb-false, not-false}
+use Rattle.std.proofs.lemmas.List.{map-append}
 use Rattle.std.proofs.lemmas.List.Quantifiers.{position-Some}
 use Rattle.qd_base.specs.declared.schema.ColType.{ColType}
 use Rattle.qd_base.specs.declared.schema.ColType.TheVariants as kind
@@ -81,12 +82,8 @@ module _ {S T : Type 0} (name_of : T → List ℕ) (change : T → T) (part : T 
   map-kept f [] = refl
   map-kept f (x ∷ xs) = same_part (same_name (name_of x) name) x xs (at_name name_of change name xs) (f x) (map-kept f xs)
 
-map-push : {S T : Type 0} (f : T → S) (xs : List T) (y : T) → map f (xs ++ y ∷ []) ≡ map f xs ++ f y ∷ []
-map-push f [] y = refl
-map-push f (x ∷ xs) y = ap (λ l. f x ∷ l) (map-push f xs y)
-
 pub schemas_of-step : (db : Database) (o : Op) → schemas_of (step db o) ≡ schemas_step (schemas_of db) o
-schemas_of-step db (op.Create schema) = map-push (λ (t : StoredTable). t.schema) db (record { schema = schema; rows = [] })
+schemas_of-step db (op.Create schema) = map-append (λ (t : StoredTable). t.schema) db (record { schema = schema; rows = [] } ∷ [])
 schemas_of-step db (op.AddColumn table col) = map-at_name (λ (t : StoredTable). t.schema.name) (λ (s : Schema). s.name) (widened col) (with_column col) (λ (t : StoredTable). t.schema) table (λ t. refl) (λ t. refl) db
 schemas_of-step db (op.Insert table rows) = map-kept (λ (t : StoredTable). t.schema.name) (filled rows) (λ (t : StoredTable). t.schema) table (λ t. refl) db
 
@@ -99,7 +96,7 @@ schemas_of-replay db [] = refl
 schemas_of-replay db (e ∷ es) = schemas_of-replay (commit db e) es ∙ ap (λ s. schemas_from s es) (schemas_of-commit db e.ops)
 
 -- a cell that an added column gets holds no time
-missing-time : (k : ColType) → time_in (missing k) ≡ 0
+pub missing-time : (k : ColType) → time_in (missing k) ≡ 0
 missing-time kind.Long = refl
 missing-time kind.Bool = refl
 missing-time kind.Symbol = refl
@@ -186,9 +183,15 @@ added_to schemas o table text col is same fits =
     let named : IsSome (table_at schemas table) = position-found (λ s. same_name s.name table) (λ s. IsNone (column_at s.cols col.name)) schemas h in
     rw same named
 
--- a column pushed onto the columns of the table at a name's position
-pub column_pushed : (schemas items : List Schema) (table : List ℕ) (col added : Col) (i : ℕ) (s : Schema) (cols : List Col) → items ≡ schemas → Some i ≡ table_at schemas table → s ≡ get_or items i s → added ≡ col → cols ≡ s.cols ++ added ∷ [] → set items i (record s { cols = cols }) ≡ at_name (λ (t : Schema). t.name) (with_column col) table schemas
-column_pushed schemas items table col added i s cols view at is same pushed =
-    let h = at_name-position (λ (t : Schema). t.name) (with_column col) table schemas i s (sym at) in
-    let e : get_or schemas i s ≡ s = cc in
-    rw (h, e, view, pushed, same) refl
+-- the table of a name's position is there
+pub table_within : (schemas : List Schema) (table : List ℕ) (i : ℕ) → Some i ≡ table_at schemas table → i < length schemas
+table_within [] table i at = absurd (true≢false (ap is_some at))
+table_within (s ∷ ss) table i at = (position-Some (λ t. same_name t.name table) (s ∷ ss) i s (sym at)).0
+
+-- a column added to the table at a name's position
+pub column_added : (schemas new : List Schema) (table : List ℕ) (col added : Col) (i : ℕ) → Some i ≡ table_at schemas table → added ≡ col → ((d : Schema) → new ≡ set schemas i (with_column added (get_or schemas i d))) → new ≡ at_name (λ (t : Schema). t.name) (with_column col) table schemas
+column_added [] new table col added i at same h = absurd (true≢false (ap is_some at))
+column_added (s ∷ ss) new table col added i at same h =
+    h s
+    ∙ ap (λ c. set (s ∷ ss) i (with_column c (get_or (s ∷ ss) i s))) same
+    ∙ sym (at_name-position (λ (t : Schema). t.name) (with_column col) table (s ∷ ss) i s (sym at))

@@ -1,10 +1,10 @@
 -- Lists of distinct texts: where a text stands, and what one text more changes.
-use Rattle.std.proofs.Common.{◌≡◌, ℕ, ◌+◌, ◌<◌, ◌≤◌, ◌||◌, inl, inr, Bool, true, false, not, cond, eqb, ltb, zero, suc, List, [], ◌∷◌, ◌++◌, Option, Some, None, length, map, get_or, refl, sym, ap, ◌∙◌, arith, slice_get, length-append, nat_eq}
-use Rattle.std.specs.List.{list_any, position_or_len, position, IsDistinct, AllByRecursion}
+use Rattle.std.proofs.Common.{◌≡◌, ℕ, ◌+◌, ◌<◌, ◌≤◌, ◌||◌, inl, inr, Bool, true, false, not, cond, ltb, suc, List, [], ◌∷◌, ◌++◌, Some, None, length, map, get_or, refl, sym, ap, ◌∙◌, arith, length-append}
+use Rattle.std.specs.List.{list_any, position, position_or_len, IsDistinct}
+use Rattle.std.specs.Option.{is_some}
 use Rattle.std.proofs.lemmas.Bool.{ltb-true, ltb-false, lt-ltb, le-ltb, false≢true, cases_lt}
-use Rattle.std.proofs.lemmas.List.{get_or_push, get_or_append_left, length-map}
+use Rattle.std.proofs.lemmas.List.{get_or_push, get_or_append_left}
 use Rattle.std.proofs.lemmas.List.Sums.{passes_at_first, fails_before_first}
-use Rattle.std.proofs.lemmas.Option.{slice_get-get_or}
 use Rattle.std.proofs.lemmas.Cmp.{nat_list_eq_equiv}
 use Rattle.std.proofs.lemmas.Map.Keys.{IsDistinct-push}
 use Rattle.std.specs.Cmp.Lexicographic as lexicographic
@@ -29,20 +29,18 @@ module _ {X : Type 0} (p : X → Bool) where
       go false true n m h = let lt : n < m = ltb-true n m (sym h) in sym (lt-ltb (1 + n) (suc m) (omega arith))
       go false false n m h = let le : m ≤ n = ltb-false n m (sym h) in sym (le-ltb (1 + n) (suc m) (omega arith))
 
+-- an element passes where there is a place of the first that does
+pub some_place : {X : Type 0} (p : X → Bool) (xs : List X) → is_some (position p xs) ≡ list_any p xs
+some_place p xs = go (ltb (position_or_len p xs) (length xs)) ∙ sym (any_stands p xs)
+  where
+    go : (b : Bool) → is_some (cond b (Some (position_or_len p xs)) None) ≡ b
+    go true = refl
+    go false = refl
+
 -- the first place of a list of images
 pub position-map : {X Y : Type 0} (p : Y → Bool) (f : X → Y) → (xs : List X) → position_or_len p (map f xs) ≡ position_or_len (λ x. p (f x)) xs
 position-map p f [] = refl
 position-map p f (x ∷ xs) = ap (λ n. cond (not (p (f x))) (1 + n) 0) (position-map p f xs)
-
--- images are distinct where their sources are, as the images are compared
-each-map : {X Y : Type 0} (P : Y → Type 0) (f : X → Y) (xs : List X) → AllByRecursion (λ x. P (f x)) xs → AllByRecursion P (map f xs)
-each-map P f [] h = tt
-each-map P f (x ∷ xs) h = (h.0, each-map P f xs h.1)
-
-pub distinct-map : {X Y : Type 0} (e : Y → Y → Bool) (f : X → Y) (xs : List X) → IsDistinct (λ a b. e (f a) (f b)) xs → IsDistinct e (map f xs)
-unfolding IsDistinct
-distinct-map e f [] h = h
-distinct-map e f (x ∷ xs) h = (each-map (λ y. e (f x) y ≡ false) f xs h.0, distinct-map e f xs h.1)
 
 pub none_distinct : AreDistinct []
 unfolding IsDistinct

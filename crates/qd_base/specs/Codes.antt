@@ -7,7 +7,6 @@ use Rattle.qd_base.specs.declared.code.Code.TheVariants as code
 abbrev pub number_of : Code → ℕ
 number_of code.Frame = 1
 -- a batch of lines, and some statements
-number_of code.UnbuiltLine = 9
 number_of code.LineSyntax = 11
 number_of code.FloatField = 12
 number_of code.NumberRange = 13

@@ -9,3 +9,4 @@ pub mod Laws
 pub mod Examples
 pub mod Script
 pub mod Dictionary
+pub mod NameIndex

@@ -10,8 +10,6 @@ ghost use Rattle.qd_base.specs.Codes.{number_of};
 pub enum Code {
     /// The bytes are no frame, or the input ends inside one.
     Frame,
-    /// A line is none of the form that this version builds.
-    UnbuiltLine,
     /// A line is outside the grammar of lines.
     LineSyntax,
     /// A bare value of a field is neither a truth word nor a whole number with its `i`.
@@ -77,7 +75,6 @@ impl Code {
     {
         match self {
             Code::Frame => 1,
-            Code::UnbuiltLine => 9,
             Code::LineSyntax => 11,
             Code::FloatField => 12,
             Code::NumberRange => 13,

@@ -11,6 +11,7 @@ mod dictionary;
 mod front;
 mod laws;
 mod limits;
+mod named;
 mod names;
 mod op;
 mod part;
@@ -21,6 +22,7 @@ mod seq;
 #[cfg(test)]
 mod tests;
 mod txt;
+mod unit;
 
 pub use cell::{Cell, Row, RowList};
 pub use code::Code;
@@ -32,10 +34,11 @@ pub use laws::{
     rows_stay_in_order, schemas_follow, worked_examples,
 };
 pub use limits::{
-    LAST_OFFSET, Limits, MAX_BATCH_CELLS, MAX_COLUMNS, MAX_LONG, MAX_NAME_BYTES, MAX_QUERY_BYTES,
-    MAX_RESULT_BYTES, MAX_SAMPLED_ROWS, MAX_TABLES, MAX_TEXT_BYTES, MAX_TIME, MAX_WRITE_BYTES,
-    NULL_ID, NULL_LONG, NULL_TIME,
+    LAST_OFFSET, Limits, MAX_BATCH_CELLS, MAX_COLUMNS, MAX_LONG, MAX_NAME_BYTES, MAX_NESTING,
+    MAX_NUMBER, MAX_QUERY_BYTES, MAX_RESULT_BYTES, MAX_SAMPLED_ROWS, MAX_STRIDE, MAX_SUFFIX_COUNT,
+    MAX_TABLES, MAX_TEXT_BYTES, MAX_TIME, MAX_WRITE_BYTES, NULL_ID, NULL_LONG, NULL_TIME,
 };
+pub use named::{Named, NamedList};
 pub use names::{column_name_ok, same_name, table_name_ok};
 pub use op::{Entry, Op, OpList};
 pub use part::{Part, PartList, RefList, WalRef};
@@ -44,3 +47,4 @@ pub use schema::{Col, ColList, ColType, KeyList, PartUnit, Schema};
 pub use schemas::Schemas;
 pub use seq::{Duplicate, Memory, Seq};
 pub use txt::Txt;
+pub use unit::TimeUnit;

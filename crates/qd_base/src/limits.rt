@@ -13,6 +13,9 @@ pub const NULL_ID: u64 = 18_446_744_073_709_551_615;
 /// The greatest LONG.
 pub const MAX_LONG: i64 = 9_223_372_036_854_775_807;
 
+/// The greatest number that a line or a statement writes, its sign aside: the greatest LONG.
+pub const MAX_NUMBER: u64 = MAX_LONG as u64;
+
 /// What stands for NULL among stored numbers: the least 64-bit number, which no LONG is.
 pub const NULL_LONG: i64 = -9_223_372_036_854_775_808;
 
@@ -36,6 +39,15 @@ pub const MAX_COLUMNS: usize = 256;
 
 /// The greatest number of cells that one transaction inserts.
 pub const MAX_BATCH_CELLS: u64 = 4_194_304;
+
+/// How deep the brackets of a statement may nest. Deeper ones find no memory, since the stack is memory.
+pub const MAX_NESTING: usize = 256;
+
+/// The greatest count of a stride, as in `15m`.
+pub const MAX_STRIDE: u64 = 1_000_000;
+
+/// The greatest count of an interval's suffix, as in `;15m`.
+pub const MAX_SUFFIX_COUNT: u64 = 1_000_000;
 
 /// The greatest number of rows of a sampled result.
 pub const MAX_SAMPLED_ROWS: u64 = 1_000_000;

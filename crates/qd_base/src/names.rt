@@ -1,15 +1,26 @@
 //! Names of tables and columns.
 ghost use Rattle.std.specs.Prelude.{◌≡◌, ◌<◌, ◌≤◌, ◌↔◌, length, IsTrue};
 ghost use Rattle.std.specs.Str.{str_eq_ignore_ascii_case, IsUtf8};
+ghost use Rattle.qd_base.specs.NameIndex.{name_cmp};
 ghost use Rattle.qd_base.specs.Names.{is_column_byte, is_table_byte, IsApart, IsColumnName, IsTableName};
 
 use crate::limits::MAX_NAME_BYTES;
+use std::cmp::Ordering;
 
 /// Says whether two names are one: ASCII case is ignored. It costs time linear in the shorter name.
 pub fn same_name(a: &[u8], b: &[u8]) -> bool
     ensures same { result ≡ str_eq_ignore_ascii_case a.now b.now }
 {
     a.eq_ignore_ascii_case(b)
+}
+
+/// Says which of two names comes first: byte by byte in lower case, and a name before those that begin with it. It
+/// costs time linear in the shorter name.
+pub(crate) fn name_order(a: &[u8], b: &[u8]) -> Ordering
+    ensures order { result ≡ name_cmp a.now b.now }
+{
+    let first = a.iter().map(|byte| byte.to_ascii_lowercase());
+    first.cmp(b.iter().map(|byte| byte.to_ascii_lowercase()))
 }
 
 /// Says whether a column may have this name: 1 to 127 bytes of UTF-8 without control characters and without

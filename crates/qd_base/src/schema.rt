@@ -1,8 +1,9 @@
 //! What a table looks like.
 ghost use Rattle.std.specs.Prelude.{◌≡◌};
-ghost use Rattle.qd_base.specs.Schemas.{column_at};
+ghost use Rattle.qd_base.specs.Database as database;
 
-use crate::names::same_name;
+use crate::cell::Cell;
+use crate::named::{Named, NamedList};
 use crate::seq::{Duplicate, Memory, Seq};
 use crate::txt::Txt;
 
@@ -19,6 +20,18 @@ pub enum ColType {
     Varchar,
     /// TIMESTAMP: microseconds since 1970-01-01T00:00Z, or NULL.
     Time,
+}
+
+impl ColType {
+    /// Gives what a row holds in a column of this type that it lacks: false in a BOOLEAN column, else NULL.
+    pub fn missing(self) -> Cell
+        ensures cell { result ≡ database.missing self }
+    {
+        match self {
+            ColType::Bool => Cell::Bool(false),
+            _ => Cell::Null,
+        }
+    }
 }
 
 /// A column: its name and its type.
@@ -39,8 +52,16 @@ impl Duplicate for Col {
     }
 }
 
+impl Named for Col {
+    ghost name_of = { λ col. col.name };
+
+    fn name(&self) -> &[u8] {
+        self.name.bytes()
+    }
+}
+
 /// Columns, in order.
-pub type ColList = Seq<Col>;
+pub type ColList = NamedList<Col>;
 
 /// Numbers of columns, counted from 0: the deduplication keys of a table.
 pub type KeyList = Seq<u32>;
@@ -74,15 +95,22 @@ pub struct Schema {
 }
 
 impl Schema {
-    /// Gives the position of the column of a name, where there is one. ASCII case is ignored. It costs time linear in
-    /// the number of columns.
+    ghost use Rattle.qd_base.specs.Schemas.{column_at};
+
+    /// Gives the position of the column of a name, where there is one. ASCII case is ignored. It costs time logarithmic
+    /// in the number of columns, and takes no memory.
     pub fn find_column(&self, name: &[u8]) -> Option<usize>
         ensures position { result ≡ column_at self.now.cols name.now }
     {
-        self.cols
-            .as_slice()
-            .iter()
-            .position(|col| same_name(col.name.bytes(), name))
+        self.cols.find(name)
+    }
+}
+
+impl Named for Schema {
+    ghost name_of = { λ schema. schema.name };
+
+    fn name(&self) -> &[u8] {
+        self.name.bytes()
     }
 }
 

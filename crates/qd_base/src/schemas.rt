@@ -1,7 +1,7 @@
 //! The schemas of all tables.
-ghost use Rattle.std.specs.Prelude.{◌≡◌, ◌<◌, ◌==◌, [], length, Some, IsSome, IsSomeAnd, IsNone, IsTrue, ◌↔◌, OnOk, OnErr, IfOk, slice_get};
+ghost use Rattle.std.specs.Prelude.{◌≡◌, ◌<◌, ◌==◌, [], length, Some, IsSome, IsSomeAnd, IsNone, IsTrue, ◌↔◌, OnOk, OnErr, IfOk, slice_get, slice_index_or, slice_set};
 
-use crate::names::same_name;
+use crate::named::NamedList;
 use crate::op::Op;
 use crate::schema::{Col, Schema};
 use crate::seq::{Duplicate, Memory};
@@ -11,7 +11,7 @@ use std::marker::Model;
 /// The schemas of all tables, in order of creation. Contracts see that list.
 #[derive(Debug, Drop)]
 pub struct Schemas {
-    list: Vec<Schema>,
+    list: NamedList<Schema>,
 }
 
 impl Model for Schemas {
@@ -20,10 +20,11 @@ impl Model for Schemas {
 
     ghost Value = { List Schema };
 
-    ghost view = { λ s. s.list.items };
+    ghost view = { λ s. s.list };
 }
 
 impl Schemas {
+    ghost use Rattle.qd_base.specs.declared.schema.Schema.{Schema};
     ghost use Rattle.qd_base.specs.Schemas.{table_at, column_at, schema_of, schemas_step, at_name, with_column, Fits};
 
     /// Makes the empty list.
@@ -31,7 +32,7 @@ impl Schemas {
         ensures empty { result ≡ [] }
     {
         Schemas {
-            list: Vec::new(alloc),
+            list: NamedList::new(alloc),
         }
     }
 
@@ -54,21 +55,19 @@ impl Schemas {
         requires { i < length self.now }
         ensures item { slice_get self.now i ≡ Some result.now }
     {
-        &self.list[i]
+        self.list.get(i)
     }
 
-    /// Gives the position of the table of a name, where there is one. ASCII case is ignored. It costs time linear in
-    /// the number of tables.
+    /// Gives the position of the table of a name, where there is one. ASCII case is ignored. It costs time
+    /// logarithmic in the number of tables, and takes no memory.
     pub fn find(&self, name: &[u8]) -> Option<usize>
         ensures position { result ≡ table_at self.now name.now }
     {
-        self.list
-            .iter()
-            .position(|schema| same_name(schema.name.bytes(), name))
+        self.list.find(name)
     }
 
     /// Says whether an operation fits: whether it makes a table of a new name, adds a column of a new name to a table
-    /// that is there, or inserts into a table that is there. It costs time linear in the number of tables, and of the
+    /// that is there, or inserts into a table that is there. It costs time logarithmic in the number of tables, and of the
     /// table's columns.
     pub fn fits(&self, op: &Op) -> bool
         ensures fits { IsTrue result ↔ Fits self.now op.now }
@@ -86,13 +85,13 @@ impl Schemas {
             (λ s. IsNone (column_at s.cols column.now)) }
     {
         match self.find(table) {
-            Some(i) => self.list[i].find_column(column).is_none(),
+            Some(i) => self.list.get(i).find_column(column).is_none(),
             None => false,
         }
     }
 
     /// Changes the schemas as the operation says; an insertion changes none. Where no memory is found, nothing is
-    /// changed. It costs time linear in the number of tables and in the size of what is added.
+    /// changed. It costs time logarithmic in the number of tables, and linear in the size of what is added.
     pub fn apply(&mut self, op: &Op) -> Result<(), Memory>
         requires { Fits self.old op.now }
         ensures ok { OnOk result (self.new ≡ schemas_step self.old op.now) }
@@ -112,11 +111,9 @@ impl Schemas {
     pub fn copy(&self) -> Result<Schemas, Memory>
         ensures same { IfOk result (λ other. other ≡ self.now) }
     {
-        let mut list = Vec::with_capacity(*self.list.allocator(), self.list.len())?;
-        for schema in &self.list {
-            list.push(schema.copy()?)?;
-        }
-        Ok(Schemas { list })
+        Ok(Schemas {
+            list: self.list.copy()?,
+        })
     }
 
     fn add_column(&mut self, table: &[u8], col: &Col) -> Result<(), Memory>
@@ -126,9 +123,20 @@ impl Schemas {
     {
         let col = col.copy()?;
         match self.find(table) {
-            Some(i) => self.list[i].cols.push(col),
+            Some(i) => self.widen(i, col),
             None => Ok(()),
         }
+    }
+
+    /// Adds a column behind the others of the table at a position.
+    fn widen(&mut self, i: usize, col: Col) -> Result<(), Memory>
+        requires { i < length self.old }
+        ensures ok { OnOk result ((d : Schema) → self.new ≡ slice_set self.old i (with_column col (slice_index_or self.old i d))) }
+        ensures err { OnErr result (self.new ≡ self.old) }
+    {
+        let list = &mut self.list;
+        let schema = &mut list.items[i];
+        schema.cols.push(col)
     }
 }
 

@@ -206,3 +206,78 @@ fn schemas_change(rt: HostRuntime) -> Result<(), Fail> {
     assert_eq!(rt; copy.get(1).find_column(b"note"), None);
     Ok(())
 }
+
+#[test]
+fn rows_hold_false_or_null_where_they_lack_a_column(rt: HostRuntime) {
+    for kind in [
+        ColType::Long,
+        ColType::Symbol,
+        ColType::Varchar,
+        ColType::Time,
+    ] {
+        assert!(rt; matches!(kind.missing(), Cell::Null));
+    }
+    assert!(rt; matches!(ColType::Bool.missing(), Cell::Bool(false)));
+}
+
+#[test]
+fn names_are_found(rt: HostRuntime) -> Result<(), Fail> {
+    let alloc = rt.alloc();
+    let names: [(&[u8], &[u8]); 36] = [
+        (b"Trades", b"tRADES"),
+        (b"quotes", b"QUOTES"),
+        (b"ORDERS", b"orders"),
+        (b"fills", b"FILLS"),
+        (b"a", b"A"),
+        (b"ab", b"AB"),
+        (b"abc", b"ABC"),
+        (b"aB_c", b"Ab_C"),
+        (b"A-b", b"a-B"),
+        (b"Zulu", b"zULU"),
+        (b"yankee", b"YANKEE"),
+        (b"XRAY", b"xray"),
+        (b"whisky", b"WHISKY"),
+        (b"Victor", b"vICTOR"),
+        (b"uniform", b"UNIFORM"),
+        (b"Tango", b"tANGO"),
+        (b"sierra", b"SIERRA"),
+        (b"Romeo", b"rOMEO"),
+        (b"QUEBEC", b"quebec"),
+        (b"papa", b"PAPA"),
+        (b"oscar", b"OSCAR"),
+        (b"November", b"nOVEMBER"),
+        (b"mike", b"MIKE"),
+        (b"LIMA", b"lima"),
+        (b"kilo", b"KILO"),
+        (b"Juliett", b"jULIETT"),
+        (b"india", b"INDIA"),
+        (b"hotel", b"HOTEL"),
+        (b"Golf", b"gOLF"),
+        (b"foxtrot", b"FOXTROT"),
+        (b"ECHO", b"echo"),
+        (b"Delta", b"dELTA"),
+        (b"charlie", b"CHARLIE"),
+        (b"bravo", b"BRAVO"),
+        (b"Alfa", b"aLFA"),
+        (b"Stra\xc3\x9fe", b"sTRA\xc3\x9fE"),
+    ];
+    let mut schemas = Schemas::new(alloc);
+    let mut cols = ColList::new(alloc);
+    for (name, _) in names {
+        change(&rt, &mut schemas, readings(alloc, name)?)?;
+        cols.push(col(alloc, name, ColType::Long)?)?;
+    }
+    cols.push(col(alloc, b"quotes", ColType::Bool)?)?;
+    let cols = cols.copy()?;
+    for (i, (name, other_case)) in names.iter().enumerate() {
+        assert_eq!(rt; schemas.find(name), Some(i));
+        assert_eq!(rt; schemas.find(other_case), Some(i));
+        assert_eq!(rt; cols.find(other_case), Some(i));
+    }
+    let others: [&[u8]; 6] = [b"", b"abcd", b"aa", b"zulu1", b"[", b"Stra\xc3\x9fE1"];
+    for other in others {
+        assert_eq!(rt; schemas.find(other), None);
+        assert_eq!(rt; cols.find(other), None);
+    }
+    Ok(())
+}

@@ -1,11 +1,11 @@
 //! Cells of each kind, tables and replies as they are printed, and their lengths.
 use super::*;
-use qd_base::{ColType, Seq};
+use qd_base::{ColList, ColType, Seq};
 use std::test::Fail;
 
 // A table of these columns and no rows.
 fn columns(alloc: Global, names: &[&str]) -> Result<Table, Memory> {
-    let mut cols = Seq::new(alloc);
+    let mut cols = ColList::new(alloc);
     for name in names {
         cols.push(Col {
             name: Txt::from_bytes(alloc, name.as_bytes())?,

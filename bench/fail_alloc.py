@@ -19,6 +19,8 @@ import subprocess
 import sys
 import tempfile
 
+from program import parsed
+
 HERE = os.path.dirname(os.path.abspath(__file__))
 CRATES = os.path.join(HERE, "..", "crates")
 ROWS = b"R 1 42\nv,timestamp\n1,2024-01-01T00:00:00.000000Z\n"
@@ -104,11 +106,8 @@ def test_runs(most):
 
 def main():
     parser = argparse.ArgumentParser(description=__doc__, formatter_class=argparse.RawDescriptionHelpFormatter)
-    parser.add_argument("--program", default=os.path.join(CRATES, "tsdb", "out", "tsdb"))
     parser.add_argument("--tests", type=int, default=0)
-    options = parser.parse_args()
-    if not os.access(options.program, os.X_OK):
-        parser.error(f"no program at {options.program}; build it by `rt run -- run < stdin` in crates/tsdb")
+    options = parsed(parser)
     good = program_runs(options.program)
     good = test_runs(options.tests) and good
     print("each answer is allowed" if good else "an answer is NOT allowed")

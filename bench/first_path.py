@@ -11,13 +11,13 @@ usage: first_path.py [--lines N] [--small N] [--same] [--program PATH]
 Build the program first: run `rt run -- run < stdin` in crates/tsdb.
 """
 import argparse
-import os
 import socket
 import subprocess
 import threading
 import time
 
-HERE = os.path.dirname(os.path.abspath(__file__))
+from program import parsed
+
 PER_FRAME = 10_000
 START = 1_704_067_200_000_000_000
 
@@ -62,11 +62,8 @@ def main():
     parser = argparse.ArgumentParser(description=__doc__, formatter_class=argparse.RawDescriptionHelpFormatter)
     parser.add_argument("--lines", type=int, default=1_000_000)
     parser.add_argument("--small", type=int, default=50_000)
-    parser.add_argument("--program", default=os.path.join(HERE, "..", "crates", "tsdb", "out", "tsdb"))
     parser.add_argument("--same", action="store_true")
-    options = parser.parse_args()
-    if not os.access(options.program, os.X_OK):
-        parser.error(f"no program at {options.program}; build it by `rt run -- run < stdin` in crates/tsdb")
+    options = parsed(parser)
     rounds = [(65_536, options.lines), (65_536, options.lines)]
     rounds += [(piece, lines) for piece in (65_536, 7, 1) for lines in (options.small, 2 * options.small)]
     if options.same:

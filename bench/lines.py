@@ -11,12 +11,10 @@ Build the program first: run `rt run -- run < stdin` in crates/tsdb.
 """
 import argparse
 import itertools
-import os
-import subprocess
 import tempfile
-import time
 
-HERE = os.path.dirname(os.path.abspath(__file__))
+from program import parsed, run
+
 START = 1_704_067_200_000_000_000
 
 
@@ -44,18 +42,6 @@ def write_frames(file, lines, per_frame):
     return count, size + file.write(b"X\n")
 
 
-def run(program, source):
-    """Feeds the program from a file, and gives the seconds, the status, the answer and what it took.
-
-    This process stays small, since the most memory of a process counts what it was before it became the program.
-    """
-    began = time.perf_counter()
-    process = subprocess.Popen([program, "run"], stdin=source, stdout=subprocess.PIPE)
-    answer = process.stdout.read()
-    _, status, usage = os.wait4(process.pid, 0)
-    return time.perf_counter() - began, status, answer, usage
-
-
 def measure(program, name, make, lines, per_frame):
     """Runs so many lines, each made from its number, in frames of so many, and prints what was measured."""
     with tempfile.TemporaryFile() as source:
@@ -72,8 +58,7 @@ def measure(program, name, make, lines, per_frame):
 def main():
     parser = argparse.ArgumentParser(description=__doc__, formatter_class=argparse.RawDescriptionHelpFormatter)
     parser.add_argument("--lines", type=int, default=1_000_000)
-    parser.add_argument("--program", default=os.path.join(HERE, "..", "crates", "tsdb", "out", "tsdb"))
-    options = parser.parse_args()
+    options = parsed(parser)
     for tables in (1, 100):
         def make(i):
             return line(i, tables)

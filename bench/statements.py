@@ -12,12 +12,10 @@ Build the program first: run `rt run -- run < stdin` in crates/tsdb.
 """
 import argparse
 import itertools
-import os
-import subprocess
 import tempfile
-import time
 
-HERE = os.path.dirname(os.path.abspath(__file__))
+from program import parsed, run
+
 LONGEST = 65_536
 NOT_BUILT = b"E 40 0\n"
 NO_MEMORY = b"E 61 0\n"
@@ -64,18 +62,6 @@ FORMS = [
 ]
 
 
-def run(program, source):
-    """Feeds the program from a file, and gives the seconds, the status, the answer and what it took.
-
-    This process stays small, since the most memory of a process counts what it was before it became the program.
-    """
-    began = time.perf_counter()
-    process = subprocess.Popen([program, "run"], stdin=source, stdout=subprocess.PIPE)
-    answer = process.stdout.read()
-    _, status, usage = os.wait4(process.pid, 0)
-    return time.perf_counter() - began, status, answer, usage
-
-
 def measure(program, name, rows):
     """Runs these texts, each with its reply, and prints what was measured. Gives whether each reply was right."""
     count = size = 0
@@ -100,10 +86,7 @@ def main():
     parser = argparse.ArgumentParser(description=__doc__, formatter_class=argparse.RawDescriptionHelpFormatter)
     parser.add_argument("--count", type=int, default=10_000, help="how many statements")
     parser.add_argument("--texts", type=int, default=50, help="how many texts of one form and length")
-    parser.add_argument("--program", default=os.path.join(HERE, "..", "crates", "tsdb", "out", "tsdb"))
-    options = parser.parse_args()
-    if not os.access(options.program, os.X_OK):
-        parser.error(f"no program at {options.program}; build it by `rt run -- run < stdin` in crates/tsdb")
+    options = parsed(parser)
     good = measure(options.program, "no text", [])
     good &= measure(options.program, "statements", itertools.islice(itertools.cycle(STATEMENTS), options.count))
     for name, make, reply in FORMS:

@@ -2,13 +2,8 @@
 use Rattle.std.proofs.Common.{◌≡◌, ℕ, Bool, true, false, cond, List, [], ◌∷◌, ◌++◌, map, fold, refl, sym, ap, ◌∙◌, Option, Some, None}
 use Rattle.std.specs.List.{find}
 use Rattle.std.specs.Option.{option_map, option_or}
-use Rattle.std.specs.Cmp.{IsEquivalence}
-use Rattle.std.specs.Cmp.Lexicographic.{on_texts_equal}
-use Rattle.std.specs.Str.{str_to_ascii_lowercase}
 use Rattle.std.proofs.lemmas.List.Folds.{find-append}
 use Rattle.std.proofs.lemmas.List.Sums.{fold-append}
-use Rattle.qd_base.specs.declared.schema.ColType.{ColType}
-use Rattle.qd_base.specs.declared.schema.ColType.TheVariants as kind
 use Rattle.qd_base.specs.declared.schema.Col.{Col}
 use Rattle.qd_base.specs.declared.op.Op.{Op}
 use Rattle.qd_base.specs.declared.op.Op.TheVariants as op
@@ -17,52 +12,18 @@ use Rattle.qd_base.specs.Rows.{Row, put, time_in}
 use Rattle.qd_base.specs.Schemas.{at_name, same_name}
 use Rattle.qd_base.specs.Database.{Database, StoredTable, filled, missing, step, widened}
 use Rattle.qd_base.specs.Replay.{after, commit, replay}
-use Rattle.qd_list.specs.Finding.{IsTable, Shows, or_else, table_step}
+use Rattle.qd_base.proofs.Alike.{find-at_other, find-at_same}
+use Rattle.qd_base.proofs.Tables.{missing-time}
+use Rattle.qd_list.specs.Finding.{IsTable, Shows, table_step}
 use Rattle.qd_list.specs.Sorting.{in_time_order}
 use Rattle.qd_list.specs.declared.found.Found.{Found}
 use Rattle.qd_list.proofs.SortingLemmas.{order_longer}
-
-names_equal : IsEquivalence same_name
-names_equal = on_texts_equal str_to_ascii_lowercase
 
 -- the table of a name
 abbrev pub named : List ℕ → Database → Option StoredTable
 named name db = find (λ (t : StoredTable). same_name t.schema.name name) db
 
-cond_some : (b : Bool) (t : StoredTable) (o : Option StoredTable) → b ≡ true → cond b (Some t) o ≡ Some t
-cond_some b t o e = rw e refl
-
-cond_other : (b : Bool) (t : StoredTable) (o : Option StoredTable) → b ≡ false → cond b (Some t) o ≡ o
-cond_other b t o e = rw e refl
-
--- a change of the table of a name, where the name is one with that which is looked for, and where it isn't
-module _ (change : StoredTable → StoredTable) (keeps : (t : StoredTable) → (change t).schema.name ≡ t.schema.name) (table name : List ℕ) where
-  -- names that are one are one with the same names
-  alike : same_name table name ≡ true → (other : List ℕ) → same_name other name ≡ same_name other table
-  alike same other = names_equal.symm other name ∙ sym (names_equal.congr table name other same) ∙ names_equal.symm table other
-
-  first_same : (t : StoredTable) (ts others : List StoredTable) (b : Bool) → same_name t.schema.name table ≡ b → same_name t.schema.name name ≡ b → named name others ≡ option_map change (named name ts) → named name (cond b (change t ∷ ts) (t ∷ others)) ≡ option_map change (named name (t ∷ ts))
-  first_same t ts others true e is rest = cond_some (same_name (change t).schema.name name) (change t) (named name ts) (ap (λ (n : List ℕ). same_name n name) (keeps t) ∙ is) ∙ ap (option_map change) (sym (cond_some (same_name t.schema.name name) t (named name ts) is))
-  first_same t ts others false e is rest = rw is rest
-
-  at_same : same_name table name ≡ true → (db : Database) → named name (at_name (λ (t : StoredTable). t.schema.name) change table db) ≡ option_map change (named name db)
-  at_same same [] = refl
-  at_same same (t ∷ ts) = first_same t ts (at_name (λ (t : StoredTable). t.schema.name) change table ts) (same_name t.schema.name table) refl (alike same t.schema.name) (at_same same ts)
-
-  apart : same_name table name ≡ false → (other : List ℕ) → same_name other table ≡ true → same_name other name ≡ false
-  apart differ other e = names_equal.congr other table name e ∙ differ
-
-  first_other : (t : StoredTable) (ts others : List StoredTable) (b : Bool) → (b ≡ true → same_name t.schema.name name ≡ false) → named name others ≡ named name ts → named name (cond b (change t ∷ ts) (t ∷ others)) ≡ named name (t ∷ ts)
-  first_other t ts others true differ rest =
-      cond_other (same_name (change t).schema.name name) (change t) (named name ts) (ap (λ (n : List ℕ). same_name n name) (keeps t) ∙ differ refl)
-      ∙ sym (cond_other (same_name t.schema.name name) t (named name ts) (differ refl))
-  first_other t ts others false differ rest = ap (λ (o : Option StoredTable). cond (same_name t.schema.name name) (Some t) o) rest
-
-  at_other : same_name table name ≡ false → (db : Database) → named name (at_name (λ (t : StoredTable). t.schema.name) change table db) ≡ named name db
-  at_other differ [] = refl
-  at_other differ (t ∷ ts) = first_other t ts (at_name (λ (t : StoredTable). t.schema.name) change table ts) (same_name t.schema.name table) (λ e. apart differ t.schema.name e) (at_other differ ts)
-
-or_same : (b : Bool) (there : Option StoredTable) (t : StoredTable) → option_or there (cond b (Some t) None) ≡ cond b (or_else there (Some t)) there
+or_same : (b : Bool) (there : Option StoredTable) (t : StoredTable) → option_or there (cond b (Some t) None) ≡ cond b (option_or there (Some t)) there
 or_same true None t = refl
 or_same true (Some s) t = refl
 or_same false None t = refl
@@ -70,8 +31,8 @@ or_same false (Some s) t = refl
 
 by_name : (b : Bool) (table name : List ℕ) (change : StoredTable → StoredTable) → ((t : StoredTable) → (change t).schema.name ≡ t.schema.name) → same_name table name ≡ b → (db : Database)
     → named name (at_name (λ t. t.schema.name) change table db) ≡ cond b (option_map change (named name db)) (named name db)
-by_name true table name change keeps e db = at_same change keeps table name e db
-by_name false table name change keeps e db = at_other change keeps table name e db
+by_name true table name change keeps e db = find-at_same (λ (t : StoredTable). t.schema.name) change keeps table name e db
+by_name false table name change keeps e db = find-at_other (λ (t : StoredTable). t.schema.name) change keeps table name e db
 
 named_step : (name : List ℕ) (db : Database) (o : Op) → named name (step db o) ≡ table_step name (named name db) o
 named_step name db (op.Create schema) = find-append (λ (t : StoredTable). same_name t.schema.name name) db (record { schema = schema; rows = [] } ∷ []) ∙ or_same (same_name schema.name name) (named name db) (record { schema = schema; rows = [] })
@@ -95,20 +56,13 @@ named_after name history = named_replay name [] history
 
 -- ---- what was found, with a change
 
-timeless : (k : ColType) → time_in (missing k) ≡ 0
-timeless kind.Long = refl
-timeless kind.Bool = refl
-timeless kind.Symbol = refl
-timeless kind.Varchar = refl
-timeless kind.Time = refl
-
 pub table_wider : (found now : Found) (t : StoredTable) (col : Col) → IsTable found t → now.cols ≡ found.cols ++ col ∷ [] → now.time_col ≡ found.time_col → now.rows.items ≡ map (λ (r : Row). r ++ missing col.kind ∷ []) found.rows.items → IsTable now (widened col t)
 table_wider found now t col h cols time_col rows = record {
   cols = cols ∙ ap (λ (cs : List Col). cs ++ col ∷ []) h.cols;
   time_col = time_col ∙ h.time_col;
   keys = h.keys;
   rows =
-      ap (map (λ (r : Row). r ++ missing col.kind ∷ [])) h.rows ∙ order_longer found.time_col (missing col.kind) (timeless col.kind) [] found.rows.items
+      ap (map (λ (r : Row). r ++ missing col.kind ∷ [])) h.rows ∙ order_longer found.time_col (missing col.kind) (missing-time col.kind) [] found.rows.items
       ∙ ap (in_time_order found.time_col) (sym rows) ∙ ap (λ (c : ℕ). in_time_order c now.rows.items) (sym time_col);
 }
 

@@ -13,6 +13,7 @@ use Rattle.qd_base.specs.declared.request.Reply.{Reply}
 use Rattle.qd_base.specs.declared.request.Reply.TheVariants as reply
 use Rattle.qd_base.specs.Database.{Database, schemas_of}
 use Rattle.qd_base.specs.Replay.{after, first}
+use Rattle.qd_base.proofs.Lists.{get-last}
 use Rattle.qd_ilp.specs.Whole.{IsReading, Reading}
 use Rattle.qd_session.specs.Looks.{Grows, look_at}
 use Rattle.qd_session.specs.Legal.{Answers, GoesOn, Handles}
@@ -29,11 +30,6 @@ use Rattle.qd_session.proofs.RuleLemmas.{allowed-wants}
 range_more : (a n : ℕ) → range_with_len a (suc n) ≡ range_with_len a n ++ (a + n) ∷ []
 range_more a zero = ap (λ m. m ∷ []) (omega arith)
 range_more a (suc n) = ap (λ l. a ∷ l) (range_more (a + 1) n ∙ ap (λ m. range_with_len (a + 1) n ++ m ∷ []) (omega arith))
-
--- the element behind a list
-slice_get_behind : {X : Type 0} (xs : List X) (x : X) → slice_get (xs ++ x ∷ []) (length xs) ≡ Some x
-slice_get_behind [] x = refl
-slice_get_behind (y ∷ ys) x = slice_get_behind ys x
 
 own_more : (history : List Entry) (entry : Entry) (n : ℕ) → n ≡ length history + 1 → range_with_len 1 (length (history ++ entry ∷ [])) ≡ range_with_len 1 (length history) ++ n ∷ []
 own_more history entry n is =
@@ -60,7 +56,7 @@ answers_done : (old : Listed) (time : ℕ) (text : List ℕ) (n : ℕ) (entry : 
 answers_done old time text n entry says is =
     let before : n - 1 ≡ length old.history = omega arith in
     let front : first (old.history ++ entry ∷ []) (n - 1) ≡ after old.history = ap after (ap (λ m. take m (old.history ++ entry ∷ [])) before ∙ take_at old.history (entry ∷ []) (length old.history) refl) in
-    let at : slice_get (old.history ++ entry ∷ []) (n - 1) ≡ Some entry = ap (slice_get (old.history ++ entry ∷ [])) before ∙ slice_get_behind old.history entry in
+    let at : slice_get (old.history ++ entry ∷ []) (n - 1) ≡ Some entry = ap (slice_get (old.history ++ entry ∷ [])) before ∙ get-last old.history entry in
     let longer : length (old.history ++ entry ∷ []) ≡ length old.history + 1 = length_push old.history entry in
     record {
       grows = record { history = (entry ∷ [], refl); sequenced = omega (arith, longer); known = omega arith; faults = omega arith };

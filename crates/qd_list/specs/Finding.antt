@@ -1,5 +1,6 @@
 -- The table of one name, as changes make it and change it.
 use Rattle.std.specs.Prelude.{◌≡◌, ℕ, List, [], Option, Some, None, option_map, if◌then◌else◌}
+use Rattle.std.specs.Option.{option_or}
 use Rattle.qd_base.specs.declared.op.Op.{Op}
 use Rattle.qd_base.specs.declared.op.Op.TheVariants as op
 use Rattle.qd_base.specs.Database.{StoredTable, filled, widened}
@@ -7,13 +8,9 @@ use Rattle.qd_base.specs.Schemas.{same_name}
 use Rattle.qd_list.specs.Sorting.{in_time_order}
 use Rattle.qd_list.specs.declared.found.Found.{Found}
 
-abbrev pub or_else : {A : Type 0} → Option A → Option A → Option A
-or_else (Some x) other = Some x
-or_else None other = other
-
 -- the table of a name after a change
 abbrev pub table_step : List ℕ → Option StoredTable → Op → Option StoredTable
-table_step name there (op.Create schema) = if same_name schema.name name then or_else there (Some (record { schema = schema; rows = [] })) else there
+table_step name there (op.Create schema) = if same_name schema.name name then option_or there (Some (record { schema = schema; rows = [] })) else there
 table_step name there (op.AddColumn table col) = if same_name table name then option_map (widened col) there else there
 table_step name there (op.Insert table rows) = if same_name table name then option_map (filled rows) there else there
 

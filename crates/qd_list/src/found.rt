@@ -10,7 +10,7 @@ ghost use Rattle.qd_list.specs.Sorting.{in_time_order};
 
 use crate::sorting::in_time_order;
 use qd_base::{
-    Cell, Col, ColList, ColType, Duplicate, Entry, Memory, Op, Row, RowList, Schema, Table, Txt,
+    Col, ColList, ColType, Duplicate, Entry, Memory, Op, Row, RowList, Schema, Table, Txt,
     same_name,
 };
 use std::alloc::Global;
@@ -161,20 +161,10 @@ fn wider(alloc: Global, rows: Vec<Row>, kind: ColType) -> Result<Vec<Row>, Memor
     let mut wide = Vec::with_capacity(alloc, rows.len())?;
     for row in rows {
         let mut row = row;
-        row.push(missing(kind))?;
+        row.push(kind.missing())?;
         wide.push(row)?;
     }
     Ok(wide)
-}
-
-/// What a row holds in a column that it lacks.
-fn missing(kind: ColType) -> Cell
-    ensures cell { result ≡ missing kind }
-{
-    match kind {
-        ColType::Bool => Cell::Bool(false),
-        _ => Cell::Null,
-    }
 }
 
 /// A table with rows put behind its own.

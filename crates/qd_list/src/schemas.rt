@@ -21,7 +21,7 @@ pub fn inserts_only(ops: &[Op]) -> bool
 }
 
 /// Gives the schemas after changes. It costs time and memory linear in the size of all of them, and for each change time
-/// linear in the number of tables.
+/// logarithmic in the number of tables.
 pub fn schemas_after(schemas: &Schemas, ops: &[Op]) -> Result<Schemas, Memory>
     requires { AreLawful schemas.now ops.now }
     ensures after { IfOk result (λ after. after ≡ fold schemas_step schemas.now ops.now) }

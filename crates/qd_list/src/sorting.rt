@@ -1,9 +1,7 @@
 //! Rows in order of time.
-ghost use Rattle.std.specs.Prelude.{◌≡◌, map, IfOk, OnOk};
-ghost use Rattle.std.specs.Bool.{OnTrue};
-ghost use Rattle.std.specs.List.Sorted.{IsNonDecreasingBy};
+ghost use Rattle.std.specs.Prelude.{◌≡◌, map, IfOk};
 ghost use Rattle.qd_base.specs.Rows.{time_in, time_of};
-ghost use Rattle.qd_list.specs.Sorting.{IsSortedFrom, in_time_order, timed_at};
+ghost use Rattle.qd_list.specs.Sorting.{in_time_order, timed_at};
 
 use qd_base::{Cell, Memory, Row, RowList, Seq};
 use std::alloc::Global;
@@ -20,35 +18,9 @@ struct Timed {
 pub fn in_time_order(alloc: Global, rows: Vec<Row>, time_col: u32) -> Result<RowList, Memory>
     ensures rows { IfOk result (λ list. list ≡ in_time_order time_col rows.items) }
 {
-    if rises(&rows, time_col) {
-        return listed(alloc, rows);
-    }
     let mut timed = with_times(alloc, rows, time_col)?;
-    sort_by_time(&mut timed)?;
+    timed.sort_by_key(|timed| timed.time)?;
     without_times(alloc, timed)
-}
-
-/// Whether no row is earlier than the one before it.
-fn rises(rows: &[Row], time_col: u32) -> bool
-    ensures rises { OnTrue result (IsNonDecreasingBy (time_of time_col) rows.now) }
-{
-    for i in 0..rows.len() {
-        if 0 < i && time_of(&rows[i], time_col) < time_of(&rows[i - 1], time_col) {
-            return false;
-        }
-    }
-    true
-}
-
-/// The rows as a list.
-fn listed(alloc: Global, rows: Vec<Row>) -> Result<RowList, Memory>
-    ensures rows { IfOk result (λ list. list ≡ rows.items) }
-{
-    let mut list = Seq::new(alloc);
-    for row in rows {
-        list.push(row)?;
-    }
-    Ok(list)
 }
 
 /// Each row with its time.
@@ -61,13 +33,6 @@ fn with_times(alloc: Global, rows: Vec<Row>, time_col: u32) -> Result<Vec<Timed>
         timed.push(Timed { time, row })?;
     }
     Ok(timed)
-}
-
-/// Sorts rows by time. Those of one time keep their order.
-fn sort_by_time(timed: &mut Vec<Timed>) -> Result<(), Memory>
-    ensures ok { OnOk result (IsSortedFrom timed.old.items timed.new.items) }
-{
-    timed.sort_by_key(|row| row.time)
 }
 
 /// The rows alone, as a list.

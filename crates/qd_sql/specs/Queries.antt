@@ -1,7 +1,7 @@
 -- The rules of queries.
 use Rattle.std.specs.Prelude.{ℕ, ◌+◌, true, false, if◌then◌else◌, List, codes, Option, Some, None, Ok}
 use Rattle.qd_tokens.specs.declared.token.Kind.TheVariants as kind
-use Rattle.qd_sql.specs.declared.query.TheConstants.{MAX_NESTING}
+use Rattle.qd_base.specs.declared.limits.TheConstants.{MAX_NESTING}
 use Rattle.qd_trees.specs.declared.tree.AggOf.{AggOf}
 use Rattle.qd_trees.specs.declared.tree.AggOf.TheVariants as agg
 use Rattle.qd_trees.specs.declared.tree.AlignTo.{AlignTo}

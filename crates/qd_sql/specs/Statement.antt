@@ -6,8 +6,7 @@ use Rattle.qd_tokens.specs.declared.token.Kind.TheVariants as kind
 use Rattle.qd_trees.specs.declared.stop.Stop.TheVariants as stop
 use Rattle.qd_sql.specs.declared.stmt.SqlFault.{SqlFault}
 use Rattle.qd_sql.specs.declared.stmt.SqlFault.TheVariants as fault
-use Rattle.qd_sql.specs.declared.stmt.TheConstants.{TOO_LARGE}
-use Rattle.qd_trees.specs.declared.range.TheConstants.{MAX_STRIDE}
+use Rattle.qd_base.specs.declared.limits.TheConstants.{MAX_NUMBER, MAX_STRIDE}
 use Rattle.qd_trees.specs.declared.tree.Stmt.{Stmt}
 use Rattle.qd_trees.specs.declared.tree.Stmt.TheVariants as is
 use Rattle.qd_tokens.specs.Tokens.{Lexeme, tokens}
@@ -49,10 +48,10 @@ is_unbuilt (t ∷ u ∷ ts) = is_unbuilt_word t || (is_word (codes "CREATE") t &
 abbrev pub is_far_count : ℕ → Bool
 is_far_count count = count == 0 || nat_lt MAX_STRIDE count
 
--- a number above 9223372036854775807, or a stride's count outside 1 to 1,000,000
+-- a number above the greatest, or a stride's count that is 0 or above the greatest
 unfoldable pub is_far : Lexeme → Bool
 is_far t =
-    if same_kind t.kind kind.Number then number_of t.content == TOO_LARGE
+    if same_kind t.kind kind.Number then nat_lt MAX_NUMBER (number_of t.content)
     else (if same_kind t.kind kind.Stride then is_far_count (stride_count t.content) else false)
 
 -- the offset of the first such token

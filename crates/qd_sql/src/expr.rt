@@ -9,7 +9,7 @@ use qd_base::Seq;
 use qd_tokens::Kind;
 use qd_trees::{
     AddOp, AddTerm, AndNeg, Check, Cmp, Column, Conj, Cursor, Expr, MulOp, MulSigned, Neg, OrConj,
-    Plus, Prime, Signed, Stop, Term, Test, lits,
+    Plus, Prime, Signed, Stop, Term, Test, lits, offsets,
 };
 use sqlite_items::{Boxed, Items};
 use std::alloc::Global;
@@ -243,28 +243,14 @@ impl<F: Fn(Global, &mut Cursor<'_, '_>, usize) -> Result<Expr, Stop>> Rules<F> {
 fn nots(alloc: Global, tokens: &mut Cursor<'_, '_>) -> Result<Seq<u64>, Stop>
     ensures { Reads (spec.nots tokens.old) result tokens.new }
 {
-    let mut found = Seq::new(alloc);
-    for _turn in 0..tokens.len() {
-        let Some(at) = tokens.word(b"NOT") else {
-            return Ok(found);
-        };
-        found.push(at)?;
-    }
-    Ok(found)
+    offsets(alloc, tokens, |tokens| tokens.word(b"NOT"))
 }
 
 /// The offsets of the minuses that come next.
 fn minuses(alloc: Global, tokens: &mut Cursor<'_, '_>) -> Result<Seq<u64>, Stop>
     ensures { Reads (spec.minuses tokens.old) result tokens.new }
 {
-    let mut found = Seq::new(alloc);
-    for _turn in 0..tokens.len() {
-        let Some(at) = tokens.sign(Kind::Minus) else {
-            return Ok(found);
-        };
-        found.push(at)?;
-    }
-    Ok(found)
+    offsets(alloc, tokens, |tokens| tokens.sign(Kind::Minus))
 }
 
 /// name ["." name]

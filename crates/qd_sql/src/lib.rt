@@ -12,8 +12,7 @@ pub use laws::{refusals_have_causes, statements_stand, texts_are_answered};
 pub use qd_trees::{
     AddOp, AddTerm, AggOf, AlignTo, AndNeg, Boxed, Check, Cmp, Column, ColumnDef, Conj, Create,
     Dedup, Expr, FillWith, Fills, Filter, Insert, Item, Items, Join, JoinOf, Latest, Limit, Lit,
-    MAX_NUMBER, MAX_STRIDE, Magnitude, MulOp, MulSigned, Name, Neg, Number, OrConj, OrderKey, Plus,
-    Prime, Query, Sampled, Selected, Shown, Signed, Source, Stmt, StrideCount, StrideOf,
-    StrideUnit, Term, Test, Text, Tuple,
+    Magnitude, MulOp, MulSigned, Name, Neg, Number, OrConj, OrderKey, Plus, Prime, Query, Sampled,
+    Selected, Shown, Signed, Source, Stmt, StrideCount, StrideOf, Term, Test, Text, Tuple,
 };
 pub use stmt::{SqlFault, parse_stmt};

@@ -4,7 +4,7 @@ ghost use Rattle.qd_sql.specs.Queries as spec;
 ghost use Rattle.qd_trees.specs.Steps.{Reads, Takes};
 
 use crate::expr::{column, expr};
-use qd_base::Seq;
+use qd_base::{MAX_NESTING, Seq};
 use qd_tokens::Kind;
 use qd_trees::{
     AggOf, AlignTo, Column, Cursor, Expr, FillWith, Fills, Filter, Item, Join, JoinOf, Latest,
@@ -12,9 +12,6 @@ use qd_trees::{
     names_to_bracket,
 };
 use std::alloc::Global;
-
-/// How deep brackets may nest. Deeper ones find no memory, since the stack is memory.
-const MAX_NESTING: usize = 256;
 
 /// An expression of a query. It is one level, and each bracket in it one more.
 #[tactic(auto, unfolding(crate::specs::Queries::whole))]

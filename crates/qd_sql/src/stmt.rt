@@ -5,16 +5,12 @@ ghost use Rattle.qd_sql.specs.Statement.{Answers};
 ghost use Rattle.qd_trees.specs.Steps.{Reads, lexemes, seen};
 
 use crate::query::query;
-use qd_base::{Code, Memory};
+use qd_base::{Code, MAX_NUMBER, MAX_STRIDE, Memory};
 use qd_tokens::{Kind, Token, tokens};
 use qd_trees::{
-    Cursor, MAX_STRIDE, Stmt, Stop, create, insert, is_word, number_of, same_kind, show,
-    stride_count,
+    Cursor, Stmt, Stop, create, insert, is_word, number_of, same_kind, show, stride_count,
 };
 use std::alloc::Global;
-
-/// The first number that is too large for a literal, 2^63.
-const TOO_LARGE: u64 = 1 << 63;
 
 /// Why a text gives no statement.
 #[derive(Clone, Copy, Debug, PartialEq, Eq)]
@@ -186,7 +182,7 @@ fn is_far(token: &Token<'_>) -> bool
     ensures { result ≡ spec.is_far (seen token.now) }
 {
     if same_kind(token.kind, Kind::Number) {
-        number_of(token.content) == TOO_LARGE
+        MAX_NUMBER < number_of(token.content)
     } else if same_kind(token.kind, Kind::Stride) {
         is_far_count(stride_count(token.content))
     } else {

@@ -8,8 +8,8 @@ use Rattle.qd_base.specs.declared.limits.TheConstants.{MAX_TIME}
 use Rattle.qd_time.specs.Calendar.{CalendarDate, IsCalendarDate, Civil, civil_of, day_micros, hour_micros, minute_micros, second_micros, midnight, month_first, year_first, date_of_day, day_number}
 use Rattle.qd_time.specs.Spelled.{IsCivil}
 use Rattle.qd_time.specs.Units.{start_of}
-use Rattle.qd_time.specs.declared.units.Unit.{Unit}
-use Rattle.qd_time.specs.declared.units.Unit.TheVariants.{Micro, Milli, Second, Minute, Hour, Day, Month, Year}
+use Rattle.qd_base.specs.declared.unit.TimeUnit.{TimeUnit}
+use Rattle.qd_base.specs.declared.unit.TimeUnit.TheVariants.{Micro, Milli, Second, Minute, Hour, Day, Month, Year}
 use Rattle.qd_time.specs.declared.calendar.TheConstants.{LAST_DAY}
 use Rattle.qd_time.proofs.DateLemmas.{date_of_day-is, date_of_day-year_high, first_is}
 use Rattle.qd_time.proofs.DateOrderLemmas.{count-lt_year, count-day_number, date_of_day-day_number, day_number-date_of_day}
@@ -86,7 +86,7 @@ civil_of-midnight d h =
     (ap date_of_day (midnight_day (day_number d)) ∙ date_of_day-day_number d h) (omega arith) (omega arith) (omega arith) (omega arith)
 
 -- a unit's first moment shows the least that is spelled alike
-pub civil_of-start_of : (u : Unit) (ts : ℕ) → civil_of (start_of u ts) ≡ cut u (civil_of ts)
+pub civil_of-start_of : (u : TimeUnit) (ts : ℕ) → civil_of (start_of u ts) ≡ cut u (civil_of ts)
 civil_of-start_of Micro ts = refl
 civil_of-start_of Milli ts = cut_civil ts (start_of Milli ts) _ _ _ _ _ (omega arith) (omega arith) (omega arith) (omega arith) (omega arith)
 civil_of-start_of Second ts = cut_civil ts (start_of Second ts) _ _ _ _ _ (omega arith) (omega arith) (omega arith) (omega arith) (omega arith)

@@ -12,8 +12,8 @@ use Rattle.qd_time.specs.Spelled.{IsZone, Spells, SpellsAs, SpellsTime, SpellsEa
 use Rattle.qd_time.specs.Units.{start_of}
 use Rattle.qd_time.specs.declared.fault.TimeFault.{TimeFault}
 use Rattle.qd_time.specs.declared.fault.TimeFault.TheVariants.{Form, Range}
-use Rattle.qd_time.specs.declared.units.Unit.{Unit}
-use Rattle.qd_time.specs.declared.units.Unit.TheVariants.{Micro, Milli, Second, Minute, Hour, Day, Month, Year}
+use Rattle.qd_base.specs.declared.unit.TimeUnit.{TimeUnit}
+use Rattle.qd_base.specs.declared.unit.TimeUnit.TheVariants.{Micro, Milli, Second, Minute, Hour, Day, Month, Year}
 use Rattle.qd_time.proofs.DateLemmas.{date_of_day-is}
 use Rattle.qd_time.proofs.ReadingLemmas.{Found, found_year, reads, cut, IsShort}
 use Rattle.qd_time.proofs.CivilLemmas.{civil_of-injective, civil_of-is, civil_of-short, civil_of-start_of}
@@ -34,12 +34,12 @@ found_first text r ts f e =
     civil_of-injective (start_of r.unit ts) ts (civil_of-start_of r.unit ts ∙ ap (cut r.unit) e ∙ f.least ∙ sym e)
 
 -- a spelled text is read whole
-spelled_reads : (text : List ℕ) (u : Unit) (c : Civil) → IsShort c → Spells text u c → year_at text ≡ read_as u (cut u c) []
+spelled_reads : (text : List ℕ) (u : TimeUnit) (c : Civil) → IsShort c → Spells text u c → year_at text ≡ read_as u (cut u c) []
 spelled_reads text u c short s =
     ap year_at (s.text_is ∙ ap (λ x. text_to u s.mark c ++ x) (sym (append-nil s.zone)))
     ∙ reads c short u s.mark s.zone [] s.mark_is s.zone_is (inl refl)
 
-time_reads : (text : List ℕ) (u : Unit) (ts : ℕ) → SpellsAs text u ts → year_at text ≡ read_as u (civil_of ts) []
+time_reads : (text : List ℕ) (u : TimeUnit) (ts : ℕ) → SpellsAs text u ts → year_at text ≡ read_as u (civil_of ts) []
 time_reads text u ts s =
     spelled_reads text u (civil_of ts) (civil_of-short ts s.in_range) s.spells
     ∙ ap (λ c. read_as u c []) (sym (civil_of-start_of u ts) ∙ ap civil_of s.first)
@@ -55,7 +55,7 @@ early_short c is early = record {
   micro_high = omega (arith, is.micro_high);
 }
 
-pub cut_is : (u : Unit) (c : Civil) → IsCivil c → IsCivil (cut u c) × ((cut u c).date.year ≡ c.date.year)
+pub cut_is : (u : TimeUnit) (c : Civil) → IsCivil c → IsCivil (cut u c) × ((cut u c).date.year ≡ c.date.year)
 cut_is Year c is =
     let long = days_in_month_bounds (pos c.date.year) 1 in
     (record { month_low = omega arith; month_high = omega arith; day_low = omega arith; day_high = omega arith; hour_high = omega arith; minute_high = omega arith; second_high = omega arith; micro_high = omega arith }, refl)
@@ -160,7 +160,7 @@ printed_spells ts h = (
   },
 )
 
-no_zone : (u : Unit) → IsZone u []
+no_zone : (u : TimeUnit) → IsZone u []
 no_zone Micro = inl refl
 no_zone Milli = inl refl
 no_zone Second = inl refl
@@ -171,7 +171,7 @@ no_zone Month = refl
 no_zone Year = refl
 
 -- texts that are alike as far as a unit are of moments of one unit
-pub text_to-apart : (u : Unit) (a b : ℕ) → a ≤ MAX_TIME → b ≤ MAX_TIME → text_to u 84 (civil_of a) ≡ text_to u 84 (civil_of b) → start_of u a ≡ start_of u b
+pub text_to-apart : (u : TimeUnit) (a b : ℕ) → a ≤ MAX_TIME → b ≤ MAX_TIME → text_to u 84 (civil_of a) ≡ text_to u 84 (civil_of b) → start_of u a ≡ start_of u b
 text_to-apart u a b ha hb e =
     let read = λ (ts : ℕ) (h : ts ≤ MAX_TIME). spelled_reads (text_to u 84 (civil_of ts)) u (civil_of ts) (civil_of-short ts h) (record { mark = 84; zone = []; mark_is = inl refl; zone_is = no_zone u; text_is = sym (append-nil (text_to u 84 (civil_of ts))) }) in
     let same = sym (read a ha) ∙ ap year_at e ∙ read b hb in

@@ -7,8 +7,8 @@ use Rattle.qd_time.specs.Calendar.{Civil}
 use Rattle.qd_time.specs.Printed.{digits, text_to}
 use Rattle.qd_time.specs.Spelled.{IsMark, IsZone}
 use Rattle.qd_time.specs.Reading.{◌>>=◌, Number, Read, read_as, goes_on, ends_at, after_zone, two_at, three_at, four_at, digit_at, fraction_at, micros_at, second_at, after_second, minute_at, after_minute, hour_at, after_hour, day_at, after_day, month_at, after_month, year_at, after_year, year_start, with_month, with_day}
-use Rattle.qd_time.specs.declared.units.Unit.{Unit}
-use Rattle.qd_time.specs.declared.units.Unit.TheVariants.{Micro, Milli, Second, Minute, Hour, Day, Month, Year}
+use Rattle.qd_base.specs.declared.unit.TimeUnit.{TimeUnit}
+use Rattle.qd_base.specs.declared.unit.TimeUnit.TheVariants.{Micro, Milli, Second, Minute, Hour, Day, Month, Year}
 use Rattle.qd_time.proofs.DigitLemmas.{bind-some, two_at-digits, two_at-some, three_at-digits, three_at-some, four_at-digits, four_at-some}
 
 -- a moment from its parts
@@ -16,7 +16,7 @@ abbrev pub at : ℕ → ℕ → ℕ → ℕ → ℕ → ℕ → ℕ → Civil
 at y m d hour minute second micro = record { date = record { year = y; month = m; day = d }; hour = hour; minute = minute; second = second; micro = micro }
 
 -- the first moment that is spelled alike as far as the unit
-abbrev pub cut : Unit → Civil → Civil
+abbrev pub cut : TimeUnit → Civil → Civil
 cut Year c = at c.date.year 1 1 0 0 0 0
 cut Month c = at c.date.year c.date.month 1 0 0 0 0
 cut Day c = at c.date.year c.date.month c.date.day 0 0 0 0
@@ -93,7 +93,7 @@ abbrev FitDigits : Civil → Type 0
 FitDigits c = (c.date.year < 10 ^ 4) × (c.date.month < 10 ^ 2) × (c.date.day < 10 ^ 2) × (c.micro < 10 ^ 6)
 
 -- a text that is spelled as far as a unit, and ends there
-found_end : (text : List ℕ) (u : Unit) (c : Civil) (mark : ℕ) (zone rest : List ℕ) (r : Read) → IsMark mark → IsZone u zone → cut u c ≡ c → FitDigits c → text ≡ text_to u mark c ++ (zone ++ rest) → read_as u c rest ≡ Some r → Found text r
+found_end : (text : List ℕ) (u : TimeUnit) (c : Civil) (mark : ℕ) (zone rest : List ℕ) (r : Read) → IsMark mark → IsZone u zone → cut u c ≡ c → FitDigits c → text ≡ text_to u mark c ++ (zone ++ rest) → read_as u c rest ≡ Some r → Found text r
 found_end text u c mark zone rest r mark_is zone_is least fit e ends =
     subst (Found text) (same_Some _ r ends) (record {
       mark = mark;
@@ -109,7 +109,7 @@ found_end text u c mark zone rest r mark_is zone_is least fit e ends =
     })
 
 -- and with a `Z` that may stand there
-found_zone : (text : List ℕ) (u : Unit) (c : Civil) (mark : ℕ) (t : List ℕ) (r : Read) → IsMark mark → ((zone : List ℕ) → IsAnyZone zone → IsZone u zone) → cut u c ≡ c → FitDigits c → text ≡ text_to u mark c ++ t → ends_at u c t ≡ Some r → Found text r
+found_zone : (text : List ℕ) (u : TimeUnit) (c : Civil) (mark : ℕ) (t : List ℕ) (r : Read) → IsMark mark → ((zone : List ℕ) → IsAnyZone zone → IsZone u zone) → cut u c ≡ c → FitDigits c → text ≡ text_to u mark c ++ t → ends_at u c t ≡ Some r → Found text r
 found_zone text u c mark t r mark_is zoned least fit e ends =
     let z = zone_text t in
     found_end text u c mark z.0 (after_zone t) r mark_is (zoned z.0 z.1) least fit (e ∙ ap (λ x. text_to u mark c ++ x) z.2) ends
@@ -221,7 +221,7 @@ goes_on-stops : (mark : ℕ) (next ends : List ℕ → Option Read) (rest : List
 goes_on-stops mark next ends rest h (inl e) = rw e refl
 goes_on-stops mark next ends rest h (inr (t, e)) = rw e (ap (λ b. cond b (next t) (ends (59 ∷ t))) h)
 
-goes_on-ends : (mark : ℕ) (next : List ℕ → Option Read) (u : Unit) (c : Civil) (zone rest : List ℕ) → (59 == mark) ≡ false → (90 == mark) ≡ false → IsAnyZone zone → IsStop rest → goes_on mark next (ends_at u c) (zone ++ rest) ≡ read_as u c rest
+goes_on-ends : (mark : ℕ) (next : List ℕ → Option Read) (u : TimeUnit) (c : Civil) (zone rest : List ℕ) → (59 == mark) ≡ false → (90 == mark) ≡ false → IsAnyZone zone → IsStop rest → goes_on mark next (ends_at u c) (zone ++ rest) ≡ read_as u c rest
 goes_on-ends mark next u c zone rest h k (inl none) stop =
     let ends : ends_at u c rest ≡ read_as u c rest = elim stop [ inl e ↦ rw e refl | inr (t, e) ↦ rw e refl ] in
     rw none (goes_on-stops mark next (ends_at u c) rest h stop ∙ ends)
@@ -262,7 +262,7 @@ three_at-stops zone rest (inl none) (inl e) = rw (none, e) refl
 three_at-stops zone rest (inl none) (inr (t, e)) = rw (none, e) refl
 three_at-stops zone rest (inr z) stop = rw z refl
 
-ends_at-stops : (u : Unit) (c : Civil) (zone rest : List ℕ) → IsAnyZone zone → IsStop rest → ends_at u c (zone ++ rest) ≡ read_as u c rest
+ends_at-stops : (u : TimeUnit) (c : Civil) (zone rest : List ℕ) → IsAnyZone zone → IsStop rest → ends_at u c (zone ++ rest) ≡ read_as u c rest
 ends_at-stops u c zone rest (inl none) (inl e) = rw (none, e) refl
 ends_at-stops u c zone rest (inl none) (inr (t, e)) = rw (none, e) refl
 ends_at-stops u c zone rest (inr z) stop = rw z refl
@@ -309,7 +309,7 @@ module _ (c : Civil) (short : IsShort c) where
       ∙ second_at-step (cut Minute c) c.second (46 ∷ t) short.second_high
 
   -- each spelling is read as far as it goes
-  pub reads : (u : Unit) (mark : ℕ) (zone rest : List ℕ) → IsMark mark → IsZone u zone → IsStop rest → year_at (text_to u mark c ++ (zone ++ rest)) ≡ read_as u (cut u c) rest
+  pub reads : (u : TimeUnit) (mark : ℕ) (zone rest : List ℕ) → IsMark mark → IsZone u zone → IsStop rest → year_at (text_to u mark c ++ (zone ++ rest)) ≡ read_as u (cut u c) rest
   reads Year mark zone rest is z stop =
       rw z (year_at-step c.date.year rest short.year_high
       ∙ goes_on-stops 45 (month_at (cut Year c)) (read_as Year (cut Year c)) rest refl stop)

@@ -13,8 +13,9 @@ use Rattle.qd_time.specs.declared.buckets.Align.TheVariants.{Calendar, First}
 use Rattle.qd_time.specs.declared.buckets.Period.{Period}
 use Rattle.qd_time.specs.declared.buckets.Period.TheVariants.{Micros, Months}
 use Rattle.qd_time.specs.declared.buckets.Stride.{Stride}
-use Rattle.qd_time.specs.declared.units.Unit.{Unit}
-use Rattle.qd_time.specs.declared.units.Unit.TheVariants.{Micro, Milli, Second, Minute, Hour, Day, Month, Year}
+use Rattle.qd_base.specs.declared.limits.TheConstants.{MAX_STRIDE}
+use Rattle.qd_base.specs.declared.unit.TimeUnit.{TimeUnit}
+use Rattle.qd_base.specs.declared.unit.TimeUnit.TheVariants.{Micro, Milli, Second, Minute, Hour, Day, Month, Year}
 use Rattle.qd_time.proofs.DateLemmas.{date_of_day-is}
 use Rattle.qd_time.proofs.UnitLemmas.{in_unit, midnight_day}
 use Rattle.qd_time.proofs.DateOrderLemmas.{date_of_day-day_number}
@@ -328,7 +329,7 @@ end_by-least (Months n) (First t0) ts x h (k, e) lt =
       | inr ge ↦ rw (le-ltb ts t0 ge, e) (moved-least ts t0 n h.0 ge k (rw e at lt))
     ]
 
-stride_period : (n : ℕ) (u : Unit) → 1 ≤ n → n ≤ 1_000_000 → IsPeriod (as_period n u)
+stride_period : (n : ℕ) (u : TimeUnit) → 1 ≤ n → n ≤ MAX_STRIDE → IsPeriod (as_period n u)
 stride_period n Micro low high = (omega arith, omega arith)
 stride_period n Milli low high = (omega arith, omega arith)
 stride_period n Second low high = (omega arith, omega arith)

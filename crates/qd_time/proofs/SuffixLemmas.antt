@@ -10,10 +10,10 @@ use Rattle.std.proofs.lemmas.Str.Parse.{digit_from_value}
 use Rattle.qd_time.specs.Reading.{◌>>=◌, Number, digit_at, next_count, span_at, letter_at, count_at, later_at, suffix_at}
 use Rattle.qd_time.proofs.DigitLemmas.{bind-some, digit_test, is_digit}
 use Rattle.qd_time.specs.Spelled.{Span, seconds, minutes, hours, days, letter, span_micros, Suffix, none, later, suffix_text, IsSuffix, suffix_count}
-use Rattle.qd_time.specs.declared.suffix.TheConstants.{MAX_COUNT}
+use Rattle.qd_base.specs.declared.limits.TheConstants.{MAX_SUFFIX_COUNT}
 
 -- a digit counts on
-pub count_at-digit : (k : ℕ) (t : List ℕ) (n : Number) → digit_at t ≡ Some n → count_at k t ≡ count_at (min (10 * k + n.0) (MAX_COUNT + 1)) n.1
+pub count_at-digit : (k : ℕ) (t : List ℕ) (n : Number) → digit_at t ≡ Some n → count_at k t ≡ count_at (min (10 * k + n.0) (MAX_SUFFIX_COUNT + 1)) n.1
 unfolding digit_at count_at
 count_at-digit k [] n e = absurd cc
 count_at-digit k (b ∷ rest) n e =
@@ -23,7 +23,7 @@ count_at-digit k (b ∷ rest) n e =
           let number : b - 48 ≡ n.0 = cc in
           let after : rest ≡ n.1 = cc in
           ap (λ t. cond t (count_at (next_count k b) rest) (letter_at k (b ∷ rest))) is
-          ∙ ap (λ d. count_at (min (10 * k + d) (MAX_COUNT + 1)) rest) number ∙ ap (count_at (min (10 * k + n.0) (MAX_COUNT + 1))) after
+          ∙ ap (λ d. count_at (min (10 * k + d) (MAX_SUFFIX_COUNT + 1)) rest) number ∙ ap (count_at (min (10 * k + n.0) (MAX_SUFFIX_COUNT + 1))) after
       | inr apart ↦ absurd (let missing : None ≡ Some n = sym (ap (λ t. cond t (Some (b - 48, rest)) None) apart) ∙ e in cc)
     ]
 
@@ -50,23 +50,23 @@ span_at-letter hours = refl
 span_at-letter days = refl
 
 -- a count that is held at 1,000,001 goes on as the number does
-held : (n b d : ℕ) → d + 48 ≡ b → min (10 * min n (MAX_COUNT + 1) + (b - 48)) (MAX_COUNT + 1) ≡ min (n * 10 + d) (MAX_COUNT + 1)
+held : (n b d : ℕ) → d + 48 ≡ b → min (10 * min n (MAX_SUFFIX_COUNT + 1) + (b - 48)) (MAX_SUFFIX_COUNT + 1) ≡ min (n * 10 + d) (MAX_SUFFIX_COUNT + 1)
 held n b d e = omega arith
 
 -- digits and a letter are read
-counts : (n : ℕ) (number : List ℕ) (span : Span) → AllDigits 10 number → count_at (min n (MAX_COUNT + 1)) (number ++ (letter span ∷ [])) ≡ Some (min (digits_value_after 10 n number) (MAX_COUNT + 1), span_micros span)
+counts : (n : ℕ) (number : List ℕ) (span : Span) → AllDigits 10 number → count_at (min n (MAX_SUFFIX_COUNT + 1)) (number ++ (letter span ∷ [])) ≡ Some (min (digits_value_after 10 n number) (MAX_SUFFIX_COUNT + 1), span_micros span)
 unfolding count_at
 counts n [] span h =
-    ap (λ t. cond t (count_at (next_count (min n (MAX_COUNT + 1)) (letter span)) []) (letter_at (min n (MAX_COUNT + 1)) (letter span ∷ []))) (letter_no_digit span)
-    ∙ ap (λ o. o >>= λ micros. Some (min n (MAX_COUNT + 1), micros)) (span_at-letter span)
+    ap (λ t. cond t (count_at (next_count (min n (MAX_SUFFIX_COUNT + 1)) (letter span)) []) (letter_at (min n (MAX_SUFFIX_COUNT + 1)) (letter span ∷ []))) (letter_no_digit span)
+    ∙ ap (λ o. o >>= λ micros. Some (min n (MAX_SUFFIX_COUNT + 1), micros)) (span_at-letter span)
 counts n (b ∷ number) span h =
     let rest = number ++ (letter span ∷ []) in
     let is = digit_from_value b h.0 in
-    ap (λ t. cond t (count_at (next_count (min n (MAX_COUNT + 1)) b) rest) (letter_at (min n (MAX_COUNT + 1)) (b ∷ rest))) (digit_test b is)
+    ap (λ t. cond t (count_at (next_count (min n (MAX_SUFFIX_COUNT + 1)) b) rest) (letter_at (min n (MAX_SUFFIX_COUNT + 1)) (b ∷ rest))) (digit_test b is)
     ∙ ap (λ k. count_at k rest) (held n b (digit_value b) (digit_value_digit b is))
     ∙ counts (n * 10 + digit_value b) number span h.1
 
-later_reads : (number : List ℕ) (span : Span) → IsNumeral 10 number → later_at (number ++ (letter span ∷ [])) ≡ Some (min (digits_value 10 number) (MAX_COUNT + 1), span_micros span)
+later_reads : (number : List ℕ) (span : Span) → IsNumeral 10 number → later_at (number ++ (letter span ∷ [])) ≡ Some (min (digits_value 10 number) (MAX_SUFFIX_COUNT + 1), span_micros span)
 later_reads [] span h = absurd (omega (arith, h.0))
 later_reads (b ∷ number) span h =
     let rest = b ∷ number ++ (letter span ∷ []) in
@@ -77,7 +77,7 @@ abbrev pub span_of : Suffix → ℕ
 span_of none = 0
 span_of (later number span) = span_micros span
 
-pub suffix_reads : (s : Suffix) → IsSuffix s → suffix_at (suffix_text s) ≡ Some (min (suffix_count s) (MAX_COUNT + 1), span_of s)
+pub suffix_reads : (s : Suffix) → IsSuffix s → suffix_at (suffix_text s) ≡ Some (min (suffix_count s) (MAX_SUFFIX_COUNT + 1), span_of s)
 suffix_reads none h = refl
 suffix_reads (later number span) h = later_reads number span h
 
@@ -86,7 +86,7 @@ pub record FoundSuffix (text : List ℕ) (found : ℕ × ℕ) : Type 0 where
   pub suffix : Suffix
   pub is_suffix : IsSuffix suffix
   pub text_is : text ≡ suffix_text suffix
-  pub count_is : found.0 ≡ min (suffix_count suffix) (MAX_COUNT + 1)
+  pub count_is : found.0 ≡ min (suffix_count suffix) (MAX_SUFFIX_COUNT + 1)
   pub micros_is : found.1 ≡ span_of suffix
 
 -- what a count finds: digits, a letter, and what they make of the count before
@@ -95,7 +95,7 @@ record FoundCount (n : ℕ) (text : List ℕ) (found : ℕ × ℕ) : Type 0 wher
   span : Span
   are_digits : AllDigits 10 number
   text_is : text ≡ number ++ (letter span ∷ [])
-  count_is : found.0 ≡ min (digits_value_after 10 n number) (MAX_COUNT + 1)
+  count_is : found.0 ≡ min (digits_value_after 10 n number) (MAX_SUFFIX_COUNT + 1)
   micros_is : found.1 ≡ span_micros span
 
 span_at-some : (b micros : ℕ) → span_at b ≡ Some micros → (span : Span) × (b ≡ letter span) × (micros ≡ span_micros span)
@@ -117,22 +117,22 @@ span_at-some b micros e =
       ]
     ]
 
-letter_at-some : (n : ℕ) (text : List ℕ) (found : ℕ × ℕ) → letter_at (min n (MAX_COUNT + 1)) text ≡ Some found → FoundCount n text found
+letter_at-some : (n : ℕ) (text : List ℕ) (found : ℕ × ℕ) → letter_at (min n (MAX_SUFFIX_COUNT + 1)) text ≡ Some found → FoundCount n text found
 letter_at-some n [] found e = absurd cc
 letter_at-some n (b ∷ []) found e =
-    let x = bind-some (span_at b) (λ micros. Some (min n (MAX_COUNT + 1), micros)) found e in
+    let x = bind-some (span_at b) (λ micros. Some (min n (MAX_SUFFIX_COUNT + 1), micros)) found e in
     let s = span_at-some b x.0 x.1 in
-    let count : min n (MAX_COUNT + 1) ≡ found.0 = cc (x.2) in
+    let count : min n (MAX_SUFFIX_COUNT + 1) ≡ found.0 = cc (x.2) in
     let micros : x.0 ≡ found.1 = cc (x.2) in
     record { number = []; span = s.0; are_digits = tt; text_is = ap (λ b. b ∷ []) s.1; count_is = sym count; micros_is = sym micros ∙ s.2 }
 letter_at-some n (b ∷ c ∷ rest) found e = absurd cc
 
-count_at-some : (n : ℕ) (text : List ℕ) (found : ℕ × ℕ) → count_at (min n (MAX_COUNT + 1)) text ≡ Some found → FoundCount n text found
+count_at-some : (n : ℕ) (text : List ℕ) (found : ℕ × ℕ) → count_at (min n (MAX_SUFFIX_COUNT + 1)) text ≡ Some found → FoundCount n text found
 unfolding count_at
 count_at-some n [] found e = absurd cc
 count_at-some n (b ∷ rest) found e =
-    let yes_case = count_at (next_count (min n (MAX_COUNT + 1)) b) rest in
-    let no_case = letter_at (min n (MAX_COUNT + 1)) (b ∷ rest) in
+    let yes_case = count_at (next_count (min n (MAX_SUFFIX_COUNT + 1)) b) rest in
+    let no_case = letter_at (min n (MAX_SUFFIX_COUNT + 1)) (b ∷ rest) in
     elim (cases_Bool (nat_le 48 b && nat_le b 57)) [
       | inl is ↦
           let digit = is_digit b is in

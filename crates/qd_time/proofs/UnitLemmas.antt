@@ -5,8 +5,8 @@ use Rattle.std.specs.Option.{SomeIff}
 use Rattle.std.proofs.lemmas.Bool.{cases_lt, cases_order}
 use Rattle.qd_time.specs.Calendar.{CalendarDate, IsCalendarDate, day_micros, month_first, month_after, year_first, year_after, midnight, date_of_day, day_number}
 use Rattle.qd_time.specs.Units.{start_of, end_of}
-use Rattle.qd_time.specs.declared.units.Unit.{Unit}
-use Rattle.qd_time.specs.declared.units.Unit.TheVariants.{Micro, Milli, Second, Minute, Hour, Day, Month, Year}
+use Rattle.qd_base.specs.declared.unit.TimeUnit.{TimeUnit}
+use Rattle.qd_base.specs.declared.unit.TimeUnit.TheVariants.{Micro, Milli, Second, Minute, Hour, Day, Month, Year}
 use Rattle.qd_time.proofs.DateLemmas.{date_of_day-is, first_is}
 use Rattle.qd_time.proofs.DateOrderLemmas.{count-lt_year, count-month, count-day_number, day_of_year_high, date_of_day-unique, date_of_day-day_number, month_after_is_date, year_after_is_date, month_first-number, month_after-number, year_first-number, year_after-number}
 
@@ -55,7 +55,7 @@ pub midnight_day : (n : ℕ) → n * day_micros / day_micros ≡ n
 midnight_day n = omega arith
 
 -- a unit begins at a timestamp or before it, and ends after it
-pub in_unit : (u : Unit) (ts : ℕ) → (start_of u ts ≤ ts) × (ts < end_of u ts)
+pub in_unit : (u : TimeUnit) (ts : ℕ) → (start_of u ts ≤ ts) × (ts < end_of u ts)
 in_unit Micro ts = (omega arith, omega arith)
 in_unit Milli ts = (omega arith, omega arith)
 in_unit Second ts = (omega arith, omega arith)
@@ -74,7 +74,7 @@ in_unit Year ts =
     (omega (arith, first, is.day_low), omega (arith, first, year_after-number n, day_of_year_high (date_of_day n) is))
 
 -- those from a unit's start to its end lie in that unit
-pub start_of-within : (u : Unit) (ts other : ℕ) → start_of u ts ≤ other → other < end_of u ts → start_of u other ≡ start_of u ts
+pub start_of-within : (u : TimeUnit) (ts other : ℕ) → start_of u ts ≤ other → other < end_of u ts → start_of u other ≡ start_of u ts
 start_of-within Micro ts other low high = omega arith
 start_of-within Milli ts other low high = omega arith
 start_of-within Second ts other low high = omega arith
@@ -87,7 +87,7 @@ start_of-within Year ts other low high =
     ap (λ y. midnight (record { year = y; month = 1; day = 1 })) (same_year (ts / day_micros) (other / day_micros) (omega arith) (omega arith))
 
 -- the end of a unit is the start of the next one
-pub start_of-end_of : (u : Unit) (ts : ℕ) → start_of u (end_of u ts) ≡ end_of u ts
+pub start_of-end_of : (u : TimeUnit) (ts : ℕ) → start_of u (end_of u ts) ≡ end_of u ts
 start_of-end_of Micro ts = refl
 start_of-end_of Milli ts = omega arith
 start_of-end_of Second ts = omega arith

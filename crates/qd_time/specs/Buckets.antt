@@ -4,17 +4,17 @@ use Rattle.std.specs.Prelude.{◌≡◌, ⊤, ℕ, zero, suc, ◌+◌, ◌-◌, 
 use Rattle.std.specs.Int.{int_div_euclid}
 use Rattle.jiff_core.specs.Calendar.{days_in_month}
 use Rattle.qd_time.specs.Calendar.{CalendarDate, second_micros, minute_micros, hour_micros, day_micros, date_of_day, midnight}
-use Rattle.qd_base.specs.declared.limits.TheConstants.{MAX_TIME}
+use Rattle.qd_base.specs.declared.limits.TheConstants.{MAX_STRIDE, MAX_TIME}
 use Rattle.qd_time.specs.declared.buckets.Align.{Align}
 use Rattle.qd_time.specs.declared.buckets.Align.TheVariants.{Calendar, First}
 use Rattle.qd_time.specs.declared.buckets.Period.{Period}
 use Rattle.qd_time.specs.declared.buckets.Period.TheVariants.{Micros, Months}
 use Rattle.qd_time.specs.declared.buckets.Stride.{Stride}
-use Rattle.qd_time.specs.declared.units.Unit.{Unit}
-use Rattle.qd_time.specs.declared.units.Unit.TheVariants.{Micro, Milli, Second, Minute, Hour, Day, Month, Year}
+use Rattle.qd_base.specs.declared.unit.TimeUnit.{TimeUnit}
+use Rattle.qd_base.specs.declared.unit.TimeUnit.TheVariants.{Micro, Milli, Second, Minute, Hour, Day, Month, Year}
 
 -- how far apart starts are: so many units, in microseconds or in months; a year is twelve months
-abbrev pub as_period : ℕ → Unit → Period
+abbrev pub as_period : ℕ → TimeUnit → Period
 as_period n Micro = Micros n
 as_period n Milli = Micros (n * 1000)
 as_period n Second = Micros (n * second_micros)
@@ -123,7 +123,7 @@ IsStart stride align start = StartsBy (period_of stride) align start
 
 -- what the calls ask of a stride and of an alignment
 abbrev pub IsStride : Stride → Type 0
-IsStride stride = (1 ≤ stride.n) × (stride.n ≤ 1_000_000)
+IsStride stride = (1 ≤ stride.n) × (stride.n ≤ MAX_STRIDE)
 
 abbrev pub IsAlign : Align → Type 0
 IsAlign (Calendar minutes) = (neg_ℤ (pos 1439) ≤ℤ minutes) × (minutes ≤ℤ pos 1439)

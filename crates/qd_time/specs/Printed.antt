@@ -2,8 +2,8 @@
 -- ISO 8601.
 use Rattle.std.specs.Prelude.{ℕ, zero, suc, ◌+◌, ◌/◌, ◌%◌, ◌^◌, List, [], ◌∷◌, ◌++◌}
 use Rattle.qd_time.specs.Calendar.{Civil, civil_of}
-use Rattle.qd_time.specs.declared.units.Unit.{Unit}
-use Rattle.qd_time.specs.declared.units.Unit.TheVariants.{Micro, Milli, Second, Minute, Hour, Day, Month, Year}
+use Rattle.qd_base.specs.declared.unit.TimeUnit.{TimeUnit}
+use Rattle.qd_base.specs.declared.unit.TimeUnit.TheVariants.{Micro, Milli, Second, Minute, Hour, Day, Month, Year}
 
 -- a number below 10 to the power of `width`, in that many decimal digits
 abbrev pub digits : ℕ → ℕ → List ℕ
@@ -27,7 +27,7 @@ abbrev pub second_text : ℕ → Civil → List ℕ
 second_text mark c = minute_text mark c ++ (58 ∷ digits 2 c.second)
 
 -- a moment's text as far as the unit, with `mark` between the date and the time of day
-abbrev pub text_to : Unit → ℕ → Civil → List ℕ
+abbrev pub text_to : TimeUnit → ℕ → Civil → List ℕ
 text_to Year mark c = digits 4 c.date.year
 text_to Month mark c = digits 4 c.date.year ++ (45 ∷ digits 2 c.date.month)
 text_to Day mark c = date_text c

@@ -5,13 +5,12 @@ use Rattle.qd_time.specs.Calendar.{Civil, second_micros, minute_micros, hour_mic
 use Rattle.std.specs.Prelude.{Result, Ok, Err}
 use Rattle.qd_time.specs.Fields.{civil_fields, TimestampOf}
 use Rattle.qd_time.specs.Units.{end_of}
-use Rattle.qd_base.specs.declared.limits.TheConstants.{MAX_TIME}
+use Rattle.qd_base.specs.declared.limits.TheConstants.{MAX_SUFFIX_COUNT, MAX_TIME}
 use Rattle.qd_time.specs.declared.fault.TimeFault.{TimeFault}
 use Rattle.qd_time.specs.declared.fault.TimeFault.TheVariants.{Form, Range}
 use Rattle.qd_time.specs.declared.reading.Reading.{Reading}
-use Rattle.qd_time.specs.declared.units.Unit.{Unit}
-use Rattle.qd_time.specs.declared.units.Unit.TheVariants.{Micro, Milli, Second, Minute, Hour, Day, Month, Year}
-use Rattle.qd_time.specs.declared.suffix.TheConstants.{MAX_COUNT}
+use Rattle.qd_base.specs.declared.unit.TimeUnit.{TimeUnit}
+use Rattle.qd_base.specs.declared.unit.TimeUnit.TheVariants.{Micro, Milli, Second, Minute, Hour, Day, Month, Year}
 
 infixl 10 ◌>>=◌
 abbrev pub ◌>>=◌ : {A B : Type 0} → Option A → (A → Option B) → Option B
@@ -54,14 +53,14 @@ four_at text = do
 
 -- what a text says as far as the unit, and the bytes after it
 pub record Read : Type 0 where
-  pub unit : Unit
+  pub unit : TimeUnit
   pub civil : Civil
   pub rest : List ℕ
 
 abbrev pub seen : Reading → Read
 seen r = record { unit = r.unit; civil = civil_fields r.fields; rest = r.rest.now }
 
-abbrev pub read_as : Unit → Civil → List ℕ → Option Read
+abbrev pub read_as : TimeUnit → Civil → List ℕ → Option Read
 read_as unit civil rest = Some (record { unit = unit; civil = civil; rest = rest })
 
 -- the bytes after a `Z`, if there is one
@@ -75,7 +74,7 @@ goes_on mark next ends [] = ends []
 goes_on mark next ends (b ∷ rest) = if b == mark then next rest else ends (b ∷ rest)
 
 -- it ends, and a `Z` may stand there
-abbrev pub ends_at : Unit → Civil → List ℕ → Option Read
+abbrev pub ends_at : TimeUnit → Civil → List ℕ → Option Read
 ends_at unit c text = read_as unit c (after_zone text)
 
 -- a fraction of a second, of three digits or of six
@@ -144,7 +143,7 @@ Answers (Some r) result = IsAnswer r r.rest result
 
 -- a count so far and one more digit; no count above 1,000,001 is told apart
 abbrev pub next_count : ℕ → ℕ → ℕ
-next_count count b = min (10 * count + (b - 48)) (MAX_COUNT + 1)
+next_count count b = min (10 * count + (b - 48)) (MAX_SUFFIX_COUNT + 1)
 
 -- what a suffix's letter counts, in microseconds
 abbrev pub span_at : ℕ → Option ℕ
@@ -175,10 +174,10 @@ suffix_at [] = Some (0, 0)
 suffix_at (b ∷ rest) = if b == 59 then later_at rest else None
 
 -- the interval of a unit that begins at a timestamp, with its end moved later
-abbrev pub interval_of : Unit → ℕ × ℕ → Result ℕ TimeFault → Result (ℕ × ℕ) TimeFault
+abbrev pub interval_of : TimeUnit → ℕ × ℕ → Result ℕ TimeFault → Result (ℕ × ℕ) TimeFault
 interval_of unit later (Err e) = Err e
 interval_of unit later (Ok first) =
-    if nat_lt MAX_COUNT later.0 then Err Range
+    if nat_lt MAX_SUFFIX_COUNT later.0 then Err Range
     else Ok (first, min (end_of unit first - 1 + later.0 * later.1) MAX_TIME)
 
 -- the answer to a text that is read so, with that suffix

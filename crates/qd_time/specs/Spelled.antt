@@ -5,17 +5,16 @@ use Rattle.std.specs.Str.Parse.{IsNumeral, digits_value}
 use Rattle.qd_time.specs.Calendar.{Civil, civil_of, month_days, second_micros, minute_micros, hour_micros, day_micros}
 use Rattle.qd_time.specs.Printed.{text_to}
 use Rattle.qd_time.specs.Units.{start_of, end_of}
-use Rattle.qd_base.specs.declared.limits.TheConstants.{MAX_TIME}
-use Rattle.qd_time.specs.declared.units.Unit.{Unit}
-use Rattle.qd_time.specs.declared.units.Unit.TheVariants.{Micro, Milli, Second, Minute, Hour, Day, Month, Year}
-use Rattle.qd_time.specs.declared.suffix.TheConstants.{MAX_COUNT}
+use Rattle.qd_base.specs.declared.limits.TheConstants.{MAX_SUFFIX_COUNT, MAX_TIME}
+use Rattle.qd_base.specs.declared.unit.TimeUnit.{TimeUnit}
+use Rattle.qd_base.specs.declared.unit.TimeUnit.TheVariants.{Micro, Milli, Second, Minute, Hour, Day, Month, Year}
 
 -- `T` or a blank stands between the date and the time of day
 abbrev pub IsMark : ℕ → Type 0
 IsMark mark = (mark ≡ 84) ⊎ (mark ≡ 32)
 
 -- a `Z` may stand after a time of day
-abbrev pub IsZone : Unit → List ℕ → Type 0
+abbrev pub IsZone : TimeUnit → List ℕ → Type 0
 IsZone Year zone = zone ≡ []
 IsZone Month zone = zone ≡ []
 IsZone Day zone = zone ≡ []
@@ -26,7 +25,7 @@ IsZone Milli zone = (zone ≡ []) ⊎ (zone ≡ 90 ∷ [])
 IsZone Micro zone = (zone ≡ []) ⊎ (zone ≡ 90 ∷ [])
 
 -- the text spells what the calendar and the clock show, as far as the unit
-pub record Spells (text : List ℕ) (unit : Unit) (c : Civil) : Type 0 where
+pub record Spells (text : List ℕ) (unit : TimeUnit) (c : Civil) : Type 0 where
   pub mark : ℕ
   pub zone : List ℕ
   pub mark_is : IsMark mark
@@ -34,7 +33,7 @@ pub record Spells (text : List ℕ) (unit : Unit) (c : Civil) : Type 0 where
   pub text_is : text ≡ text_to unit mark c ++ zone
 
 -- the text spells the timestamp, which is the first of the unit that the text names
-pub record SpellsAs (text : List ℕ) (unit : Unit) (ts : ℕ) : Type 0 where
+pub record SpellsAs (text : List ℕ) (unit : TimeUnit) (ts : ℕ) : Type 0 where
   pub spells : Spells text unit (civil_of ts)
   pub first : start_of unit ts ≡ ts
   pub in_range : ts ≤ MAX_TIME
@@ -52,7 +51,7 @@ pub record IsCivil (c : Civil) : Type 0 where
 
 -- the text spells, as far as some unit, a moment of the years 0 to 1969
 pub record SpellsEarly (text : List ℕ) : Type 0 where
-  pub unit : Unit
+  pub unit : TimeUnit
   pub civil : Civil
   pub is_civil : IsCivil civil
   pub early : civil.date.year < 1970
@@ -60,7 +59,7 @@ pub record SpellsEarly (text : List ℕ) : Type 0 where
 
 -- what a moment's text says: the first moment of the unit that it names
 abbrev pub SpellsTime : List ℕ → ℕ → Type 0
-SpellsTime text ts = (unit : Unit) × SpellsAs text unit ts
+SpellsTime text ts = (unit : TimeUnit) × SpellsAs text unit ts
 
 -- it spells no moment at all
 abbrev pub IsNoTime : List ℕ → Type 0
@@ -111,11 +110,11 @@ suffix_micros (later number span) = digits_value 10 number * span_micros span
 pub record SpellsInterval (text : List ℕ) (first last : ℕ) : Type 0 where
   pub base : List ℕ
   pub suffix : Suffix
-  pub unit : Unit
+  pub unit : TimeUnit
   pub text_is : text ≡ base ++ suffix_text suffix
   pub is_suffix : IsSuffix suffix
   pub spells : SpellsAs base unit first
-  pub count : suffix_count suffix ≤ MAX_COUNT
+  pub count : suffix_count suffix ≤ MAX_SUFFIX_COUNT
   pub last_is : last ≡ min (end_of unit first - 1 + suffix_micros suffix) MAX_TIME
 
 -- the text is a moment's text of the calendar with or without a suffix, but of a year below 1970 or
@@ -125,7 +124,7 @@ pub record SpellsOutside (text : List ℕ) : Type 0 where
   pub suffix : Suffix
   pub text_is : text ≡ base ++ suffix_text suffix
   pub is_suffix : IsSuffix suffix
-  pub outside : SpellsEarly base ⊎ ((ts : ℕ) × SpellsTime base ts × (MAX_COUNT < suffix_count suffix))
+  pub outside : SpellsEarly base ⊎ ((ts : ℕ) × SpellsTime base ts × (MAX_SUFFIX_COUNT < suffix_count suffix))
 
 -- the text spells no interval at all
 abbrev pub IsNoInterval : List ℕ → Type 0

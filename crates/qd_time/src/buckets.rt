@@ -9,8 +9,7 @@ ghost use Rattle.std.specs.Option.{SomeIff};
 use crate::calendar::{
     DAY, HOUR, LAST_DAY, LAST_MONTH, MILLI, MINUTE, SECOND, date_of_day, day_of_month, month_number,
 };
-use crate::units::Unit;
-use qd_base::MAX_TIME;
+use qd_base::{MAX_TIME, TimeUnit};
 
 /// How far apart buckets start: `n` units, from 1 to 1,000,000.
 #[derive(Clone, Copy, Debug, PartialEq, Eq)]
@@ -18,7 +17,7 @@ pub struct Stride {
     /// How many units.
     pub n: u32,
     /// The unit.
-    pub unit: Unit,
+    pub unit: TimeUnit,
 }
 
 /// What buckets are aligned to.
@@ -97,14 +96,14 @@ impl Stride {
     {
         let n = self.n as u64;
         match self.unit {
-            Unit::Micro => Period::Micros(n),
-            Unit::Milli => Period::Micros(n * MILLI),
-            Unit::Second => Period::Micros(n * SECOND),
-            Unit::Minute => Period::Micros(n * MINUTE),
-            Unit::Hour => Period::Micros(n * HOUR),
-            Unit::Day => Period::Micros(n * DAY),
-            Unit::Month => Period::Months(n),
-            Unit::Year => Period::Months(n * 12),
+            TimeUnit::Micro => Period::Micros(n),
+            TimeUnit::Milli => Period::Micros(n * MILLI),
+            TimeUnit::Second => Period::Micros(n * SECOND),
+            TimeUnit::Minute => Period::Micros(n * MINUTE),
+            TimeUnit::Hour => Period::Micros(n * HOUR),
+            TimeUnit::Day => Period::Micros(n * DAY),
+            TimeUnit::Month => Period::Months(n),
+            TimeUnit::Year => Period::Months(n * 12),
         }
     }
 }

@@ -23,4 +23,3 @@ pub use parse::{parse_interval, parse_time};
 pub use partition::{floor_unit, next_unit, partition_name};
 pub use print::print_time;
 pub use qd_base::MAX_TIME;
-pub use units::Unit;

@@ -7,9 +7,9 @@ ghost use Rattle.qd_time.specs.Spelled.{SpellsTime, SpellsEarly, IsNoTime, Spell
 use crate::calendar::DAY;
 use crate::fault::TimeFault;
 use crate::reading::{Reading, read_year};
-use crate::suffix::{MAX_COUNT, read_suffix};
-use crate::units::Unit;
-use qd_base::MAX_TIME;
+use crate::suffix::read_suffix;
+use crate::units::end_of;
+use qd_base::{MAX_SUFFIX_COUNT, MAX_TIME, TimeUnit};
 
 /// The first moment that the text names, in microseconds since 1970-01-01T00:00:00Z.
 ///
@@ -82,14 +82,14 @@ fn read_interval(text: &[u8]) -> Result<(u64, u64), TimeFault>
 }
 
 /// The interval of the unit that begins at `first`, with its end moved later.
-fn lengthen(unit: Unit, first: u64, count: u64, micros: u64) -> Result<(u64, u64), TimeFault>
+fn lengthen(unit: TimeUnit, first: u64, count: u64, micros: u64) -> Result<(u64, u64), TimeFault>
     requires first_high { first ≤ MAX_TIME }
     requires micros_high { micros ≤ DAY }
     ensures { result ≡ interval_of unit (count, micros) (Ok first) }
 {
-    if count > MAX_COUNT {
+    if count > MAX_SUFFIX_COUNT {
         return Err(TimeFault::Range);
     }
-    let last = unit.end(first) - 1 + count * micros;
+    let last = end_of(unit, first) - 1 + count * micros;
     Ok((first, last.min(MAX_TIME)))
 }

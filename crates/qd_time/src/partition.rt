@@ -4,7 +4,7 @@ ghost use Rattle.std.specs.Option.{SomeIff};
 ghost use Rattle.qd_time.specs.Units.{unit_of, start_of, end_of, name_of};
 
 use crate::print::print_time;
-use crate::units::Unit;
+use crate::units::{end_of, start_of, unit_of};
 use qd_base::{MAX_TIME, Memory, PartUnit, Txt};
 use std::alloc::Global;
 
@@ -22,7 +22,7 @@ pub fn floor_unit(ts: u64, unit: PartUnit) -> u64
     ensures one_unit { (other : ℕ) → result ≤ other → other < end_of (unit_of unit) ts
         → start_of (unit_of unit) other ≡ result }
 {
-    Unit::of_partition(unit).start(ts)
+    start_of(unit_of(unit), ts)
 }
 
 /// The first microsecond of the hour, day, month or year after the one that contains the moment.
@@ -35,7 +35,7 @@ pub fn next_unit(ts: u64, unit: PartUnit) -> Option<u64>
     ensures after { IfSome result (λ next. ts < next) }
     ensures start { IfSome result (λ next. start_of (unit_of unit) next ≡ next) }
 {
-    let next = Unit::of_partition(unit).end(ts);
+    let next = end_of(unit_of(unit), ts);
     (next <= MAX_TIME).then_some(next)
 }
 

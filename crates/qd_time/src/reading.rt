@@ -4,13 +4,13 @@ ghost use Rattle.qd_time.specs.Fields.{civil_fields};
 ghost use Rattle.qd_time.specs.Reading.{Gives, seen, seen_number, digit_at, two_at, three_at, four_at, fraction_at, second_at, minute_at, hour_at, day_at, month_at, year_at, after_zone};
 
 use crate::fields::Fields;
-use crate::units::Unit;
+use qd_base::TimeUnit;
 
 /// A moment that a text begins with, the unit as far as which the text spells it, and the bytes
 /// after it.
 #[derive(Clone, Copy)]
 pub(crate) struct Reading<'a> {
-    pub(crate) unit: Unit,
+    pub(crate) unit: TimeUnit,
     pub(crate) fields: Fields,
     pub(crate) rest: &'a [u8],
 }
@@ -33,7 +33,7 @@ pub(crate) fn read_year(text: &[u8]) -> Option<Reading<'_>>
     match rest {
         [b'-', rest @ ..] => read_month(fields, rest),
         _ => Some(Reading {
-            unit: Unit::Year,
+            unit: TimeUnit::Year,
             fields,
             rest,
         }),
@@ -62,7 +62,7 @@ fn read_month(fields: Fields, text: &[u8]) -> Option<Reading<'_>>
     match rest {
         [b'-', rest @ ..] => read_day(fields, rest),
         _ => Some(Reading {
-            unit: Unit::Month,
+            unit: TimeUnit::Month,
             fields,
             rest,
         }),
@@ -79,7 +79,7 @@ fn read_day(fields: Fields, text: &[u8]) -> Option<Reading<'_>>
     match rest {
         [b'T' | b' ', rest @ ..] => read_hour(fields, rest),
         _ => Some(Reading {
-            unit: Unit::Day,
+            unit: TimeUnit::Day,
             fields,
             rest,
         }),
@@ -96,7 +96,7 @@ fn read_hour(fields: Fields, text: &[u8]) -> Option<Reading<'_>>
     match rest {
         [b':', rest @ ..] => read_minute(fields, rest),
         _ => Some(Reading {
-            unit: Unit::Hour,
+            unit: TimeUnit::Hour,
             fields,
             rest: skip_zone(rest),
         }),
@@ -113,7 +113,7 @@ fn read_minute(fields: Fields, text: &[u8]) -> Option<Reading<'_>>
     match rest {
         [b':', rest @ ..] => read_second(fields, rest),
         _ => Some(Reading {
-            unit: Unit::Minute,
+            unit: TimeUnit::Minute,
             fields,
             rest: skip_zone(rest),
         }),
@@ -130,7 +130,7 @@ fn read_second(fields: Fields, text: &[u8]) -> Option<Reading<'_>>
     match rest {
         [b'.', rest @ ..] => read_fraction(fields, rest),
         _ => Some(Reading {
-            unit: Unit::Second,
+            unit: TimeUnit::Second,
             fields,
             rest: skip_zone(rest),
         }),
@@ -146,12 +146,12 @@ fn read_fraction(fields: Fields, text: &[u8]) -> Option<Reading<'_>>
     let micro = milli as u32 * 1000;
     match three_digits(rest) {
         None => Some(Reading {
-            unit: Unit::Milli,
+            unit: TimeUnit::Milli,
             fields: Fields { micro, ..fields },
             rest: skip_zone(rest),
         }),
         Some((low, rest)) => Some(Reading {
-            unit: Unit::Micro,
+            unit: TimeUnit::Micro,
             fields: Fields {
                 micro: micro + low as u32,
                 ..fields

@@ -4,9 +4,7 @@ ghost use Rattle.qd_time.specs.Reading.{suffix_at, later_at, count_at, letter_at
 
 use crate::calendar::{DAY, HOUR, MINUTE, SECOND};
 use crate::reading::digit;
-
-/// The greatest count that a suffix may have.
-pub(crate) const MAX_COUNT: u64 = 1_000_000;
+use qd_base::MAX_SUFFIX_COUNT;
 
 /// How many of what a suffix moves an end later, and nothing where there is no suffix. A count above
 /// 1,000,000 is 1,000,001.
@@ -40,7 +38,7 @@ fn read_count(text: &[u8]) -> Option<(u64, u64)>
     let mut count = 0;
     let mut rest = text;
     while let Some((low, tail)) = digit(rest) {
-        count = (10 * count + low as u64).min(MAX_COUNT + 1);
+        count = (10 * count + low as u64).min(MAX_SUFFIX_COUNT + 1);
         rest = tail;
     }
     read_letter(count, rest)

@@ -1,6 +1,6 @@
 //! Values from outside: worked examples, and Python's `datetime`.
 use super::*;
-use qd_base::PartUnit;
+use qd_base::{PartUnit, TimeUnit};
 use std::test::Fail;
 
 #[test]
@@ -204,27 +204,27 @@ fn no_intervals(rt: HostRuntime) {
 fn calendar_buckets(rt: HostRuntime) {
     let ts = 1_704_067_212_345_678;
     let at = |minutes: i32| Align::Calendar { minutes };
-    let every = |n: u32, unit: Unit| Stride { n, unit };
-    assert_eq!(rt; bucket_of(1000, every(7, Unit::Micro), at(0)), 994);
+    let every = |n: u32, unit: TimeUnit| Stride { n, unit };
+    assert_eq!(rt; bucket_of(1000, every(7, TimeUnit::Micro), at(0)), 994);
     assert_eq!(rt;
-        bucket_of(ts, every(250, Unit::Milli), at(0)),
+        bucket_of(ts, every(250, TimeUnit::Milli), at(0)),
         1_704_067_212_250_000
     );
     assert_eq!(rt;
-        next_bucket(ts, every(250, Unit::Milli), at(0)),
+        next_bucket(ts, every(250, TimeUnit::Milli), at(0)),
         Some(1_704_067_212_500_000)
     );
-    assert_eq!(rt; bucket_of(0, every(1, Unit::Hour), at(30)), 0);
+    assert_eq!(rt; bucket_of(0, every(1, TimeUnit::Hour), at(30)), 0);
     assert_eq!(rt;
-        next_bucket(0, every(1, Unit::Hour), at(30)),
+        next_bucket(0, every(1, TimeUnit::Hour), at(30)),
         Some(1_800_000_000)
     );
     assert_eq!(rt;
-        bucket_of(ts, every(7, Unit::Day), at(-90)),
+        bucket_of(ts, every(7, TimeUnit::Day), at(-90)),
         1_703_716_200_000_000
     );
     assert_eq!(rt;
-        next_bucket(MAX_TIME, every(1_000_000, Unit::Day), at(0)),
+        next_bucket(MAX_TIME, every(1_000_000, TimeUnit::Day), at(0)),
         None
     );
 }
@@ -233,24 +233,27 @@ fn calendar_buckets(rt: HostRuntime) {
 fn month_buckets(rt: HostRuntime) {
     let ts = 1_704_067_212_345_678;
     let at = |minutes: i32| Align::Calendar { minutes };
-    let every = |n: u32, unit: Unit| Stride { n, unit };
+    let every = |n: u32, unit: TimeUnit| Stride { n, unit };
     assert_eq!(rt;
-        bucket_of(ts, every(1, Unit::Year), at(330)),
+        bucket_of(ts, every(1, TimeUnit::Year), at(330)),
         1_672_551_000_000_000
     );
     assert_eq!(rt;
-        next_bucket(ts, every(1, Unit::Year), at(330)),
+        next_bucket(ts, every(1, TimeUnit::Year), at(330)),
         Some(1_704_087_000_000_000)
     );
     assert_eq!(rt;
-        next_bucket(5, every(1, Unit::Month), at(-30)),
+        next_bucket(5, every(1, TimeUnit::Month), at(-30)),
         Some(2_676_600_000_000)
     );
     assert_eq!(rt;
-        bucket_of(MAX_TIME, every(1, Unit::Month), at(-60)),
+        bucket_of(MAX_TIME, every(1, TimeUnit::Month), at(-60)),
         253_402_297_200_000_000
     );
-    assert_eq!(rt; next_bucket(MAX_TIME, every(1, Unit::Month), at(-60)), None);
+    assert_eq!(rt;
+        next_bucket(MAX_TIME, every(1, TimeUnit::Month), at(-60)),
+        None
+    );
 }
 
 #[test]
@@ -258,7 +261,7 @@ fn counted_buckets(rt: HostRuntime) {
     let t0 = 1_706_704_200_000_000;
     let month = Stride {
         n: 1,
-        unit: Unit::Month,
+        unit: TimeUnit::Month,
     };
     let first = Align::First { t0 };
     assert_eq!(rt; bucket_of(1_709_209_799_000_000, month, first), t0);
@@ -272,7 +275,7 @@ fn counted_buckets(rt: HostRuntime) {
     assert_eq!(rt; next_bucket(0, month, first), Some(t0));
     let quarter = Stride {
         n: 15,
-        unit: Unit::Second,
+        unit: TimeUnit::Second,
     };
     assert_eq!(rt; bucket_of(t0 + 29_999_999, quarter, first), t0 + 15_000_000);
     assert_eq!(rt; next_bucket(t0, quarter, first), Some(t0 + 15_000_000));

@@ -1,6 +1,6 @@
 -- Numbers in their range: the nearest one, where a number is out of it.
 use Rattle.std.specs.Prelude.{ℕ, min, max}
-use Rattle.qd_trees.specs.declared.range.TheConstants.{MAX_NUMBER, MAX_STRIDE}
+use Rattle.qd_base.specs.declared.limits.TheConstants.{MAX_NUMBER, MAX_STRIDE}
 
 abbrev pub magnitude : ℕ → ℕ
 magnitude n = min n MAX_NUMBER

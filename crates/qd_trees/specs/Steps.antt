@@ -1,9 +1,12 @@
 -- The steps that each rule of the grammar is made of. A rule reads from the front of a list of tokens: it gives what it
 -- reads and the tokens behind, or the offset of the first token that no text has there, or none at the text's end. Where
 -- brackets nest too deep it finds no memory.
-use Rattle.std.specs.Prelude.{◌≡◌, ℕ, zero, suc, length, ◌+◌, ◌-◌, ◌*◌, ◌^◌, Bool, true, false, not, ◌&&◌, ◌||◌, ◌==◌, min, if◌then◌else◌, List, [], ◌∷◌, ◌++◌, map, fold, take, slice_index, Option, Some, None, Result, Ok, Err}
+use Rattle.std.specs.Prelude.{◌≡◌, ℕ, zero, suc, length, ◌+◌, ◌-◌, ◌*◌, Bool, true, false, not, ◌&&◌, ◌||◌, ◌==◌, min, if◌then◌else◌, List, [], ◌∷◌, ◌++◌, map, fold, take, slice_index, Option, Some, None, Result, Ok, Err}
 use Rattle.std.specs.Str.{str_eq_ignore_ascii_case}
 use denote.Enum.Bare.{sameb}
+use Rattle.qd_base.specs.declared.limits.TheConstants.{MAX_NUMBER}
+use Rattle.qd_base.specs.declared.unit.TimeUnit.{TimeUnit}
+use Rattle.qd_base.specs.declared.unit.TimeUnit.TheVariants as every
 use Rattle.qd_tokens.specs.contracts.token.Kind.{the_type}
 use Rattle.qd_tokens.specs.declared.token.Kind.{Kind}
 use Rattle.qd_tokens.specs.declared.token.Kind.TheVariants as kind
@@ -14,8 +17,6 @@ use Rattle.qd_trees.specs.declared.step.TheConstants.{RESERVED}
 use Rattle.qd_trees.specs.declared.tree.Name.{Name}
 use Rattle.qd_trees.specs.declared.tree.Number.{Number}
 use Rattle.qd_trees.specs.declared.tree.StrideOf.{StrideOf}
-use Rattle.qd_trees.specs.declared.tree.StrideUnit.{StrideUnit}
-use Rattle.qd_trees.specs.declared.tree.StrideUnit.TheVariants as every
 use Rattle.qd_trees.specs.declared.tree.Text.{Text}
 use Rattle.qd_tokens.specs.Tokens as tokens
 use Rattle.qd_trees.specs.Ranges as range
@@ -123,9 +124,9 @@ unfoldable pub sees_name : List Lexeme → Bool
 sees_name [] = false
 sees_name (t ∷ ts) = is_name t
 
--- the value of digits so far and one more; no value above 2 ^ 63 is told apart
+-- the value of digits so far and one more; no value above the greatest number is told apart
 unfoldable pub next_value : ℕ → ℕ → ℕ
-next_value value b = min (10 * value + (b - 48)) (2 ^ 63)
+next_value value b = min (10 * value + (b - 48)) (MAX_NUMBER + 1)
 
 abbrev pub number_of : List ℕ → ℕ
 number_of digits = fold next_value 0 digits
@@ -141,12 +142,12 @@ begins_two b is_second = b == 39 && not is_second
 unfoldable pub stride_count : List ℕ → ℕ
 stride_count content = number_of (take (length content - 1) content)
 
-abbrev pub unit_of : ℕ → StrideUnit
+abbrev pub unit_of : ℕ → TimeUnit
 unit_of b =
     if b == 85 then every.Micro else (if b == 84 then every.Milli else (if b == 115 then every.Second else (if b == 109 then every.Minute
     else (if b == 104 then every.Hour else (if b == 100 then every.Day else (if b == 77 then every.Month else every.Year))))))
 
-unfoldable pub stride_unit : List ℕ → StrideUnit
+unfoldable pub stride_unit : List ℕ → TimeUnit
 stride_unit content = unit_of (slice_index content (length content - 1))
 
 unfoldable pub stride : List Lexeme → Read StrideOf

@@ -9,8 +9,8 @@ mod stop;
 mod tree;
 mod write;
 
-pub use lists::list;
-pub use range::{MAX_NUMBER, MAX_STRIDE, Magnitude, StrideCount};
+pub use lists::{list, offsets};
+pub use range::{Magnitude, StrideCount};
 pub use sqlite_items::{Boxed, Items};
 pub use step::{Cursor, is_word, number_of, same_kind, stride_count};
 pub use stop::Stop;
@@ -18,6 +18,6 @@ pub use tree::{
     AddOp, AddTerm, AggOf, AlignTo, AndNeg, Check, Cmp, Column, ColumnDef, Conj, Create, Dedup,
     Expr, FillWith, Fills, Filter, Insert, Item, Join, JoinOf, Latest, Limit, Lit, MulOp,
     MulSigned, Name, Neg, Number, OrConj, OrderKey, Plus, Prime, Query, Sampled, Selected, Shown,
-    Signed, Source, Stmt, StrideOf, StrideUnit, Term, Test, Text, Tuple,
+    Signed, Source, Stmt, StrideOf, Term, Test, Text, Tuple,
 };
 pub use write::{create, insert, lits, names_to_bracket, show};

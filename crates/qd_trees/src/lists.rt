@@ -1,9 +1,9 @@
-//! One or more parts with commas between.
-ghost use Rattle.std.specs.Prelude.{List};
+//! Parts that come more than once.
+ghost use Rattle.std.specs.Prelude.{ℕ, List, Option, Ok};
 ghost use Rattle.qd_tokens.specs.Tokens.{Lexeme};
 ghost use Rattle.qd_trees.specs.Steps as spec;
 ghost use Rattle.qd_trees.specs.Steps.{Read, Reads};
-ghost use Rattle.qd_trees.specs.Lists.{ReadsBy};
+ghost use Rattle.qd_trees.specs.Lists.{ReadsBy, TakesBy};
 
 use crate::step::Cursor;
 use crate::stop::Stop;
@@ -31,4 +31,26 @@ pub fn list<T: Drop, F: Fn(Global, &mut Cursor<'_, '_>) -> Result<T, Stop>>(
         }
     }
     Err(tokens.stuck())
+}
+
+/// Takes what a function takes, as often as that comes, and gives the offsets. Whatever rule the function takes by, they
+/// are those of that rule.
+///
+/// It costs the time of the function for each offset and once more.
+pub fn offsets<F: Fn(&mut Cursor<'_, '_>) -> Option<u64>>(
+    alloc: Global,
+    tokens: &mut Cursor<'_, '_>,
+    one: F,
+) -> Result<Seq<u64>, Stop>
+    requires { F.IsAlwaysCallable one }
+    ensures { (rule : List Lexeme → Option (ℕ × List Lexeme)) → TakesBy rule (F.post one) → Reads (Ok (spec.offsets rule tokens.old)) result tokens.new }
+{
+    let mut found = Seq::new(alloc);
+    for _turn in 0..tokens.len() {
+        let Some(at) = one(tokens) else {
+            return Ok(found);
+        };
+        found.push(at)?;
+    }
+    Ok(found)
 }

@@ -2,13 +2,8 @@
 ghost use Rattle.std.specs.Prelude.{◌≡◌, ◌<◌, ◌≤◌};
 ghost use Rattle.qd_trees.specs.Ranges as spec;
 
+use qd_base::{MAX_NUMBER, MAX_STRIDE};
 use std::marker::Model;
-
-/// The greatest number of a statement, which is the greatest LONG.
-pub const MAX_NUMBER: u64 = 9_223_372_036_854_775_807;
-
-/// The greatest count of a stride.
-pub const MAX_STRIDE: u64 = 1_000_000;
 
 /// A number from 0 to 9223372036854775807.
 #[derive(Drop)]
@@ -18,7 +13,7 @@ pub struct Magnitude {
 
 impl Model for Magnitude {
     ghost use Rattle.std.specs.Prelude.{ℕ, ◌≤◌};
-    ghost use Rattle.qd_trees.specs.declared.range.TheConstants.{MAX_NUMBER};
+    ghost use Rattle.qd_base.specs.declared.limits.TheConstants.{MAX_NUMBER};
 
     ghost Value = { ℕ };
 
@@ -54,7 +49,7 @@ pub struct StrideCount {
 
 impl Model for StrideCount {
     ghost use Rattle.std.specs.Prelude.{ℕ, ◌≤◌};
-    ghost use Rattle.qd_trees.specs.declared.range.TheConstants.{MAX_STRIDE};
+    ghost use Rattle.qd_base.specs.declared.limits.TheConstants.{MAX_STRIDE};
 
     ghost Value = { ℕ };
 

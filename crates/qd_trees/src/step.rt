@@ -1,12 +1,12 @@
 //! The steps that each rule is made of.
-ghost use Rattle.std.specs.Prelude.{◌≡◌, ◌<◌, ◌≤◌, ◌^◌, length, map};
+ghost use Rattle.std.specs.Prelude.{◌≡◌, ◌+◌, ◌<◌, ◌≤◌, length, map};
 ghost use Rattle.qd_trees.specs.Steps as spec;
 ghost use Rattle.qd_trees.specs.Steps.{Reads, Takes};
 
 use crate::range::{Magnitude, StrideCount};
 use crate::stop::Stop;
-use crate::tree::{Name, Number, StrideOf, StrideUnit, Text};
-use qd_base::{Memory, Txt, same_name};
+use crate::tree::{Name, Number, StrideOf, Text};
+use qd_base::{MAX_NUMBER, Memory, TimeUnit, Txt, same_name};
 use qd_tokens::{Kind, Token};
 use std::alloc::Global;
 use std::marker::Model;
@@ -310,10 +310,10 @@ fn is_name(token: &Token<'_>) -> bool
         || (same_kind(token.kind, Kind::Word) && !is_reserved(token.content))
 }
 
-/// Gives the value of digits, or 2^63 where it is above. Leading zeros don't count.
+/// Gives the value of digits, or one more than `MAX_NUMBER` where it is above. Leading zeros don't count.
 pub fn number_of(digits: &[u8]) -> u64
     ensures value { result ≡ spec.number_of digits.now }
-    ensures bound { result ≤ 2 ^ 63 }
+    ensures bound { result ≤ MAX_NUMBER + 1 }
 {
     let mut value: u64 = 0;
     for digit in digits {
@@ -322,18 +322,22 @@ pub fn number_of(digits: &[u8]) -> u64
     value
 }
 
-/// The value with one more digit, or 2^63 where it is above.
+/// The value with one more digit, or one more than the greatest where it is above.
 #[tactic(auto, unfolding(crate::specs::Steps::next_value))]
 fn next_value(value: u64, digit: u8) -> u64
-    requires { value ≤ 2 ^ 63 }
+    requires { value ≤ MAX_NUMBER + 1 }
     ensures value { result ≡ spec.next_value value digit }
-    ensures bound { result ≤ 2 ^ 63 }
+    ensures bound { result ≤ MAX_NUMBER + 1 }
 {
     let next = u128::from(value) * 10 + u128::from(digit.saturating_sub(b'0'));
-    if next < 1 << 63 { next as u64 } else { 1 << 63 }
+    if next <= u128::from(MAX_NUMBER) {
+        next as u64
+    } else {
+        MAX_NUMBER + 1
+    }
 }
 
-/// Gives the count of a stride, which stands before its last byte, or 2^63 where it is above.
+/// Gives the count of a stride, which stands before its last byte, or one more than `MAX_NUMBER` where it is above.
 #[tactic(auto, unfolding(crate::specs::Steps::stride_count))]
 pub fn stride_count(content: &[u8]) -> u64
     ensures { result ≡ spec.stride_count content.now }
@@ -346,28 +350,28 @@ pub fn stride_count(content: &[u8]) -> u64
 
 /// The unit of a stride, by its last byte.
 #[tactic(auto, unfolding(crate::specs::Steps::stride_unit))]
-fn stride_unit(content: &[u8]) -> StrideUnit
+fn stride_unit(content: &[u8]) -> TimeUnit
     ensures { result ≡ spec.stride_unit content.now }
 {
     match content {
         [.., letter] => unit_of(*letter),
-        [] => StrideUnit::Year,
+        [] => TimeUnit::Year,
     }
 }
 
 /// The unit of a letter.
-fn unit_of(letter: u8) -> StrideUnit
+fn unit_of(letter: u8) -> TimeUnit
     ensures { result ≡ spec.unit_of letter }
 {
     match letter {
-        b'U' => StrideUnit::Micro,
-        b'T' => StrideUnit::Milli,
-        b's' => StrideUnit::Second,
-        b'm' => StrideUnit::Minute,
-        b'h' => StrideUnit::Hour,
-        b'd' => StrideUnit::Day,
-        b'M' => StrideUnit::Month,
-        _ => StrideUnit::Year,
+        b'U' => TimeUnit::Micro,
+        b'T' => TimeUnit::Milli,
+        b's' => TimeUnit::Second,
+        b'm' => TimeUnit::Minute,
+        b'h' => TimeUnit::Hour,
+        b'd' => TimeUnit::Day,
+        b'M' => TimeUnit::Month,
+        _ => TimeUnit::Year,
     }
 }
 

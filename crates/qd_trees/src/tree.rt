@@ -1,7 +1,7 @@
 //! The trees of statements: one type for each rule of the grammar, one field for each part. Offsets are in bytes from
 //! the text's start.
 use crate::range::{Magnitude, StrideCount};
-use qd_base::{ColType, PartUnit, Seq, Txt};
+use qd_base::{ColType, PartUnit, Seq, TimeUnit, Txt};
 use sqlite_items::{Boxed, Items};
 
 /// A name, without quotes.
@@ -396,27 +396,6 @@ pub struct Latest {
     pub keys: Seq<Column>,
 }
 
-/// The unit of a stride, by its letter.
-#[derive(Clone, Copy)]
-pub enum StrideUnit {
-    /// `U`: microseconds.
-    Micro,
-    /// `T`: milliseconds.
-    Milli,
-    /// `s`
-    Second,
-    /// `m`
-    Minute,
-    /// `h`
-    Hour,
-    /// `d`
-    Day,
-    /// `M`
-    Month,
-    /// `y`
-    Year,
-}
-
 /// A count and a unit, as in `15m`.
 #[derive(Drop)]
 pub struct StrideOf {
@@ -425,7 +404,7 @@ pub struct StrideOf {
     /// The count, from 1 to 1,000,000.
     pub count: StrideCount,
     /// The unit.
-    pub unit: StrideUnit,
+    pub unit: TimeUnit,
 }
 
 /// `"NONE" | "NULL" | "PREV" | ["-"] Number`, each with its offset.

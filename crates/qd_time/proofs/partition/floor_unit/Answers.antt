@@ -4,8 +4,8 @@ use Rattle.qd_time.proofs.UnitLemmas.{in_unit, start_of-within}
 use Rattle.qd_time.proofs.partition.floor_unit.Goals as goal
 
 -- the start, by the partition's unit
-starts : (c : goal.After-start) → c.start.result ≡ start_of (unit_of c.args.unit) c.args.ts
-starts c = c.start.ensures ∙ ap (λ u. start_of u c.args.ts) c.of_partition.ensures
+starts : (c : goal.After-start_of) → c.start_of.result ≡ start_of (unit_of c.args.unit) c.args.ts
+starts c = c.start_of.ensures ∙ ap (λ u. start_of u c.args.ts) c.unit_of.ensures
 
 pub returns-clause-not_after : goal.returns-clause-not_after
 returns-clause-not_after c =

@@ -8,7 +8,8 @@ use Rattle.qd_base.specs.declared.op.Entry.{Entry}
 use Rattle.qd_base.specs.Codes.{number_of}
 use Rattle.qd_ilp.specs.Line.{Row, Line, Blank, Gives}
 use Rattle.qd_ilp.specs.Transaction.{LeastCode, Refuses, Says, Work, work_in}
-use Rattle.qd_lines.proofs.CleanLemmas.{HasNone, coded}
+use Rattle.qd_lines.specs.Codes.{IsCodeless}
+use Rattle.qd_lines.proofs.CleanLemmas.{coded}
 
 -- the code of a number
 code_at : ℕ → List Code → Code
@@ -17,14 +18,13 @@ code_at n (c ∷ cs) = cond (eqb (number_of c) n) c (code_at n cs)
 
 every : List Code
 every =
-    code.Frame ∷ code.UnbuiltLine ∷ code.LineSyntax ∷ code.FloatField ∷ code.NumberRange ∷ code.Name ∷ code.TypeClash ∷ code.TimeRange ∷ code.Columns ∷ code.Tables ∷ code.DuplicateColumn ∷ code.TextTooLong ∷ code.TooManyCells
+    code.Frame ∷ code.LineSyntax ∷ code.FloatField ∷ code.NumberRange ∷ code.Name ∷ code.TypeClash ∷ code.TimeRange ∷ code.Columns ∷ code.Tables ∷ code.DuplicateColumn ∷ code.TextTooLong ∷ code.TooManyCells
     ∷ code.SqlSyntax ∷ code.UnknownTable ∷ code.UnknownColumn ∷ code.Types ∷ code.TableExists ∷ code.Keys ∷ code.TooManyBuckets ∷ code.ResultTooLarge ∷ code.TimeLiteral ∷ code.NotBuilt ∷ code.Ambiguous ∷ code.Clock ∷ code.NoWorker
     ∷ code.Full ∷ code.Volume ∷ code.NoRow ∷ code.Memory ∷ []
 
 coded_back : (c : Code) → code_at (number_of c) every ≡ c
 unfolding code_at every
 coded_back code.Frame = refl
-coded_back code.UnbuiltLine = refl
 coded_back code.LineSyntax = refl
 coded_back code.FloatField = refl
 coded_back code.NumberRange = refl
@@ -80,15 +80,15 @@ pub refused : (now : ℕ) (w : Work) (line : Line) → ((c : Code) × Refuses no
 refused now w Blank = inr (λ c h. h)
 refused now w (Gives row) = go (coded w.schemas w.cells now row)
   where
-    go : ((c : Code) × LeastCode w.schemas w.cells now row c) ⊎ HasNone w.schemas w.cells now row → ((c : Code) × Refuses now w (Gives row) c) ⊎ ((c : Code) → Refuses now w (Gives row) c → ⊥)
+    go : ((c : Code) × LeastCode w.schemas w.cells now row c) ⊎ IsCodeless w.schemas w.cells now row → ((c : Code) × Refuses now w (Gives row) c) ⊎ ((c : Code) → Refuses now w (Gives row) c → ⊥)
     go (inl h) = inl h
     go (inr none) = inr (λ c h. none c h.0)
 
 -- a line that isn't refused has no code
-pub none_refused : (now : ℕ) (w : Work) (row : Row) → ((c : Code) → Refuses now w (Gives row) c → ⊥) → HasNone w.schemas w.cells now row
+pub none_refused : (now : ℕ) (w : Work) (row : Row) → ((c : Code) → Refuses now w (Gives row) c → ⊥) → IsCodeless w.schemas w.cells now row
 none_refused now w row f = go (coded w.schemas w.cells now row)
   where
-    go : ((c : Code) × LeastCode w.schemas w.cells now row c) ⊎ HasNone w.schemas w.cells now row → HasNone w.schemas w.cells now row
+    go : ((c : Code) × LeastCode w.schemas w.cells now row c) ⊎ IsCodeless w.schemas w.cells now row → IsCodeless w.schemas w.cells now row
     go (inl h) = absurd (f h.0 h.1)
     go (inr none) = none
 

@@ -1,7 +1,7 @@
 -- Rows from marks.
-use Rattle.std.proofs.Common.{◌≡◌, ℕ, suc, ◌+◌, ◌-◌, ◌<◌, ◌≤◌, Bool, true, false, cond, ltb, ◌||◌, true≢false, List, [], ◌∷◌, ◌++◌, Option, Some, None, length, map, take, drop, get_or, refl, sym, ap, ap₂, ◌∙◌, arith, slice_get, subst, length-drop, append_assoc, drop-cons}
-use Rattle.std.specs.List.{list_any, position, position_or_len, IsDistinct, AllByRecursion}
-use Rattle.std.specs.Option.{is_some, is_none}
+use Rattle.std.proofs.Common.{◌≡◌, ℕ, suc, ◌+◌, ◌-◌, ◌<◌, ◌≤◌, Bool, true, false, ◌||◌, true≢false, List, [], ◌∷◌, ◌++◌, Option, Some, None, length, map, take, drop, get_or, refl, sym, ap, ap₂, ◌∙◌, arith, slice_get, subst, length-drop, append_assoc, drop-cons}
+use Rattle.std.specs.List.{list_any, IsDistinct, AllByRecursion}
+use Rattle.std.specs.Option.{is_none}
 use Rattle.std.proofs.lemmas.List.{map-append, take-map, drop-map, take-append-le, drop-append-le, take-append-drop, take_all}
 use Rattle.std.proofs.lemmas.Option.{get_or_from_slice_get}
 use Rattle.qd_base.specs.declared.cell.Cell.{Cell}
@@ -10,15 +10,15 @@ use Rattle.qd_base.specs.declared.schema.Col.{Col}
 use Rattle.qd_base.specs.declared.schema.ColType.TheVariants as kind
 use Rattle.qd_base.specs.declared.schema.Schema.{Schema}
 use Rattle.qd_base.specs.Database.{missing}
-use Rattle.qd_base.specs.Schemas.{same_name, column_at}
+use Rattle.qd_base.specs.Schemas.{same_name}
+use Rattle.qd_base.proofs.Alike.{names_equal, turned}
 use Rattle.qd_base.proofs.Tables.{find-position}
-use Rattle.qd_base.proofs.Texts.{any_stands}
 use Rattle.qd_ilp.specs.Line.{Item, Row}
 use Rattle.qd_ilp.specs.Transaction.{cell_in, cell_of, columns_before, created, designated, found_or, micros_of, moment_of, name_at, stamp_column, with_items}
-use Rattle.qd_lines.specs.Drafts.{IsUsable, Marked, mark, column_made}
+use Rattle.qd_lines.specs.Drafts.{IsUsable, Marked, mark}
 use Rattle.qd_lines.specs.Cells.{named_cell, row_of}
-use Rattle.qd_lines.proofs.NameLemmas.{names_equal}
-use Rattle.qd_lines.proofs.MarkLemmas.{none_at, found_none, turned, name_at-there}
+use Rattle.qd_lines.proofs.ColumnLemmas.{with_items-behind}
+use Rattle.qd_lines.proofs.MarkLemmas.{none_at, found_none, name_at-there}
 
 pub cell_met : (items : List Item) (c : Col) (at : ℕ) (i : Item) → mark items c ≡ Some at → slice_get items at ≡ Some i → named_cell items c ≡ cell_of i.value
 cell_met items c at i e got = ap (found_or (missing c.kind)) (find-position (λ (x : Item). same_name c.name x.name) items at i e ∙ ap (λ (x : Item). Some x) (get_or_from_slice_get items at i i got))
@@ -76,26 +76,6 @@ module _ (row : Row) (micros : ℕ) (cols : List Col) (time : ℕ) (u : IsUsable
       let zs : List Cell = map (named_cell row.items) added in
       append_assoc (xs ++ cell.Time micros ∷ []) ys zs ∙ append_assoc xs (cell.Time micros ∷ []) (ys ++ zs) ∙ sym parts ∙ ap (map g) (sym whole ∙ m.cols_after) ∙ ap (λ (t : List ℕ). map (cell_in t row micros) (with_items cols row.items)) (sym (name_at-there cols time d u.there))
 
--- whether a name has a place
-some_place : {X : Type 0} (p : X → Bool) (xs : List X) → is_some (position p xs) ≡ list_any p xs
-some_place p xs = go (ltb (position_or_len p xs) (length xs)) ∙ sym (any_stands p xs)
-  where
-    go : (b : Bool) → is_some (cond b (Some (position_or_len p xs)) None) ≡ b
-    go true = refl
-    go false = refl
-
-place_behind : (c : Col) (cols : List Col) (name : List ℕ) → same_name c.name name ≡ false → is_some (column_at (c ∷ cols) name) ≡ is_some (column_at cols name)
-place_behind c cols name h = some_place (λ (x : Col). same_name x.name name) (c ∷ cols) ∙ rw h refl ∙ sym (some_place (λ (x : Col). same_name x.name name) cols)
-
--- a column before the others that no item names stays there
-with_items_behind : (c : Col) (cols : List Col) (items : List Item) → AllByRecursion (λ (i : Item). same_name c.name i.name ≡ false) items → with_items (c ∷ cols) items ≡ c ∷ with_items cols items
-with_items_behind c cols [] h = refl
-with_items_behind c cols (i ∷ is) h = rw (place_behind c cols i.name h.0) (go (is_some (column_at cols i.name)) (λ cs. with_items_behind c cs is h.1))
-  where
-    go : (b : Bool) → ((cs : List Col) → with_items (c ∷ cs) is ≡ c ∷ with_items cs is) → with_items (cond b (c ∷ cols) (c ∷ cols ++ column_made i ∷ [])) is ≡ c ∷ with_items (cond b cols (cols ++ column_made i ∷ [])) is
-    go true rest = rest cols
-    go false rest = rest (cols ++ column_made i ∷ [])
-
 -- no element passes a test that none does
 none_passes : {X : Type 0} (p : X → Bool) (xs : List X) → list_any p xs ≡ false → AllByRecursion (λ x. p x ≡ false) xs
 none_passes p [] h = tt
@@ -109,7 +89,7 @@ none_passes p (x ∷ xs) h = go (p x) refl h (λ k. none_passes p xs k)
 pub added_alone : (row : Row) (added : List Col) (marks : List (Option ℕ)) → Marked (stamp_column ∷ []) stamp_column.name row.items added marks false → added ≡ with_items [] row.items
 added_alone row added marks m =
     let apart = none_passes (λ (i : Item). same_name stamp_column.name i.name) row.items (m.names_twice.none refl).1 in
-    ap (drop 1) (m.cols_after ∙ with_items_behind stamp_column [] row.items apart)
+    ap (drop 1) (m.cols_after ∙ with_items-behind stamp_column [] row.items apart)
 
 -- the row of a line that makes its table
 pub row_made : (row : Row) (micros : ℕ) (added : List Col) (marks : List (Option ℕ)) → Marked (stamp_column ∷ []) stamp_column.name row.items added marks false

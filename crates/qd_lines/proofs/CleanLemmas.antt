@@ -15,7 +15,7 @@ use Rattle.qd_ilp.specs.Value.{Moment, At, Outside}
 use Rattle.qd_ilp.specs.Line.{Item, Row}
 use Rattle.qd_ilp.specs.Transaction.{HasCode, LeastCode, clashes, columns_after, designated, is_float, is_huge, is_long_text, moment_of}
 use Rattle.qd_lines.specs.declared.codes.Found.{Found}
-use Rattle.qd_lines.specs.Codes.{IsCodeOf, first_of}
+use Rattle.qd_lines.specs.Codes.{IsCodeOf, first_of, IsCodeless}
 use Rattle.qd_lines.proofs.CodeLemmas.{code_is}
 use Rattle.qd_lines.proofs.DecisionLemmas.{Decided, told, both_decided, one_decided, not_decided, true_decided, le_decided, lt_decided, distinct_decided, table_name_decided, items_named}
 
@@ -38,10 +38,6 @@ name_decided table items = go (table_name_decided table) (items_named items)
     go (inl h) (inl all) = inr (λ x. elim x [ inl f ↦ f h | inr w ↦ w.2 (All-contains (λ (i : Item). IsColumnName i.name) items w.0 (All-from_recursion (λ (i : Item). IsColumnName i.name) items all) w.1) ])
 
 module _ (schemas : List Schema) (cells now : ℕ) (row : Row) where
-  -- the line has no code
-  abbrev pub HasNone : Type 0
-  HasNone = (c : Code) → HasCode schemas cells now row c → ⊥
-
   abbrev table : Option Schema
   table = schema_of schemas row.table
 
@@ -93,12 +89,12 @@ module _ (schemas : List Schema) (cells now : ℕ) (row : Row) where
   }))
 
   -- a line has a least code, or none
-  pub coded : ((c : Code) × LeastCode schemas cells now row c) ⊎ HasNone
+  pub coded : ((c : Code) × LeastCode schemas cells now row c) ⊎ IsCodeless schemas cells now row
   coded =
       let f : Found = record { float = float_told.0; huge = huge_told.0; name = name_told.0; clash = clash_told.0; time = time_told.0; columns = columns_told.0; tables = tables_told.0; twice = twice_told.0; long = long_told.0; cells = cells_told.0 } in
       go (first_of f) (found_is f refl)
     where
-      go : (o : Option Code) → IsCodeOf schemas cells now row o → ((c : Code) × LeastCode schemas cells now row c) ⊎ HasNone
+      go : (o : Option Code) → IsCodeOf schemas cells now row o → ((c : Code) × LeastCode schemas cells now row c) ⊎ IsCodeless schemas cells now row
       go (Some c) h = inl (c, h.least)
       go None h = inr h.none
 
@@ -132,7 +128,7 @@ pub record Clean (schemas : List Schema) (cells now : ℕ) (row : Row) : Type 0 
   pub short : AllByRecursion (λ (i : Item). is_long_text i.value ≡ false) row.items
   pub few : cells + length (columns_after (schema_of schemas row.table) row) ≤ MAX_BATCH_CELLS
 
-pub clean : (schemas : List Schema) (cells now : ℕ) (row : Row) → HasNone schemas cells now row → Clean schemas cells now row
+pub clean : (schemas : List Schema) (cells now : ℕ) (row : Row) → IsCodeless schemas cells now row → Clean schemas cells now row
 clean schemas cells now row h = record {
   float = none_any (λ (i : Item). is_float i.value) row.items (h code.FloatField);
   table = unless (IsTableName row.table) (table_name_decided row.table) (λ f. h code.Name (inl f));

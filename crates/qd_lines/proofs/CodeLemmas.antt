@@ -30,7 +30,6 @@ module _ (schemas : List Schema) (cells now : ℕ) (row : Row) where
       → (HasCode schemas cells now row code.TooManyCells → P code.TooManyCells)
       → (k : Code) → HasCode schemas cells now row k → P k
   each_code P a b c d e f g h i j code.Frame x = absurd x
-  each_code P a b c d e f g h i j code.UnbuiltLine x = absurd x
   each_code P a b c d e f g h i j code.LineSyntax x = absurd x
   each_code P a b c d e f g h i j code.FloatField x = a x
   each_code P a b c d e f g h i j code.NumberRange x = b x

@@ -1,6 +1,6 @@
 -- The columns that the tags and fields of a line add.
-use Rattle.std.proofs.Common.{◌≡◌, ◌+◌, ◌<◌, ◌≤◌, ◌||◌, Bool, true, false, cond, ltb, List, [], ◌∷◌, ◌++◌, Some, None, length, refl, sym, ap, ◌∙◌, arith, length-append, append_assoc}
-use Rattle.std.specs.List.{AllByRecursion, IsDistinct, list_any, position, position_or_len}
+use Rattle.std.proofs.Common.{◌≡◌, ◌+◌, ◌<◌, ◌≤◌, ◌||◌, Bool, true, false, cond, List, [], ◌∷◌, ◌++◌, length, refl, sym, ap, ◌∙◌, arith, length-append, append_assoc}
+use Rattle.std.specs.List.{AllByRecursion, IsDistinct, list_any}
 use Rattle.std.specs.Option.{is_some, IsNone}
 use Rattle.std.proofs.lemmas.List.{append-nil}
 use Rattle.qd_base.specs.declared.limits.TheConstants.{MAX_COLUMNS}
@@ -9,7 +9,7 @@ use Rattle.qd_base.specs.Names.{IsColumnName}
 use Rattle.qd_base.specs.Schemas.{same_name, column_at}
 use Rattle.qd_base.proofs.Lists.{each-append, IsDistinct-push}
 use Rattle.qd_base.proofs.Tables.{position-none}
-use Rattle.qd_base.proofs.Texts.{any_stands}
+use Rattle.qd_base.proofs.Texts.{some_place}
 use Rattle.qd_ilp.specs.Line.{Item}
 use Rattle.qd_ilp.specs.Transaction.{with_items}
 use Rattle.qd_lines.specs.Drafts.{column_made}
@@ -71,13 +71,6 @@ new-added cols (i ∷ is) h le = go (is_some (column_at cols i.name)) refl (new-
 
 -- ---- a column before the others
 
-some_any : {X : Type 0} (p : X → Bool) (xs : List X) → is_some (position p xs) ≡ list_any p xs
-some_any p xs = go (ltb (position_or_len p xs) (length xs)) ∙ sym (any_stands p xs)
-  where
-    go : (b : Bool) → is_some (cond b (Some (position_or_len p xs)) None) ≡ b
-    go true = refl
-    go false = refl
-
 -- A column that no item names, before the others, stays there.
 pub with_items-behind : (c : Col) (cols : List Col) (items : List Item) → AllByRecursion (λ (i : Item). same_name c.name i.name ≡ false) items → with_items (c ∷ cols) items ≡ c ∷ with_items cols items
 with_items-behind c cols [] h = refl
@@ -85,8 +78,8 @@ with_items-behind c cols (i ∷ is) h = go (is_some (column_at (c ∷ cols) i.na
   where
     same : is_some (column_at (c ∷ cols) i.name) ≡ is_some (column_at cols i.name)
     same =
-        some_any (λ (x : Col). same_name x.name i.name) (c ∷ cols) ∙ ap (λ b. b || list_any (λ (x : Col). same_name x.name i.name) cols) h.0
-        ∙ sym (some_any (λ (x : Col). same_name x.name i.name) cols)
+        some_place (λ (x : Col). same_name x.name i.name) (c ∷ cols) ∙ ap (λ b. b || list_any (λ (x : Col). same_name x.name i.name) cols) h.0
+        ∙ sym (some_place (λ (x : Col). same_name x.name i.name) cols)
 
     go : (a b : Bool) → a ≡ b → with_items (c ∷ cols) is ≡ c ∷ with_items cols is → with_items (c ∷ (cols ++ column_made i ∷ [])) is ≡ c ∷ with_items (cols ++ column_made i ∷ []) is
         → with_items (cond a (c ∷ cols) (c ∷ (cols ++ column_made i ∷ []))) is ≡ c ∷ with_items (cond b cols (cols ++ column_made i ∷ [])) is

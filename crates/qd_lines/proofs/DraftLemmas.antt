@@ -6,6 +6,7 @@ use Rattle.std.proofs.lemmas.Bool.Decides.{eqb_tells}
 use Rattle.std.proofs.lemmas.List.{get_or_append_left, get_or_push, get_or-map, map-append, take_more, append-nil, length-map}
 use Rattle.std.proofs.lemmas.Map.Keys.{apart_from_distinct}
 use Rattle.std.proofs.lemmas.Option.{none-some, get_or_from_slice_get}
+use Rattle.qd_base.proofs.Alike.{joins, names_equal, turned}
 use Rattle.qd_base.proofs.Lists.{IsDistinct-push, IsDistinct-nil, each-weaker}
 use Rattle.std.proofs.lemmas.List.Folds.{list_any-append}
 use Rattle.std.proofs.lemmas.List.Sums.{fold-append}
@@ -21,8 +22,7 @@ use Rattle.qd_ilp.specs.Transaction.{name_at, suits, with_items}
 use Rattle.qd_lines.specs.declared.draft.Columns.{Columns}
 use Rattle.qd_lines.specs.declared.draft.Draft.{Draft}
 use Rattle.qd_lines.specs.Drafts.{IsUsable, mark, time_name, clashes_in, column_made, ValuesSeen, NamesSeen, AreTwice, TwiceSeen, Marked, Draws}
-use Rattle.qd_lines.proofs.NameLemmas.{names_equal}
-use Rattle.qd_lines.proofs.MarkLemmas.{joins, turned, all_at, name_at-there, place_is, others_differ, none_before, none_at, none_from, found_none, marks_met, marks_kept, mark_met}
+use Rattle.qd_lines.proofs.MarkLemmas.{all_at, name_at-there, place_is, others_differ, none_before, none_at, none_from, found_none, marks_met, marks_kept, mark_met}
 
 -- a name more is fair or not
 pub named : (items : List Item) (i : Item) (old fair new : Bool) → (fair ≡ true → IsColumnName i.name) → (IsColumnName i.name → fair ≡ true) → new ≡ (old || not fair) → NamesSeen items old → NamesSeen (items ++ i ∷ []) new

@@ -16,17 +16,18 @@ use Rattle.qd_base.specs.declared.op.Entry.{Entry}
 use Rattle.qd_base.specs.Rows.{Row as Cells}
 use Rattle.qd_base.specs.Schemas.{same_name, schema_of, schemas_step}
 use Rattle.qd_base.specs.Lawful.{AreLawful, AreSchemas, IsRowOf, cells_in, cells_of}
+use Rattle.qd_base.proofs.Alike.{names_equal}
 use Rattle.qd_base.proofs.Lists.{each-both, each-weaker}
 use Rattle.qd_base.proofs.Tables.{position-found}
 use Rattle.qd_ilp.specs.Line.{Item, Row, Line, Blank, Gives}
 use Rattle.qd_ilp.specs.Transaction.{Refuses, Says, Work, cell_in, clashes, columns_after, created, designated, is_float, is_long_text, line_ops, micros_of, moment_of, name_at, start, with_items, work_in}
 use Rattle.qd_ilp.specs.Whole.{Reading, IsReading}
 use Rattle.qd_lines.specs.Laws.{IsReadable, IsRowReadable, IsLineReadable, KeepLaws}
+use Rattle.qd_lines.specs.Codes.{IsCodeless}
 use Rattle.qd_lines.proofs.AnswerLemmas.{none_refused}
-use Rattle.qd_lines.proofs.CleanLemmas.{Clean, HasNone, clean}
+use Rattle.qd_lines.proofs.CleanLemmas.{Clean, clean}
 use Rattle.qd_lines.proofs.ColumnLemmas.{added_by, with_items_added}
 use Rattle.qd_lines.proofs.JoinLemmas.{grown-cells, grown-lawful, grown-schemas}
-use Rattle.qd_lines.proofs.NameLemmas.{names_equal}
 use Rattle.qd_lines.proofs.ReadableLemmas.{reading-readable}
 use Rattle.qd_lines.proofs.RowLemmas.{IsFair, row-made, row-there, timely}
 use Rattle.qd_lines.proofs.SchemaLemmas.{added-there, adds, adds-lawful, as-many, create-lawful, found-itself, new-there, schema-there, schemas-line}
@@ -72,7 +73,7 @@ line-lawful schemas cells now row are r c (Some s) e =
     (λ ss found. insert-lawful ss s.name (record s { cols = s.cols ++ more }) (map f (with_items s.cols row.items)) found (same (s.cols ++ more) (with_items_added s.cols row.items))) in
     subst (λ (cs : List Col). AreLawful schemas (adds s.name cs ++ op.Insert s.name (map f (with_items s.cols row.items) ∷ []) ∷ [])) (sym (added-there schemas cells now row c s e)) lawful
 
-pub line-keeps : (now cells : ℕ) (schemas : List Schema) (row : Row) → AreSchemas schemas → IsRowReadable row → HasNone schemas cells now row → KeepLaws schemas (line_ops (schema_of schemas row.table) now row)
+pub line-keeps : (now cells : ℕ) (schemas : List Schema) (row : Row) → AreSchemas schemas → IsRowReadable row → IsCodeless schemas cells now row → KeepLaws schemas (line_ops (schema_of schemas row.table) now row)
 line-keeps now cells schemas row are r none = record {
   lawful = line-lawful schemas cells now row are r (clean schemas cells now row none) (schema_of schemas row.table) refl;
   after = schemas-line schemas cells now row are none;
@@ -113,7 +114,7 @@ record Worked (schemas : List Schema) (w : Work) : Type 0 where
 worked-line : (now : ℕ) (schemas : List Schema) (w : Work) (line : Line) → Worked schemas w → IsLineReadable line → ((c : Code) → Refuses now w line c → ⊥) → Worked schemas (work_in now w line)
 worked-line now schemas w Blank h r none = h
 worked-line now schemas w (Gives row) h r none =
-    let no : HasNone w.schemas w.cells now row = none_refused now w row none in
+    let no : IsCodeless w.schemas w.cells now row = none_refused now w row none in
     let c : Clean w.schemas w.cells now row = clean w.schemas w.cells now row no in
     let ops : List Op = line_ops (schema_of w.schemas row.table) now row in
     let keeps : KeepLaws w.schemas ops = line-keeps now w.cells w.schemas row h.are r no in

@@ -1,4 +1,3 @@
-pub mod NameLemmas
 pub mod ChangesLemmas
 pub mod OverlayLemmas
 pub mod MarkLemmas

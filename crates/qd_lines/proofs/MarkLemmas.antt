@@ -1,5 +1,5 @@
 -- Names, places and marks: which items name which columns, and what one more item changes.
-use Rattle.std.proofs.Common.{◌≡◌, ℕ, zero, suc, ◌+◌, ◌-◌, ◌<◌, ◌≤◌, inl, inr, Bool, true, false, not, cond, eqb, ltb, List, [], ◌∷◌, ◌++◌, Option, Some, None, length, map, get_or, set, refl, sym, ap, ap₂, ◌∙◌, arith, length-append, le_of_suc-le-suc}
+use Rattle.std.proofs.Common.{◌≡◌, ℕ, zero, suc, ◌+◌, ◌-◌, ◌<◌, ◌≤◌, inl, inr, Bool, true, false, cond, eqb, ltb, List, [], ◌∷◌, ◌++◌, Option, Some, None, length, map, get_or, set, refl, sym, ap, ap₂, ◌∙◌, arith, length-append, le_of_suc-le-suc}
 use Rattle.std.specs.List.{position_or_len, position, find, IsDistinct, AllByRecursion}
 use Rattle.std.specs.Option.{option_or, is_some}
 use Rattle.std.proofs.lemmas.Bool.{lt-ltb, le-ltb, cases_lt}
@@ -12,18 +12,12 @@ use Rattle.std.proofs.lemmas.Map.Keys.{apart_from_distinct}
 use Rattle.std.proofs.lemmas.Option.{slice_get-get_or}
 use Rattle.qd_base.specs.declared.schema.Col.{Col}
 use Rattle.qd_base.specs.Schemas.{same_name, column_at}
+use Rattle.qd_base.proofs.Alike.{joins, turned}
 use Rattle.qd_base.proofs.Tables.{position-none}
+use Rattle.qd_base.proofs.Texts.{position_within}
 use Rattle.qd_ilp.specs.Line.{Item}
 use Rattle.qd_ilp.specs.Transaction.{name_at}
 use Rattle.qd_lines.specs.Drafts.{mark}
-use Rattle.qd_lines.proofs.NameLemmas.{names_equal}
-
--- what is one with a name, or isn't, is so with each name that is one with it
-pub joins : (a b c : List ℕ) (v : Bool) → same_name a b ≡ true → same_name a c ≡ v → same_name b c ≡ v
-joins a b c v h k = sym (names_equal.congr a b c h) ∙ k
-
-pub turned : (a b : List ℕ) (v : Bool) → same_name a b ≡ v → same_name b a ≡ v
-turned a b v h = names_equal.symm b a ∙ h
 
 pub all_at : {X : Type 0} (P : X → Type 0) (xs : List X) (k : ℕ) (d : X) → AllByRecursion P xs → k < length xs → P (get_or xs k d)
 all_at P [] k d h lt = absurd (omega arith)
@@ -35,14 +29,6 @@ all_of P [] f = tt
 all_of P (x ∷ xs) f = (f 0 x (omega arith), all_of P xs (λ k d lt. f (suc k) d (omega arith)))
 
 module _ {X : Type 0} (p : X → Bool) where
-  within : (xs : List X) → position_or_len p xs ≤ length xs
-  within [] = omega arith
-  within (x ∷ xs) = go (p x) (position_or_len p xs) (length xs) (within xs)
-    where
-      go : (b : Bool) (n m : ℕ) → n ≤ m → cond (not b) (1 + n) 0 ≤ suc m
-      go true n m h = omega arith
-      go false n m h = omega arith
-
   placed : (xs : List X) (i : ℕ) → position_or_len p xs ≡ i → i < length xs → position p xs ≡ Some i
   placed xs i e lt = rw e (ap (λ b. cond b (Some i) None) (lt-ltb i (length xs) lt))
 
@@ -61,7 +47,7 @@ module _ {X : Type 0} (p : X → Bool) where
 
   -- the first place among one element more
   pub position_push : (xs : List X) (y : X) → position p (xs ++ y ∷ []) ≡ option_or (position p xs) (cond (p y) (Some (length xs)) None)
-  position_push xs y = rw (position_or_len_push p xs y, length-append xs (y ∷ [])) (one_push (position_or_len p xs) (length xs) (p y) (within xs))
+  position_push xs y = rw (position_or_len_push p xs y, length-append xs (y ∷ [])) (one_push (position_or_len p xs) (length xs) (p y) (position_within p xs))
 
   pub none_at : (xs : List X) → position p xs ≡ None → AllByRecursion (λ x. p x ≡ false) xs
   none_at xs h = position-none p xs (ap is_some h)

@@ -1,21 +1,18 @@
 -- What an overlay shows, when a table is made and when a column is added.
-use Rattle.std.proofs.Common.{◌≡◌, ℕ, ◌+◌, Bool, true, false, cond, List, [], ◌∷◌, ◌++◌, Option, Some, None, IsNone, if◌then◌else◌, length, length-append, get_or, refl, sym, ap, ◌∙◌, true≢false, arith, slice_get, IfSome, is_some}
+use Rattle.std.proofs.Common.{◌≡◌, ℕ, ◌+◌, Bool, true, false, cond, List, [], ◌∷◌, ◌++◌, Option, Some, None, IsNone, length-append, get_or, set, refl, sym, ap, ◌∙◌, true≢false, arith, slice_get, IfSome, is_some}
 use Rattle.std.specs.Option.{option_map, option_or}
-use Rattle.std.proofs.lemmas.List.{length-map}
+use Rattle.std.proofs.lemmas.List.Folds.{find-append}
 use Rattle.std.proofs.lemmas.List.Quantifiers.{position-Some}
 use Rattle.std.proofs.lemmas.Option.{same_Some, slice_get-get_or}
 use Rattle.qd_base.specs.declared.schema.Col.{Col}
 use Rattle.qd_base.specs.declared.schema.Schema.{Schema}
 use Rattle.qd_base.specs.Schemas.{same_name, at_name, with_column, schema_of, table_at}
-use Rattle.qd_base.proofs.Tables.{find-position, map-kept, not_found}
+use Rattle.qd_base.proofs.Alike.{alike, find-at_other, find-at_same, names_equal}
+use Rattle.qd_base.proofs.Lawful.{length-at_name}
+use Rattle.qd_base.proofs.Tables.{at_name-position, find-position, not_found}
 use Rattle.qd_lines.specs.Overlays.{Overlays}
-use Rattle.qd_lines.proofs.NameLemmas.{names_equal}
 
 -- ---- the table of a name
-
--- names that are one are compared alike
-alike : (a b name : List ℕ) → same_name a b ≡ true → same_name name a ≡ same_name name b
-alike a b name h = names_equal.symm name a ∙ names_equal.congr a b name h ∙ names_equal.symm b name
 
 pub found-alike : (schemas : List Schema) (a b : List ℕ) → same_name a b ≡ true → schema_of schemas a ≡ schema_of schemas b
 found-alike [] a b h = refl
@@ -41,18 +38,20 @@ not-found schemas name at = go (schema_of schemas name) refl
     go None e = refl
     go (Some s) e = absurd (not_found (λ t. same_name t.name name) (λ t. Unit {0}) schemas at (rw e tt))
 
+-- a column pushed onto the columns of the table at a name's position
+pub column_pushed : (items : List Schema) (table : List ℕ) (col added : Col) (i : ℕ) (s : Schema) (cols : List Col) → Some i ≡ table_at items table → s ≡ get_or items i s → added ≡ col → cols ≡ s.cols ++ added ∷ [] → set items i (record s { cols = cols }) ≡ at_name (λ (t : Schema). t.name) (with_column col) table items
+column_pushed items table col added i s cols at is same pushed =
+    let h = at_name-position (λ (t : Schema). t.name) (with_column col) table items i s (sym at) in
+    let e : get_or items i s ≡ s = sym is in
+    rw (h, e, pushed, same) refl
+
 -- ---- one table more
 
 abbrev added : Schema → List ℕ → Option Schema
 added s name = cond (same_name s.name name) (Some s) None
 
 found-pushed : (schemas : List Schema) (s : Schema) (name : List ℕ) → schema_of (schemas ++ s ∷ []) name ≡ option_or (schema_of schemas name) (added s name)
-found-pushed [] s name = refl
-found-pushed (x ∷ xs) s name = go (same_name x.name name) (found-pushed xs s name)
-  where
-    go : (b : Bool) → schema_of (xs ++ s ∷ []) name ≡ option_or (schema_of xs name) (added s name) → cond b (Some x) (schema_of (xs ++ s ∷ []) name) ≡ option_or (cond b (Some x) (schema_of xs name)) (added s name)
-    go true h = refl
-    go false h = h
+found-pushed schemas s name = find-append (λ (t : Schema). same_name t.name name) schemas (s ∷ [])
 
 module _ {T : Type 0} where
   or-none : (o : Option T) → option_or o None ≡ o
@@ -88,33 +87,17 @@ module _ (base own all : List Schema) (tables : ℕ) (o : Overlays base own all 
 abbrev pub widened : List ℕ → Col → List Schema → List Schema
 widened table col schemas = at_name (λ s. s.name) (with_column col) table schemas
 
-length-widened : (table : List ℕ) (col : Col) (schemas : List Schema) → length (widened table col schemas) ≡ length schemas
-length-widened table col schemas =
-    sym (length-map (widened table col schemas) (λ (s : Schema). s.name))
-    ∙ ap length (map-kept (λ (s : Schema). s.name) (with_column col) (λ (s : Schema). s.name) table (λ s. refl) schemas)
-    ∙ length-map schemas (λ (s : Schema). s.name)
-
 module _ (table : List ℕ) (col : Col) where
   found-widened : (schemas : List Schema) (name : List ℕ) → same_name table name ≡ true → schema_of (widened table col schemas) name ≡ option_map (with_column col) (schema_of schemas name)
-  found-widened [] name h = refl
-  found-widened (x ∷ xs) name h = go (same_name x.name table) (sym (alike table name x.name h)) (found-widened xs name h)
-    where
-      go : (b : Bool) → same_name x.name name ≡ b → schema_of (widened table col xs) name ≡ option_map (with_column col) (schema_of xs name) → schema_of (if b then with_column col x ∷ xs else x ∷ widened table col xs) name ≡ option_map (with_column col) (cond (same_name x.name name) (Some x) (schema_of xs name))
-      go true e ih = rw e refl
-      go false e ih = rw e ih
+  found-widened schemas name same = find-at_same (λ (s : Schema). s.name) (with_column col) (λ s. refl) table name same schemas
 
   found-others : (schemas : List Schema) (name : List ℕ) → same_name table name ≡ false → schema_of (widened table col schemas) name ≡ schema_of schemas name
-  found-others [] name h = refl
-  found-others (x ∷ xs) name h = go (same_name x.name table) refl (found-others xs name h)
-    where
-      go : (b : Bool) → same_name x.name table ≡ b → schema_of (widened table col xs) name ≡ schema_of xs name → schema_of (if b then with_column col x ∷ xs else x ∷ widened table col xs) name ≡ cond (same_name x.name name) (Some x) (schema_of xs name)
-      go true e ih = let other : same_name x.name name ≡ false = names_equal.congr x.name table name e ∙ h in rw other refl
-      go false e ih = ap (λ p. cond (same_name x.name name) (Some x) p) ih
+  found-others schemas name differ = find-at_other (λ (s : Schema). s.name) (with_column col) (λ s. refl) table name differ schemas
 
   module _ (base own all : List Schema) (tables : ℕ) (o : Overlays base own all tables) where
     -- Whatever is put for `own`, it shows the wider table of that name, and the other tables as before.
     shows : (new : List Schema) → ((name : List ℕ) → same_name table name ≡ true → option_map (with_column col) (option_or (schema_of own name) (schema_of base name)) ≡ option_or (schema_of new name) (schema_of base name)) → ((name : List ℕ) → same_name table name ≡ false → schema_of own name ≡ schema_of new name) → Overlays base new (widened table col all) tables
-    shows new there other = record { named = λ name. case name (same_name table name) refl; count = length-widened table col all ∙ o.count }
+    shows new there other = record { named = λ name. case name (same_name table name) refl; count = length-at_name col table all ∙ o.count }
       where
         case : (name : List ℕ) (b : Bool) → same_name table name ≡ b → schema_of (widened table col all) name ≡ option_or (schema_of new name) (schema_of base name)
         case name true e = found-widened all name e ∙ ap (option_map (with_column col)) (o.named name) ∙ there name e

@@ -15,16 +15,16 @@ use Rattle.qd_base.specs.Database.{missing}
 use Rattle.qd_base.specs.Rows.{cell_at}
 use Rattle.qd_base.specs.Schemas.{same_name}
 use Rattle.qd_base.specs.Lawful.{HasKinds, IsRowOf, IsSchema, Takes}
-use Rattle.qd_base.proofs.Lists.{each-append, each-both, each-weaker, IsDistinct-nil}
+use Rattle.qd_base.proofs.Alike.{joins, names_equal, turned}
+use Rattle.qd_base.proofs.Lawful.{missing-taken}
+use Rattle.qd_base.proofs.Lists.{each-append, each-both, each-weaker, get-last, IsDistinct-nil}
 use Rattle.qd_ilp.specs.Value.{Value, Tag, Text, Long, Huge, Truth, Other, Moment, At, Outside}
 use Rattle.qd_ilp.specs.Line.{Item, Row}
 use Rattle.qd_ilp.specs.Transaction.{cell_in, cell_of, clashes, created, designated, found_or, is_float, is_long_text, kind_of, micros_of, misfits, moment_of, name_at, stamp_column, suits, with_items}
 use Rattle.qd_lines.specs.Drafts.{column_made}
 use Rattle.qd_lines.specs.Laws.{IsReadable, IsStamped}
 use Rattle.qd_lines.proofs.ColumnLemmas.{each-with_items}
-use Rattle.qd_lines.proofs.MarkLemmas.{joins, turned}
-use Rattle.qd_lines.proofs.NameLemmas.{names_equal}
-use Rattle.qd_lines.proofs.SchemaLemmas.{found-is, get-last}
+use Rattle.qd_lines.proofs.SchemaLemmas.{found-is}
 
 -- ---- distinct elements
 
@@ -41,13 +41,6 @@ own {X} e (x ∷ xs) d = (λ p h g. rw h refl, each-weaker (λ z. (e x z ≡ fal
     later z h p is g = rw (g x h.0) (h.1 p is g)
 
 -- ---- the cell of a value
-
-missing-taken : (k : ColType) → Takes k (missing k)
-missing-taken kind.Long = tt
-missing-taken kind.Bool = tt
-missing-taken kind.Symbol = tt
-missing-taken kind.Varchar = tt
-missing-taken kind.Time = tt
 
 -- a value without a fault
 pub record IsFair (v : Value) : Type 0 where

@@ -9,15 +9,12 @@ use Rattle.qd_base.specs.Rows.{Row as Cells, put}
 use Rattle.qd_base.specs.Schemas.{same_name, at_name, schema_of, schemas_step}
 use Rattle.qd_base.specs.Database.{Database, StoredTable, filled, step, schemas_of}
 use Rattle.qd_base.specs.Replay.{commit}
+use Rattle.qd_base.proofs.Alike.{alike}
 use Rattle.qd_base.proofs.Tables.{schemas_of-commit}
 use Rattle.qd_ilp.specs.Line.{Line, Blank, Gives}
 use Rattle.qd_ilp.specs.Transaction.{Says, Work, joined, line_ops, start, work_in}
 use Rattle.qd_lines.specs.Laws.{after_line}
 use Rattle.qd_lines.proofs.FitLemmas.{made}
-use Rattle.qd_lines.proofs.NameLemmas.{names_equal}
-
-alike : (a b name : List ℕ) → same_name a b ≡ true → same_name name a ≡ same_name name b
-alike a b name h = names_equal.symm name a ∙ names_equal.congr a b name h ∙ names_equal.symm b name
 
 filled-twice : (rows more : List Cells) (t : StoredTable) → filled (rows ++ more) t ≡ filled more (filled rows t)
 filled-twice rows more t = ap (λ (rs : List Cells). let u : StoredTable = record { schema = t.schema; rows = rs } in u) (fold-append (put t.schema.time_col t.schema.keys) t.rows rows more)

@@ -22,12 +22,12 @@ use Rattle.qd_ilp.specs.Transaction.{Work, LeastCode, Says, columns_after, colum
 use Rattle.qd_lines.specs.declared.codes.Place.{Place}
 use Rattle.qd_lines.specs.declared.draft.Draft.{Draft}
 use Rattle.qd_lines.specs.declared.walk.Walk.{Walk}
-use Rattle.qd_lines.specs.declared.walk.Drawn.{Drawn}
 use Rattle.qd_lines.specs.Cells.{row_of}
-use Rattle.qd_lines.specs.Codes.{IsPlaceOf, KeepsTo}
+use Rattle.qd_lines.specs.Codes.{IsPlaceOf, KeepsTo, spelled_as}
 use Rattle.qd_lines.specs.Drafts.{Draws, Marked, time_name}
 use Rattle.qd_lines.specs.Overlays.{Covers}
-use Rattle.qd_lines.specs.Walks.{Walks, IsDrawn, HasNone, SaysOf, Leads, schema_made}
+use Rattle.qd_lines.specs.Sinks.{with_row}
+use Rattle.qd_lines.specs.Walks.{Walks, IsDrawn, HasNone, SaysOf, Leads, opened, schema_made}
 use Rattle.qd_lines.proofs.CellLemmas.{added_alone}
 use Rattle.qd_lines.proofs.SchemaLemmas.{schemas-line}
 
@@ -54,42 +54,59 @@ pub on_ok : {A E P Q : Type 0} (r : Result A E) → OnOk r P → (P → Q) → O
 on_ok (Ok x) h f = f h
 on_ok (Err e) h f = tt
 
-module _ (work : Work) (now : ℕ) (row : Row) (old new : Walk) (drawn : Drawn) (h : Walks old work) (none : HasNone now work row) (d : IsDrawn now work row old.draft drawn) (cells : new.cells ≡ old.cells + length old.draft.marks.items) (stamp : new.stamp ≡ old.stamp) where
-  -- a walk after a line, from the tables and the changes
-  after : Covers new.overlay (fold schemas_step work.schemas (line_ops (schema_of work.schemas row.table) now row)) → new.changes ≡ fold joined work.ops (line_ops (schema_of work.schemas row.table) now row) → Walks new (work_in now work (Gives row))
-  after covers changes = record {
+-- the changes of a line are those of the definition, by what it finds of its table
+pub told : (o : Option Schema) (now : ℕ) (row : Row) (fresh : Bool) (name : List ℕ) (added : List Col) (stamp : Col) (ops : List Op) → fresh ≡ is_none o → name ≡ spelled_as o row.table → stamp ≡ stamp_column → (fresh ≡ true → added ≡ with_items [] row.items) → columns_before o ++ added ≡ columns_after o row
+    → with_row name (row_of o now row) (opened fresh name added stamp ops) ≡ fold joined ops (line_ops o now row)
+told None now row fresh name added stamp ops is named stamped alone after =
+    let r : List Cell = row_of None now row in
+    ap (λ (b : Bool). with_row name r (opened b name added stamp ops)) is
+    ∙ ap (λ (n : List ℕ). with_row n r (opened true n added stamp ops)) named
+    ∙ ap₂ (λ (cs : List Col) (s : Col). with_row row.table r (opened true row.table cs s ops)) (alone is) stamped
+told (Some s) now row fresh name added stamp ops is named stamped alone after =
+    let r : List Cell = row_of (Some s) now row in
+    let behind : added ≡ drop (length s.cols) (with_items s.cols row.items) = sym (drop-append_seam s.cols added) ∙ ap (drop (length s.cols)) after in
+    ap (λ (b : Bool). with_row name r (opened b name added stamp ops)) is
+    ∙ ap (λ (n : List ℕ). with_row n r (opened false n added stamp ops)) named
+    ∙ ap (λ (cs : List Col). with_row s.name r (fold joined ops (map (op.AddColumn s.name) cs))) behind
+    ∙ sym (fold-append joined ops (map (λ c. op.AddColumn s.name c) (drop (length s.cols) (with_items s.cols row.items))) (op.Insert s.name (r ∷ []) ∷ []))
+
+module _ (work : Work) (now : ℕ) (row : Row) (old new : Walk) (fresh : Bool) (h : Walks old work) (none : HasNone now work row) (d : IsDrawn now work row old.draft fresh) (cells : new.cells ≡ old.cells + length old.draft.marks.items) (stamp : new.stamp ≡ old.stamp) where
+  -- a walk after a line, from the tables
+  after : Covers new.overlay (fold schemas_step work.schemas (line_ops (schema_of work.schemas row.table) now row)) → Walks new (work_in now work (Gives row))
+  after covers = record {
     covers = covers;
-    changes = changes;
     cells = cells ∙ ap₂ (λ (a b : ℕ). a + b) h.cells d.count;
     few = omega (arith, d.fits, d.count);
     stamp = stamp ∙ h.stamp;
     schemas = schemas-line work.schemas work.cells now row h.schemas none;
   }
 
-  pub walks_fresh : (schema : Schema) → drawn.fresh ≡ true → schema ≡ schema_made row.table old.draft.added.items stamp_column → Covers new.overlay (schemas_step work.schemas (op.Create schema)) → new.changes ≡ joined (joined old.changes (op.Create schema)) (op.Insert row.table (drawn.cells ∷ [])) → Walks new (work_in now work (Gives row))
-  walks_fresh schema is made covers changes = let both = go (schema_of work.schemas row.table) (sym is ∙ d.fresh) d.cells in after both.0 both.1
+  pub walks_fresh : (schema : Schema) → fresh ≡ true → schema ≡ schema_made row.table old.draft.added.items stamp_column → Covers new.overlay (schemas_step work.schemas (op.Create schema)) → Walks new (work_in now work (Gives row))
+  walks_fresh schema is made covers = after (go (schema_of work.schemas row.table) (sym is ∙ d.fresh_is))
     where
-      go : (o : Option Schema) → true ≡ is_none o → drawn.cells ≡ row_of o now row → Covers new.overlay (fold schemas_step work.schemas (line_ops o now row)) × (new.changes ≡ fold joined work.ops (line_ops o now row))
-      go None e cs =
-          let same : schema ≡ created row = made ∙ ap (λ (xs : List Col). schema_made row.table xs stamp_column) (d.alone is) in
-          (subst (λ (s : Schema). Covers new.overlay (schemas_step work.schemas (op.Create s))) same covers, changes ∙ ap₂ (λ (ops : List Op) (s : Schema). joined (joined ops (op.Create s)) (op.Insert row.table (drawn.cells ∷ []))) h.changes same ∙ ap (λ (r : List Cell). joined (joined work.ops (op.Create (created row))) (op.Insert row.table (r ∷ []))) cs)
-      go (Some s) e cs = absurd (true≢false e)
+      go : (o : Option Schema) → true ≡ is_none o → Covers new.overlay (fold schemas_step work.schemas (line_ops o now row))
+      go None e = subst (λ (s : Schema). Covers new.overlay (schemas_step work.schemas (op.Create s))) (made ∙ ap (λ (xs : List Col). schema_made row.table xs stamp_column) (d.alone is)) covers
+      go (Some s) e = absurd (true≢false e)
 
-  pub walks_old : (name : List ℕ) → drawn.fresh ≡ false → ((s : Schema) → schema_of work.schemas row.table ≡ Some s → name ≡ s.name) → Covers new.overlay (fold schemas_step work.schemas (map (op.AddColumn name) old.draft.added.items))
-      → new.changes ≡ joined (fold joined old.changes (map (op.AddColumn name) old.draft.added.items)) (op.Insert name (drawn.cells ∷ [])) → Walks new (work_in now work (Gives row))
-  walks_old name is named covers changes = let both = go (schema_of work.schemas row.table) refl (sym is ∙ d.fresh) d.cells d.added in after both.0 both.1
+  -- the columns that a line adds are those behind the others
+  behind : (s : Schema) → columns_before (Some s) ++ old.draft.added.items ≡ columns_after (Some s) row → old.draft.added.items ≡ drop (length s.cols) (with_items s.cols row.items)
+  behind s added = sym (drop-append_seam s.cols old.draft.added.items) ∙ ap (drop (length s.cols)) added
+
+  pub walks_same : fresh ≡ false → old.draft.added.items ≡ [] → Covers new.overlay work.schemas → Walks new (work_in now work (Gives row))
+  walks_same is nothing covers = after (go (schema_of work.schemas row.table) (sym is ∙ d.fresh_is) d.added)
     where
-      go : (o : Option Schema) → schema_of work.schemas row.table ≡ o → false ≡ is_none o → drawn.cells ≡ row_of o now row → columns_before o ++ old.draft.added.items ≡ columns_after o row → Covers new.overlay (fold schemas_step work.schemas (line_ops o now row)) × (new.changes ≡ fold joined work.ops (line_ops o now row))
-      go None found e cs added = absurd (true≢false (sym e))
-      go (Some s) found e cs added =
-          let same : name ≡ s.name = named s found in
-          let behind : old.draft.added.items ≡ drop (length s.cols) (with_items s.cols row.items) = sym (drop-append_seam s.cols old.draft.added.items) ∙ ap (drop (length s.cols)) added in
-          let adds : map (op.AddColumn name) old.draft.added.items ≡ map (λ c. op.AddColumn s.name c) (drop (length s.cols) (with_items s.cols row.items)) = ap₂ (λ (t : List ℕ) (xs : List Col). map (op.AddColumn t) xs) same behind in
-          let new_columns : List Op = map (λ c. op.AddColumn s.name c) (drop (length s.cols) (with_items s.cols row.items)) in
-          let put : List Op = op.Insert s.name (row_of (Some s) now row ∷ []) ∷ [] in (
-            subst (Covers new.overlay) (ap (fold schemas_step work.schemas) adds ∙ sym (fold-append schemas_step work.schemas new_columns put)) covers,
-            changes ∙ ap₂ (λ (ops : List Op) (xs : List Op). joined (fold joined ops xs) (op.Insert name (drawn.cells ∷ []))) h.changes adds ∙ ap₂ (λ (t : List ℕ) (r : List Cell). joined (fold joined work.ops new_columns) (op.Insert t (r ∷ []))) same cs ∙ sym (fold-append joined work.ops new_columns put),
-          )
+      go : (o : Option Schema) → false ≡ is_none o → columns_before o ++ old.draft.added.items ≡ columns_after o row → Covers new.overlay (fold schemas_step work.schemas (line_ops o now row))
+      go None e added = absurd (true≢false (sym e))
+      go (Some s) e added = subst (λ (xs : List Col). Covers new.overlay (fold schemas_step work.schemas (map (λ c. op.AddColumn s.name c) xs ++ op.Insert s.name (row_of (Some s) now row ∷ []) ∷ []))) (sym nothing ∙ behind s added) covers
+
+  pub walks_wider : (name : List ℕ) → fresh ≡ false → ((s : Schema) → schema_of work.schemas row.table ≡ Some s → name ≡ s.name) → Covers new.overlay (fold schemas_step work.schemas (map (op.AddColumn name) old.draft.added.items)) → Walks new (work_in now work (Gives row))
+  walks_wider name is named covers = after (go (schema_of work.schemas row.table) refl (sym is ∙ d.fresh_is) d.added)
+    where
+      go : (o : Option Schema) → schema_of work.schemas row.table ≡ o → false ≡ is_none o → columns_before o ++ old.draft.added.items ≡ columns_after o row → Covers new.overlay (fold schemas_step work.schemas (line_ops o now row))
+      go None found e added = absurd (true≢false (sym e))
+      go (Some s) found e added =
+          let adds : map (op.AddColumn name) old.draft.added.items ≡ map (λ c. op.AddColumn s.name c) (drop (length s.cols) (with_items s.cols row.items)) = ap₂ (λ (t : List ℕ) (xs : List Col). map (op.AddColumn t) xs) (named s found) (behind s added) in
+          subst (Covers new.overlay) (ap (fold schemas_step work.schemas) adds ∙ sym (fold-append schemas_step work.schemas (map (λ c. op.AddColumn s.name c) (drop (length s.cols) (with_items s.cols row.items))) (op.Insert s.name (row_of (Some s) now row ∷ []) ∷ []))) covers
 
 pub is_nothing : {X : Type 0} (o : Option X) → true ≡ is_none o → IsNone o
 is_nothing None e = refl

@@ -9,7 +9,7 @@ use Rattle.qd_lines.specs.declared.changes.Insertion.{Insertion}
 -- the change that an insertion is
 abbrev pub inserted : Option Insertion → List Op
 inserted None = []
-inserted (Some i) = op.Insert i.table i.rows ∷ []
+inserted (Some i) = op.Insert i.table (i.rows ++ i.row ∷ []) ∷ []
 
 -- a change that inserts no rows
 abbrev pub IsPlain : Op → Type 0

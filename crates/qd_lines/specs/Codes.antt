@@ -5,6 +5,7 @@ use Rattle.qd_base.specs.declared.limits.TheConstants.{MAX_BATCH_CELLS, MAX_COLU
 use Rattle.qd_base.specs.declared.code.Code.{Code}
 use Rattle.qd_base.specs.declared.code.Code.TheVariants as code
 use Rattle.qd_base.specs.declared.schema.Schema.{Schema}
+use Rattle.qd_base.specs.Names.{IsTableName}
 use Rattle.qd_base.specs.Schemas.{schema_of}
 use Rattle.qd_ilp.specs.Value.{Moment, At, Outside}
 use Rattle.qd_ilp.specs.Line.{Row}
@@ -47,16 +48,27 @@ pub record Finds (schemas : List Schema) (cells now : ℕ) (row : Row) (f : Foun
   pub long : Decides f.long (HasCode schemas cells now row code.TextTooLong)
   pub many : f.columns ≡ false → Decides f.cells (HasCode schemas cells now row code.TooManyCells)
 
+-- the line has no code
+abbrev pub IsCodeless : List Schema → ℕ → ℕ → Row → Type 0
+IsCodeless schemas cells now row = (c : Code) → HasCode schemas cells now row c → ⊥
+
 -- the code is the line's least, or the line has none
 pub record IsCodeOf (schemas : List Schema) (cells now : ℕ) (row : Row) (found : Option Code) : Type 0 where
   pub least : IfSome found (LeastCode schemas cells now row)
-  pub none : IfNone found ((c : Code) → HasCode schemas cells now row c → ⊥)
+  pub none : IfNone found (IsCodeless schemas cells now row)
+
+-- the name of a table, as its schema spells it, where it is there
+abbrev pub spelled_as : Option Schema → List ℕ → List ℕ
+spelled_as None name = name
+spelled_as (Some s) name = s.name
 
 -- what a line finds of its table
 pub record IsPlaceOf (schemas : List Schema) (row : Row) (p : Place) : Type 0 where
   pub cols : p.columns.cols.now ≡ columns_before (schema_of schemas row.table)
   pub name : time_name p.columns ≡ designated (schema_of schemas row.table)
   pub fresh : p.fresh ≡ is_none (schema_of schemas row.table)
+  pub spelled : p.name.now ≡ spelled_as (schema_of schemas row.table) row.table
+  pub lawful : p.fresh ≡ false → IsTableName p.name.now
   pub tables : p.tables ≡ length schemas
 
 -- a line keeps to the limits, and names no column twice

@@ -23,6 +23,10 @@ pub record IsUsable (cols : List Col) (time : ℕ) : Type 0 where
 abbrev pub Usable : Columns → Type 0
 Usable c = IsUsable c.cols.now c.time
 
+-- the columns have names that columns may have
+abbrev pub AreNamed : Columns → Type 0
+AreNamed c = All (λ (x : Col). IsColumnName x.name) c.cols.now
+
 -- the column that an item makes
 abbrev pub column_made : Item → Col
 column_made i = record { name = i.name; kind = kind_of i.value }

@@ -1,3 +1,4 @@
+pub mod Sinks
 pub mod Changes
 pub mod Overlays
 pub mod Drafts

@@ -3,8 +3,12 @@ ghost use Rattle.std.specs.Prelude.{◌≡◌, ◌∷◌, [], ◌++◌, IfOk, On
 ghost use Rattle.qd_base.specs.declared.op.Op.TheVariants as op;
 ghost use Rattle.qd_ilp.specs.Transaction.{joined};
 ghost use Rattle.qd_lines.specs.Changes.{inserted, IsPlain};
+ghost use Rattle.qd_lines.specs.Sinks.{cell_lent, with_cells, with_row};
 
-use qd_base::{Col, Entry, Memory, Op, OpList, Row, RowList, Schema, Txt, same_name};
+use crate::lent::{CellView, owned};
+use crate::names::is_name;
+use crate::sink::OpSink;
+use qd_base::{Col, Duplicate, Entry, Memory, Op, OpList, Row, RowList, Schema, Txt};
 use std::alloc::Global;
 use std::marker::Model;
 use std::mem;
@@ -23,7 +27,10 @@ pub(crate) struct Changes {
 #[derive(Drop)]
 struct Insertion {
     table: Txt,
+    /// The rows before the last.
     rows: RowList,
+    /// The last row, which may get further cells.
+    row: Row,
 }
 
 impl Model for Changes {
@@ -50,31 +57,6 @@ impl Changes {
         }
     }
 
-    /// Adds a new table, in amortised constant time.
-    pub(crate) fn create(&mut self, schema: Schema) -> Result<(), Memory>
-        ensures ok { OnOk result (self.new ≡ joined self.old (op.Create schema)) }
-    {
-        self.push(Op::Create { schema })
-    }
-
-    /// Adds a new column of a table, in amortised constant time.
-    pub(crate) fn add_column(&mut self, table: Txt, col: Col) -> Result<(), Memory>
-        ensures ok { OnOk result (self.new ≡ joined self.old (op.AddColumn table col)) }
-    {
-        self.push(Op::AddColumn { table, col })
-    }
-
-    /// Adds the insertion of a row into a table, in amortised constant time. The table's name is copied where the
-    /// change before is no insertion into it.
-    pub(crate) fn insert(&mut self, table: &[u8], row: Row) -> Result<(), Memory>
-        ensures ok { OnOk result (self.new ≡ joined self.old (op.Insert table.now (row ∷ []))) }
-    {
-        match &mut self.inserting {
-            Some(last) if same_name(last.table.bytes(), table) => last.rows.push(row),
-            _ => self.begin(table, row),
-        }
-    }
-
     /// Makes the transaction of all changes, in amortised constant time.
     pub(crate) fn finish(self) -> Result<Entry, Memory>
         ensures entry { IfOk result (λ entry. entry.ops ≡ self) }
@@ -98,20 +80,42 @@ impl Changes {
         Ok(())
     }
 
-    /// Adds an insertion, which is joined with none.
-    fn begin(&mut self, table: &[u8], row: Row) -> Result<(), Memory>
-        ensures ok { OnOk result (self.new ≡ self.old ++ op.Insert table.now (row ∷ []) ∷ []) }
+    /// Begins a row.
+    fn insert(&mut self, table: &[u8]) -> Result<(), Memory>
+        ensures ok { OnOk result (self.new ≡ with_row table.now [] self.old) }
+    {
+        match &mut self.inserting {
+            Some(last) if is_name(last.table.bytes(), table) => last.next_row(self.alloc),
+            _ => self.begin(table),
+        }
+    }
+
+    /// Adds an insertion, which is joined with none, with a row that is begun.
+    fn begin(&mut self, table: &[u8]) -> Result<(), Memory>
+        ensures ok { OnOk result (self.new ≡ self.old ++ op.Insert table.now ([] ∷ []) ∷ []) }
     {
         let done = self.take()?;
         let table = Txt::from_bytes(self.alloc, table)?;
-        let mut rows = RowList::new(self.alloc);
-        rows.push(row)?;
         *self = Changes {
             alloc: self.alloc,
             done,
-            inserting: Some(Insertion { table, rows }),
+            inserting: Some(Insertion {
+                table,
+                rows: RowList::new(self.alloc),
+                row: Row::new(self.alloc),
+            }),
         };
         Ok(())
+    }
+
+    /// Adds a cell to the row that was begun last.
+    fn put(&mut self, cell: CellView<'_>) -> Result<(), Memory>
+        ensures ok { OnOk result (self.new ≡ with_cells (cell_lent cell.entry ∷ []) self.old) }
+    {
+        let Some(last) = &mut self.inserting else {
+            return Ok(());
+        };
+        last.put(self.alloc, cell)
     }
 
     /// Takes all changes out.
@@ -123,12 +127,80 @@ impl Changes {
     }
 }
 
+impl OpSink for Changes {
+    ghost taken = { λ changes ops. changes ≡ ops };
+
+    /// Adds a new table, in amortised constant time but for the copy of the schema.
+    fn create(&mut self, schema: &Schema) -> Result<(), Memory> {
+        let schema = schema.copy()?;
+        self.push(Op::Create { schema })
+    }
+
+    /// Adds a new column of a table, in amortised constant time but for the copies of the names.
+    fn add_column(&mut self, table: &[u8], col: &Col) -> Result<(), Memory> {
+        let table = Txt::from_bytes(self.alloc, table)?;
+        let col = col.copy()?;
+        self.push(Op::AddColumn { table, col })
+    }
+
+    /// Begins a row, in amortised constant time. The table's name is copied where the change before is no insertion into
+    /// it.
+    fn begin_row(&mut self, table: &[u8]) -> Result<(), Memory> {
+        self.insert(table)
+    }
+
+    /// Adds a cell, in amortised constant time but for the copy of a text.
+    fn push_cell(&mut self, cell: CellView<'_>) -> Result<(), Memory> {
+        self.put(cell)
+    }
+
+    /// Ends a row: nothing is left to do.
+    fn end_row(&mut self) -> Result<(), Memory> {
+        Ok(())
+    }
+}
+
+impl Insertion {
+    /// Begins a further row.
+    fn next_row(&mut self, alloc: Global) -> Result<(), Memory>
+        ensures table { self.new.table ≡ self.old.table }
+        ensures rows { OnOk result (self.new.rows ≡ self.old.rows ++ self.old.row ∷ []) }
+        ensures row { self.new.row ≡ [] }
+    {
+        let row = mem::replace(&mut self.row, Row::new(alloc));
+        self.rows.push(row)
+    }
+
+    /// Adds a cell to the last row.
+    fn put(&mut self, alloc: Global, cell: CellView<'_>) -> Result<(), Memory>
+        ensures table { self.new.table ≡ self.old.table }
+        ensures rows { self.new.rows ≡ self.old.rows }
+        ensures row { OnOk result (self.new.row ≡ self.old.row ++ cell_lent cell.entry ∷ []) }
+    {
+        let cell = owned(alloc, cell)?;
+        self.row.push(cell)
+    }
+
+    /// Makes the change that it is.
+    fn finish(self) -> Result<Op, Memory>
+        ensures all { IfOk result (λ change. change ≡ op.Insert self.table (self.rows ++ self.row ∷ [])) }
+    {
+        let Insertion {
+            table,
+            mut rows,
+            row,
+        } = self;
+        rows.push(row)?;
+        Ok(Op::Insert { table, rows })
+    }
+}
+
 /// Puts the last insertion, where there is one, behind the changes before it.
 fn all_of(mut done: OpList, inserting: Option<Insertion>) -> Result<OpList, Memory>
     ensures all { IfOk result (λ ops. ops ≡ done ++ inserted inserting) }
 {
-    if let Some(Insertion { table, rows }) = inserting {
-        done.push(Op::Insert { table, rows })?;
+    if let Some(last) = inserting {
+        done.push(last.finish()?)?;
     }
     Ok(done)
 }

@@ -1,7 +1,9 @@
 //! The least code of a line.
-ghost use Rattle.std.specs.Prelude.{◌≡◌, ◌-◌, ◌≤◌, ◌&&◌, ℕ, List, length, nat_le, nat_lt, IfNone};
+ghost use Rattle.std.specs.Prelude.{◌≡◌, ◌-◌, ◌≤◌, ◌&&◌, ℕ, List, length, nat_le, nat_lt, true, false, IfNone, IsTrue, ◌↔◌};
 ghost use Rattle.qd_base.specs.declared.limits.TheConstants.{MAX_BATCH_CELLS, MAX_COLUMNS, MAX_TABLES};
 ghost use Rattle.qd_base.specs.declared.schema.Schema.{Schema};
+ghost use Rattle.qd_base.specs.Names.{IsTableName};
+ghost use Rattle.qd_ilp.specs.Line.{Row};
 ghost use Rattle.qd_ilp.specs.Transaction.{moment_of};
 ghost use Rattle.qd_lines.specs.Codes.{first_of, moment_at, Finds, IsCodeOf, IsPlaceOf, KeepsTo};
 ghost use Rattle.qd_lines.specs.Drafts.{Draws};
@@ -15,6 +17,8 @@ use qd_ilp::RowView;
 pub(crate) struct Place<'a> {
     /// The columns of the table, or the one of each table that lines make.
     pub(crate) columns: Columns<'a>,
+    /// The name of the table, as its schema spells it; of one that the line makes, as the line does.
+    pub(crate) name: &'a [u8],
     /// Whether the line makes the table.
     pub(crate) fresh: bool,
     /// The number of tables before the line.
@@ -69,7 +73,7 @@ fn look(
         × (result.tables ≡ (place.entry.fresh && nat_le MAX_TABLES place.entry.tables)) × (result.twice ≡ draft.now.faults.twice) }
 {
     let columns = draft.marks.len();
-    let fair = table_name_ok(row.table());
+    let fair = is_fair(place, row.table());
     Found {
         float: draft.faults.float,
         huge: draft.faults.huge,
@@ -82,6 +86,28 @@ fn look(
         long: draft.faults.long,
         cells: MAX_BATCH_CELLS - cells < columns as u64,
     }
+}
+
+/// Says whether a table may have the name that a line has for it. It costs little more than nothing where the table is there
+/// and spelled like this.
+fn is_fair(place: Place<'_>, table: &[u8]) -> bool
+    ensures fair { (schemas : List Schema) (row : Row) → IsPlaceOf schemas row place.entry → row.table ≡ table.now → IsTrue result ↔ IsTableName row.table }
+{
+    if is_spelled(place, table) {
+        return true;
+    }
+    table_name_ok(table)
+}
+
+/// Says whether the table is there and spelled so.
+fn is_spelled(place: Place<'_>, table: &[u8]) -> bool
+    ensures there { result ≡ true → place.entry.fresh ≡ false }
+    ensures named { result ≡ true → place.entry.name.now ≡ table.now }
+{
+    if place.fresh {
+        return false;
+    }
+    place.name == table
 }
 
 impl Found {

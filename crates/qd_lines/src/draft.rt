@@ -1,14 +1,16 @@
 //! What one line does to the columns of its table, and what is wrong with it.
-ghost use Rattle.std.specs.Prelude.{◌≡◌, ◌+◌, ◌<◌, ◌≤◌, ◌++◌, ◌∷◌, ◌||◌, false, [], List, Some, None, length, take, set, is_some, slice_index_or, OnOk};
+ghost use Rattle.std.specs.Prelude.{◌≡◌, ◌+◌, ◌<◌, ◌≤◌, ◌++◌, ◌∷◌, ◌||◌, false, [], List, Some, None, length, take, set, is_some, slice_index_or, OnOk, All, IsTrue, ◌↔◌, true};
 ghost use Rattle.std.specs.Option.{option_or};
+ghost use Rattle.qd_base.specs.Names.{IsColumnName};
 ghost use Rattle.qd_base.specs.Schemas.{column_at};
 ghost use Rattle.qd_base.specs.declared.schema.Col.{Col};
 ghost use Rattle.qd_ilp.specs.Line.{Item};
 ghost use Rattle.qd_ilp.specs.View.{item_of};
-ghost use Rattle.qd_lines.specs.Drafts.{Draws, ValuesSeen, NamesSeen, Usable, clashes_in, time_name, column_made};
+ghost use Rattle.qd_lines.specs.Drafts.{AreNamed, Draws, ValuesSeen, NamesSeen, Usable, clashes_in, time_name, column_made};
 
+use crate::names::is_name;
 use crate::values::{is_float, is_huge, is_long_text, kind_of, suits};
-use qd_base::{Col, MAX_COLUMNS, Memory, Txt, column_name_ok, same_name};
+use qd_base::{Col, MAX_COLUMNS, Memory, Txt, column_name_ok};
 use qd_ilp::{ItemView, RowView};
 use std::alloc::Global;
 
@@ -47,6 +49,8 @@ pub(crate) struct Draft {
     pub(crate) faults: Faults,
     /// Where the next tag or field probably finds its column.
     next: usize,
+    /// Where the tag or field of the same position found its column in a line before.
+    places: Vec<usize>,
 }
 
 impl Draft {
@@ -57,6 +61,7 @@ impl Draft {
             marks: Vec::new(alloc),
             faults: Faults::none(),
             next: 0,
+            places: Vec::new(alloc),
         }
     }
 
@@ -69,6 +74,7 @@ impl Draft {
         row: &RowView<'_>,
     ) -> Result<(), Memory>
         requires usable { Usable columns }
+        requires named { AreNamed columns }
         ensures draws { OnOk result (Draws columns.entry row.now.items self.new) }
     {
         self.begin(columns)?;
@@ -102,13 +108,16 @@ impl Draft {
         at: usize,
     ) -> Result<(), Memory>
         requires usable { Usable columns }
+        requires named { AreNamed columns }
         requires there { at < length row.now.items }
         requires draws { Draws columns (take at row.now.items) self.old }
         ensures draws { OnOk result (Draws columns.entry (take (at + 1) row.now.items) self.new) }
     {
         let item = row.item(at);
-        let place = place_of(columns, self.added.as_slice(), item.name, self.next);
-        self.faults.note(item, clashes(columns, place, item));
+        let added = self.added.as_slice();
+        let before = place_before(self.places.as_slice(), at);
+        let Seat { place, fair } = seat_of(columns, added, item.name, before, self.next);
+        self.faults.note(item, fair, clashes(columns, place, item));
         if MAX_COLUMNS < columns.cols.len() + self.added.len() {
             return Ok(());
         }
@@ -117,6 +126,7 @@ impl Draft {
                 let met = meet(&mut self.marks, place, at);
                 self.faults.twice |= met | (place == columns.time);
                 self.next = place + 1;
+                keep(&mut self.places, at, place)?;
             }
             None => add(alloc, &mut self.added, &mut self.marks, item, at)?,
         }
@@ -142,7 +152,8 @@ impl Faults {
     }
 
     /// Notes one more tag or field.
-    fn note(&mut self, item: ItemView<'_>, clashes: bool)
+    fn note(&mut self, item: ItemView<'_>, fair: bool, clashes: bool)
+        requires fair { IsTrue fair ↔ IsColumnName item.name.now }
         ensures values { (items : List Item) → ValuesSeen items self.old → ValuesSeen (items ++ item_of item.entry ∷ []) self.new }
         ensures names { (items : List Item) → NamesSeen items self.old.name → NamesSeen (items ++ item_of item.entry ∷ []) self.new.name }
         ensures clash { self.new.clash ≡ (self.old.clash || clashes) }
@@ -151,36 +162,116 @@ impl Faults {
         self.float |= is_float(item.value);
         self.huge |= is_huge(item.value);
         self.long |= is_long_text(item.value);
-        self.name |= !column_name_ok(item.name);
+        self.name |= !fair;
         self.clash |= clashes;
     }
 }
 
+/// Where a tag or a field of a position found its column in a line before; 0 where none is known.
+fn place_before(places: &[usize], at: usize) -> usize {
+    match places.get(at) {
+        Some(place) => *place,
+        None => 0,
+    }
+}
+
+/// Keeps where a tag or a field of a position found its column.
+fn keep(places: &mut Vec<usize>, at: usize, place: usize) -> Result<(), Memory> {
+    if at < places.len() {
+        places[at] = place;
+    } else {
+        places.push(place)?;
+    }
+    Ok(())
+}
+
+/// What a tag or a field finds of its column.
+#[derive(Clone, Copy)]
+struct Seat {
+    /// The place of the column among those of the table, and then those that are added.
+    place: Option<usize>,
+    /// Whether a column may have the name.
+    fair: bool,
+}
+
+/// Finds the column of a name. Where it stands at the first of two probable places and is spelled so, as it mostly is,
+/// this costs little more than a comparison.
+fn seat_of(columns: Columns<'_>, added: &[Col], name: &[u8], before: usize, next: usize) -> Seat
+    requires usable { Usable columns }
+    requires named { AreNamed columns }
+    ensures place { result.place ≡ column_at (columns.entry.cols.now ++ added.now) name.now }
+    ensures fair { IsTrue result.fair ↔ IsColumnName name.now }
+{
+    if is_spelled(columns, before, name) {
+        return Seat {
+            place: Some(before),
+            fair: true,
+        };
+    }
+    Seat {
+        place: place_of(columns, added, name, before, next),
+        fair: column_name_ok(name),
+    }
+}
+
+/// Says whether a column is there at a place and spelled so.
+fn is_spelled(columns: Columns<'_>, place: usize, name: &[u8]) -> bool
+    requires usable { Usable columns }
+    requires named { AreNamed columns }
+    ensures found { result ≡ true → column_at columns.entry.cols.now name.now ≡ Some place }
+    ensures fair { result ≡ true → IsColumnName name.now }
+{
+    let cols = columns.cols;
+    if place < cols.len() {
+        return cols[place].name.bytes() == name;
+    }
+    false
+}
+
 /// Gives the place of the column of a name among those of a table, and then those that are added. It costs constant time
-/// where that is the next one, else time linear in the number of columns.
-fn place_of(columns: Columns<'_>, added: &[Col], name: &[u8], next: usize) -> Option<usize>
+/// where that is one of two places, else time linear in the number of columns.
+fn place_of(
+    columns: Columns<'_>,
+    added: &[Col],
+    name: &[u8],
+    before: usize,
+    next: usize,
+) -> Option<usize>
     requires usable { Usable columns }
     ensures place { result ≡ column_at (columns.entry.cols.now ++ added.now) name.now }
 {
-    let cols = columns.cols;
-    if next < cols.len() && same_name(cols[next].name.bytes(), name) {
+    if is_at(columns, before, name) {
+        return Some(before);
+    }
+    if is_at(columns, next, name) {
         return Some(next);
     }
-    match find(cols, name) {
+    match find(columns.cols, name) {
         Some(place) => Some(place),
         None => match find(added, name) {
-            Some(place) => Some(cols.len() + place),
+            Some(place) => Some(columns.cols.len() + place),
             None => None,
         },
     }
+}
+
+/// Says whether a column is there at a place and has a name.
+fn is_at(columns: Columns<'_>, place: usize, name: &[u8]) -> bool
+    requires usable { Usable columns }
+    ensures found { result ≡ true → column_at columns.entry.cols.now name.now ≡ Some place }
+{
+    let cols = columns.cols;
+    if place < cols.len() {
+        return is_name(cols[place].name.bytes(), name);
+    }
+    false
 }
 
 /// Gives the place of the column of a name.
 fn find(cols: &[Col], name: &[u8]) -> Option<usize>
     ensures place { result ≡ column_at cols.now name.now }
 {
-    cols.iter()
-        .position(|col| same_name(col.name.bytes(), name))
+    cols.iter().position(|col| is_name(col.name.bytes(), name))
 }
 
 /// Says whether the value of a tag or a field doesn't fit its column, which has this place among those of the table and

@@ -1,4 +1,5 @@
-//! What batches of lines do: the transaction of a batch over the tables that are there.
+//! What batches of lines do: the transaction of a batch over the tables that are there, made at once or taken change by
+//! change.
 //!
 //! The definitions stand in `qd_ilp`'s `specs/Transaction` (what a line does, its codes, and what all lines say).
 #![tactic(auto)]
@@ -9,7 +10,10 @@ mod codes;
 mod draft;
 mod fault;
 mod laws;
+mod lent;
+mod names;
 mod overlay;
+mod sink;
 #[cfg(test)]
 mod tests;
 mod values;
@@ -19,4 +23,6 @@ pub use fault::LineFault;
 pub use laws::{
     answers_fit, batches_are_lawful, every_batch_is_answered, lines_act_in_turn, one_answer,
 };
-pub use walk::entry_of;
+pub use lent::CellView;
+pub use sink::OpSink;
+pub use walk::{entry_of, walk_batch};

@@ -7,7 +7,8 @@ ghost use Rattle.qd_base.specs.declared.schema.Schema.{Schema};
 ghost use Rattle.qd_base.specs.Schemas.{schema_of, schemas_step, table_at};
 ghost use Rattle.qd_lines.specs.Overlays.{Covers, Overlays, spotted};
 
-use qd_base::{Col, Duplicate, Memory, Schema, Schemas, same_name};
+use crate::names::is_name;
+use qd_base::{Col, Duplicate, Memory, Schema, Schemas};
 use std::alloc::Global;
 
 /// The tables that the lines of a batch find: those that were there before the batch, which are lent, and over them those
@@ -52,11 +53,12 @@ impl<'a> Overlay<'a> {
         self.tables
     }
 
-    /// Recalls the table of a name, so that `find` gives it in time linear in the name until another is sought, or one is
-    /// made or changed. It costs time linear in the number of tables, or in the name where its table is recalled already.
+    /// Recalls the table of a name, so that `sought` gives it until another is sought, or one is made or changed. It costs
+    /// time linear in the name where its table is recalled already, and else in the number of tables that lines have made or
+    /// changed, and logarithmic in that of all.
     pub(crate) fn seek(&mut self, name: &[u8])
         ensures all { (all : List Schema) → Covers self.old all → Covers self.new all }
-        ensures recent { (all : List Schema) → Covers self.old all →
+        ensures recent { (all : List Schema) → Covers self.new all →
             spotted self.new.own.items self.new.recent ≡ schema_of all name.now }
     {
         if self.recalled(name).is_none() {
@@ -64,8 +66,14 @@ impl<'a> Overlay<'a> {
         }
     }
 
-    /// Lends the schema of the table of a name, where there is one. ASCII case is ignored. It costs time linear in the
-    /// number of tables, or in the name where its table is recalled.
+    /// Lends the schema of the table that was sought last, in constant time.
+    pub(crate) fn sought(&self) -> Option<&Schema>
+        ensures schema { option_map (λ s. s.now) result ≡ spotted self.now.own.items self.now.recent }
+    {
+        self.at(self.recent)
+    }
+
+    /// Lends the schema of the table of a name, where there is one. ASCII case is ignored. It costs what `seek` does.
     pub(crate) fn find(&self, name: &[u8]) -> Option<&Schema>
         ensures schema { (all : List Schema) → Covers self.now all → option_map (λ s. s.now) result ≡ schema_of all name.now }
     {
@@ -87,8 +95,8 @@ impl<'a> Overlay<'a> {
         Ok(())
     }
 
-    /// Adds a column, a copy of this one, behind the others of the table of a name, where there is one. It costs time
-    /// linear in the number of tables and in the column, and the first time that a table is changed in its schema.
+    /// Adds a column, a copy of this one, behind the others of the table of a name, where there is one. It costs what
+    /// `seek` does, time linear in the column, and the first time that a table is changed in its schema.
     pub(crate) fn add_column(&mut self, table: &[u8], col: &Col) -> Result<(), Memory>
         ensures ok { (all : List Schema) → Covers self.old all →
             OnOk result (Covers self.new (schemas_step all (op.AddColumn table.now col.now))) }
@@ -108,7 +116,7 @@ impl<'a> Overlay<'a> {
             IfSome result (λ s. schema_of all name.now ≡ Some s.now) }
     {
         match self.at(self.recent) {
-            Some(schema) if same_name(schema.name.bytes(), name) => Some(schema),
+            Some(schema) if is_name(schema.name.bytes(), name) => Some(schema),
             _ => None,
         }
     }
@@ -144,7 +152,7 @@ impl<'a> Overlay<'a> {
     {
         self.own
             .iter()
-            .position(|schema| same_name(schema.name.bytes(), name))
+            .position(|schema| is_name(schema.name.bytes(), name))
     }
 }
 

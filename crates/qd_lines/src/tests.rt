@@ -1,8 +1,13 @@
 //! Tests of what no clause says: that calls succeed where memory is found, and that the definition is the one that is
 //! meant.
+ghost use Rattle.std.specs.Prelude.{◌≡◌};
+
+use crate::changes::Changes;
 use crate::fault::LineFault;
-use crate::walk::entry_of;
-use qd_base::{Cell, ColType, Entry, Op, Schemas};
+use crate::lent::CellView;
+use crate::sink::OpSink;
+use crate::walk::{entry_of, walk_batch};
+use qd_base::{Cell, Col, ColType, Entry, Memory, Op, Schema, Schemas};
 use qd_ilp::parse_batch;
 use std::alloc::Global;
 use std::test::Fail;
@@ -90,6 +95,90 @@ fn lines_make_tables(rt: HostRuntime) -> Result<(), Fail> {
         }
     }
     Ok(())
+}
+
+/// Each change of a batch is taken, each row and each cell.
+#[test]
+fn changes_are_taken(rt: HostRuntime) -> Result<(), Fail> {
+    let text =
+        b"t,room=a v=1i,on=t 5000\nT v=-2i,note=\"x\" 2000\nu w=F\nt,room=b 3999\nt v=3i 1\n";
+    let Ok(tally) = walked(rt.alloc(), text) else {
+        assert!(rt; false);
+        return Ok(());
+    };
+    assert_eq!(rt; tally.tables, 2);
+    assert_eq!(rt; tally.columns, 1);
+    assert_eq!(rt; tally.rows, 5);
+    assert_eq!(rt; tally.ended, 5);
+    assert_eq!(rt; tally.cells, 21);
+    assert_eq!(rt; tally.missing, 5);
+    Ok(())
+}
+
+/// Counts what it takes.
+#[derive(Drop)]
+struct Tally {
+    changes: Changes,
+    tables: u32,
+    columns: u32,
+    rows: u32,
+    ended: u32,
+    cells: u32,
+    missing: u32,
+}
+
+impl OpSink for Tally {
+    ghost taken = { λ tally ops. tally.changes ≡ ops };
+
+    fn create(&mut self, schema: &Schema) -> Result<(), Memory> {
+        self.tables = self.tables.saturating_add(1);
+        self.changes.create(schema)
+    }
+
+    fn add_column(&mut self, table: &[u8], col: &Col) -> Result<(), Memory> {
+        self.columns = self.columns.saturating_add(1);
+        self.changes.add_column(table, col)
+    }
+
+    fn begin_row(&mut self, table: &[u8]) -> Result<(), Memory> {
+        self.rows = self.rows.saturating_add(1);
+        self.changes.begin_row(table)
+    }
+
+    fn push_cell(&mut self, cell: CellView<'_>) -> Result<(), Memory> {
+        self.cells = self.cells.saturating_add(1);
+        self.missing = self.missing.saturating_add(weight(cell));
+        self.changes.push_cell(cell)
+    }
+
+    fn end_row(&mut self) -> Result<(), Memory> {
+        self.ended = self.ended.saturating_add(1);
+        self.changes.end_row()
+    }
+}
+
+/// 1 for a cell without a value, else 0.
+fn weight(cell: CellView<'_>) -> u32 {
+    match cell {
+        CellView::Null => 1,
+        _ => 0,
+    }
+}
+
+/// What is taken of a batch where no table is there.
+fn walked(alloc: Global, text: &[u8]) -> Result<Tally, LineFault> {
+    let batch = parse_batch(alloc, text)?;
+    let mut tally = Tally {
+        changes: Changes::new(alloc),
+        tables: 0,
+        columns: 0,
+        rows: 0,
+        ended: 0,
+        cells: 0,
+        missing: 0,
+    };
+    walk_batch(alloc, &Schemas::new(alloc), &batch, NOW, &mut tally)?;
+    Ok(tally)
 }
 
 /// What a batch says where no table is there.

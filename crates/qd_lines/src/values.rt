@@ -1,11 +1,10 @@
 //! Values of tags and fields, as columns take them.
-ghost use Rattle.std.specs.Prelude.{◌≡◌, IfOk};
+ghost use Rattle.std.specs.Prelude.{◌≡◌};
 ghost use Rattle.qd_ilp.specs.View.{value_of};
 ghost use Rattle.qd_ilp.specs.Transaction as line;
 
-use qd_base::{Cell, ColType, MAX_TEXT_BYTES, Memory, Txt};
+use qd_base::{ColType, MAX_TEXT_BYTES};
 use qd_ilp::ValueView;
-use std::alloc::Global;
 
 /// Gives the type of the column that a value makes where the table has none of the name.
 pub(crate) fn kind_of(value: ValueView<'_>) -> ColType
@@ -66,18 +65,4 @@ pub(crate) fn is_long_text(value: ValueView<'_>) -> bool
         ValueView::Text(text) => MAX_TEXT_BYTES < text.len(),
         _ => false,
     }
-}
-
-/// Makes the cell of a value. A text is copied.
-pub(crate) fn cell_of(alloc: Global, value: ValueView<'_>) -> Result<Cell, Memory>
-    ensures cell { IfOk result (λ c. c ≡ line.cell_of (value_of value.entry)) }
-{
-    Ok(match value {
-        ValueView::Tag(text) => Cell::Text(Txt::from_bytes(alloc, text)?),
-        ValueView::Text(text) => Cell::Text(Txt::from_bytes(alloc, text)?),
-        ValueView::Long(number) => Cell::Long(number),
-        ValueView::Huge => Cell::Null,
-        ValueView::Truth(truth) => Cell::Bool(truth),
-        ValueView::Other => Cell::Null,
-    })
 }

@@ -1,11 +1,15 @@
-use Rattle.std.proofs.Common.{◌∙◌, ◌∷◌, [], List, Bool, sym, subst, arith}
+use Rattle.std.proofs.Common.{◌∙◌, ◌∷◌, [], List, Option, sym, ap, subst, arith, All, true≢false}
 use Rattle.std.specs.List.{IsDistinct}
+use Rattle.std.specs.Option.{is_none}
+use Rattle.std.proofs.lemmas.List.Elements.{All-from_recursion}
 use Rattle.qd_base.specs.declared.schema.Col.{Col}
-use Rattle.qd_ilp.specs.Transaction.{stamp_column}
-use Rattle.qd_lines.specs.declared.draft.Columns.{Columns}
+use Rattle.qd_base.specs.declared.schema.Schema.{Schema}
+use Rattle.qd_base.specs.Names.{IsColumnName, IsTableName}
+use Rattle.qd_base.specs.Schemas.{schema_of}
+use Rattle.qd_ilp.specs.Transaction.{columns_before, designated, name_at, stamp_column}
+use Rattle.qd_lines.specs.Codes.{spelled_as}
 use Rattle.qd_lines.specs.Drafts.{IsUsable}
-use Rattle.qd_lines.proofs.SchemaLemmas.{usable-there}
-use Rattle.qd_lines.proofs.walk.place_of.Goals.{in-Some, in-None}
+use Rattle.qd_lines.proofs.SchemaLemmas.{schema-there, timestamp-named, usable-there}
 use Rattle.qd_lines.proofs.walk.place_of.Goals as goal
 
 -- the one column of a new table
@@ -13,11 +17,41 @@ alone : IsUsable (stamp_column ∷ []) 0
 unfolding IsDistinct
 alone = record { distinct = (tt, tt); there = omega arith }
 
-pub returns-clause-usable : goal.returns-clause-usable
-returns-clause-usable c all covers lawful = elim c.match-find.branch [
-  | in-Some w ↦
-      let s = w.in-Some.schema.now in
-      let u : IsUsable s.cols s.time_col = usable-there all c.args.table.now s lawful (sym (w.in-Some.ensures.schema all covers)) in
-      subst (λ (p : Columns × Bool). IsUsable p.0.cols.now p.0.time) (sym w.fresh-is) (subst (λ (cs : List Col). IsUsable cs s.time_col) (sym w.as_slice.ensures.items) u)
-  | in-None w ↦ subst (λ (p : Columns × Bool). IsUsable p.0.cols.now p.0.time) (sym w.fresh-is) (subst (λ (cs : List Col). IsUsable cs 0) (sym (w.as_slice-in-None.ensures.items ∙ c.requires.stamp)) alone)
-]
+alone-named : All (λ (c : Col). IsColumnName c.name) (stamp_column ∷ [])
+alone-named = All-from_recursion (λ (c : Col). IsColumnName c.name) (stamp_column ∷ []) (timestamp-named, tt)
+
+pub returns-in-Some : goal.returns-in-Some
+returns-in-Some c =
+    let s = c.in-Some.schema.now in
+    record {
+      place = λ all row covers lawful e.
+          let is = ap (schema_of all) e ∙ sym (c.in-Some.ensures.schema ∙ c.requires.sought all covers) in
+          record {
+            cols = c.as_slice.ensures.items ∙ ap columns_before (sym is);
+            name = ap (λ (cs : List Col). name_at cs s.time_col) c.as_slice.ensures.items ∙ ap designated (sym is);
+            fresh = ap is_none (sym is);
+            spelled = c.bytes.ensures.same ∙ ap (λ (o : Option Schema). spelled_as o row.table) (sym is);
+            lawful = λ _. subst IsTableName (sym c.bytes.ensures.same) (schema-there all row.table s lawful is).0.name;
+            tables = c.len.ensures.count all covers;
+          };
+      usable = λ all covers lawful. subst (λ (cs : List Col). IsUsable cs s.time_col) (sym c.as_slice.ensures.items) (usable-there all c.args.table.now s lawful (sym (c.in-Some.ensures.schema ∙ c.requires.sought all covers)));
+      named = λ all covers lawful. subst (All (λ (x : Col). IsColumnName x.name)) (sym c.as_slice.ensures.items) (schema-there all c.args.table.now s lawful (sym (c.in-Some.ensures.schema ∙ c.requires.sought all covers))).0.names;
+    }
+
+pub returns-in-None : goal.returns-in-None
+returns-in-None c =
+    let cols = c.as_slice-in-None.ensures.items ∙ c.requires.stamp in
+    record {
+      place = λ all row covers lawful e.
+          let is = ap (schema_of all) e ∙ sym (c.in-None.ensures.schema ∙ c.requires.sought all covers) in
+          record {
+            cols = cols ∙ ap columns_before (sym is);
+            name = ap (λ (cs : List Col). name_at cs 0) cols ∙ ap designated (sym is);
+            fresh = ap is_none (sym is);
+            spelled = sym e ∙ ap (λ (o : Option Schema). spelled_as o row.table) (sym is);
+            lawful = λ f. absurd (true≢false f);
+            tables = c.len-in-None.ensures.count all covers;
+          };
+      usable = λ all covers lawful. subst (λ (cs : List Col). IsUsable cs 0) (sym cols) alone;
+      named = λ all covers lawful. subst (All (λ (x : Col). IsColumnName x.name)) (sym cols) alone-named;
+    }

@@ -16,13 +16,13 @@ returns-then-columns-len-gt-MAX_COLUMNS c =
     let i : Item = item_of c.item-item.result in
     let more = one_more c.args.row.now.items c.args.at i c.item-item.ensures.item c.requires.there in
     let h = c.requires.draws in
-    let new : Draft = record { added = c.args.self.now.added; marks = c.args.self.now.marks; faults = c.note.new.self; next = c.args.self.now.next } in
+    let new : Draft = record { added = c.args.self.now.added; marks = c.args.self.now.marks; faults = c.note.new.self; next = c.args.self.now.next; places = c.args.self.now.places } in
     let clash = c.note.ensures.clash ∙ ap (λ b. c.args.self.now.faults.clash || b) c.clashes.ensures.clashes in
     let over = c.if-columns-len-gt-MAX_COLUMNS.true in
     record { draws = subst (λ (xs : List Item). Draws c.args.columns xs new) (sym more) (stepped c.args.columns items i c.args.self.now new h (c.note.ensures.values items h.values) (c.note.ensures.names items h.names) clash h.sized (λ le. absurd {0} (omega (arith, over, c.len.ensures))) (λ lt. let m = h.many lt in let g = with_items_grow c.args.columns.cols.now items i in omega arith)) }
 
-pub returns-in-Some : goal.returns-in-Some
-returns-in-Some c =
+pub returns-in_ok-keep-in-Some : goal.returns-in_ok-keep-in-Some
+returns-in_ok-keep-in-Some c =
     let cols = c.args.columns.cols.now in
     let items : List Item = take c.args.at c.args.row.now.items in
     let i : Item = item_of c.item-item.result in
@@ -36,9 +36,10 @@ returns-in-Some c =
       marks = c.meet-met.new.marks;
       faults = record { float = c.note.new.self.float; huge = c.note.new.self.huge; name = c.note.new.self.name; clash = c.note.new.self.clash; twice = twice'; long = c.note.new.self.long };
       next = p + 1;
+      places = c.keep.new.places;
     } in
     let clash = c.note.ensures.clash ∙ ap (λ b. c.args.self.now.faults.clash || b) c.clashes.ensures.clashes in
-    let place : column_at (cols ++ old.added.items) i.name ≡ Some p = ap (λ (cs : List Col). column_at (cols ++ cs) i.name) (sym c.as_slice.ensures.value) ∙ sym c.in-Some.ensures.place in
+    let place : column_at (cols ++ old.added.items) i.name ≡ Some p = ap (λ (cs : List Col). column_at (cols ++ cs) i.name) (sym c.as_slice-added.ensures.value) ∙ sym c.seat_of-place.ensures.place ∙ c.in-Some.is in
     let at : length items ≡ c.args.at = length-take-le c.args.at c.args.row.now.items (omega (arith, c.requires.there)) in
     let few = h.few (omega (arith, c.if-columns-len-gt-MAX_COLUMNS.false, c.len.ensures)) in
     let marked : new.marks.items ≡ set old.marks.items p (option_or (get_or old.marks.items p None) (Some (length items))) = c.meet-met.ensures.marks ∙ ap (λ (n : ℕ). set old.marks.items p (option_or (get_or old.marks.items p None) (Some n))) (sym at) in
@@ -56,9 +57,9 @@ returns-in_ok-add-in-None c =
     let more = one_more c.args.row.now.items c.args.at i c.item-item.ensures.item c.requires.there in
     let h = c.requires.draws in
     let old : Draft = c.args.self.now in
-    let new : Draft = record { added = c.add.new.added; marks = c.add.new.marks; faults = c.note.new.self; next = c.args.self.now.next } in
+    let new : Draft = record { added = c.add.new.added; marks = c.add.new.marks; faults = c.note.new.self; next = c.args.self.now.next; places = c.args.self.now.places } in
     let clash = c.note.ensures.clash ∙ ap (λ b. c.args.self.now.faults.clash || b) c.clashes.ensures.clashes in
-    let place : column_at (cols ++ old.added.items) i.name ≡ None = ap (λ (cs : List Col). column_at (cols ++ cs) i.name) (sym c.as_slice.ensures.value) ∙ sym c.in-None.ensures.place in
+    let place : column_at (cols ++ old.added.items) i.name ≡ None = ap (λ (cs : List Col). column_at (cols ++ cs) i.name) (sym c.as_slice-added.ensures.value) ∙ sym c.seat_of-place.ensures.place ∙ c.in-None.is in
     let at : length items ≡ c.args.at = length-take-le c.args.at c.args.row.now.items (omega (arith, c.requires.there)) in
     let few = h.few (omega (arith, c.if-columns-len-gt-MAX_COLUMNS.false, c.len.ensures)) in
     let grown : new.added.items ≡ old.added.items ++ column_made i ∷ [] = c.in_ok-add-in-None.ensures.added in

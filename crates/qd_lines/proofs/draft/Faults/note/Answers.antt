@@ -4,4 +4,4 @@ use Rattle.qd_lines.proofs.DraftLemmas.{named}
 use Rattle.qd_lines.proofs.draft.Faults.note.Goals as goal
 
 pub returns-clause-names : goal.returns-clause-names
-returns-clause-names c items h = named items (item_of c.args.item) c.args.self.now.name c.column_name_ok.result (c.args.self.now.name || not c.column_name_ok.result) c.column_name_ok.ensures.ok.0 c.column_name_ok.ensures.ok.1 refl h
+returns-clause-names c items h = named items (item_of c.args.item) c.args.self.now.name c.args.fair (c.args.self.now.name || not c.args.fair) c.requires.fair.0 c.requires.fair.1 refl h

@@ -1,7 +1,6 @@
 use Rattle.std.proofs.Common.{refl, sym}
 use Rattle.std.proofs.lemmas.Result.{on_ok_weaker}
-use Rattle.qd_base.proofs.Tables.{column_pushed}
-use Rattle.qd_lines.proofs.OverlayLemmas.{found-at, widened-own}
+use Rattle.qd_lines.proofs.OverlayLemmas.{column_pushed, found-at, widened-own}
 use Rattle.qd_lines.proofs.overlay.Overlay.add_column.Goals as goal
 
 pub returns-in-Some : goal.returns-in-Some
@@ -11,7 +10,7 @@ returns-in-Some c =
           on_ok_weaker c.push.result
           (λ pushed. record {
             shown =
-                rw (column_pushed c.args.self.now.own.items c.args.self.now.own.items c.args.table.now c.args.col.now c.in_ok-col.col c.in-Some.i c.index_mut.result.now c.push.new.self refl c.in-Some.ensures.position c.index_mut.ensures.value c.in_ok-col.ensures.same pushed)
+                rw (column_pushed c.args.self.now.own.items c.args.table.now c.args.col.now c.in_ok-col.col c.in-Some.i c.index_mut.result.now c.push.new.self c.in-Some.ensures.position c.index_mut.ensures.value c.in_ok-col.ensures.same pushed)
                 (widened-own c.args.table.now c.args.col.now c.args.self.now.base.now c.args.self.now.own.items all c.args.self.now.tables covers.shown c.index_mut.result.now (found-at c.args.self.now.own.items c.args.table.now c.in-Some.i c.index_mut.result.now c.in-Some.ensures.position c.index_mut.ensures.value));
             recent = tt;
           })

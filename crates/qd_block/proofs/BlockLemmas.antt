@@ -10,12 +10,13 @@ use Rattle.qd_base.specs.declared.schema.ColType.TheVariants as kind
 use Rattle.qd_base.specs.Rows.{Row, cell_at, time_of, time_in}
 use Rattle.qd_base.specs.Laws.{IsInOrder}
 use Rattle.qd_base.specs.declared.schema.Col.{Col}
+use Rattle.qd_base.proofs.Sorted.{stable_is_put}
 use Rattle.qd_column.specs.Cells.{CellsOf, cell_of_row, cells_at, no_cells, time_cell}
 use Rattle.qd_column.proofs.ListLemmas.{got}
-use Rattle.qd_block.specs.Blocks.{Block, Building, block_of, building_of, row_at, rows_of, kinds_of, kinds_in, column_in, part_of_column, in_time_order, IsTimed, IsBlock, IsBuilding}
-use Rattle.qd_block.proofs.RowLemmas.{length-rows_of, get_or-rows_of, cell_at-row_at, column_of_rows, kind_at, got_there, rows_chosen, kinds_kept, each_row, each_of_all}
+use Rattle.qd_block.specs.Blocks.{Block, Building, block_of, building_of, row_at, rows_of, kinds_of, kinds_in, column_in, part_of_column, in_time_order, IsTimed, IsBlock, IsBuilding, IsWhole}
+use Rattle.qd_block.proofs.RowLemmas.{length-rows_of, get_or-rows_of, cell_at-row_at, column_of_rows, kind_at, got_there, rows_chosen, kinds_kept}
 use Rattle.qd_block.proofs.BuildLemmas.{next_col}
-use Rattle.qd_block.proofs.OrderLemmas.{AreTimes, ArePlaced, are_times, rows_rise, stable_is_put}
+use Rattle.qd_block.proofs.OrderLemmas.{AreTimes, ArePlaced, are_times, rows_rise}
 
 pub designated_there : (columns : List CellsOf) (time_col : ℕ) → slice_get (kinds_of columns) time_col ≡ Some kind.Time → time_col < length columns
 designated_there columns time_col h = let there = got_there (kinds_of columns) time_col kind.Time h in omega (arith, length-map columns (λ (c : CellsOf). c.kind))
@@ -155,3 +156,15 @@ block_begun cols time_col columns e few designated =
     none_begun [] k d h = absurd (omega arith)
     none_begun (c ∷ cs) zero d h = refl
     none_begun (c ∷ cs) (suc k) d h = none_begun cs k d (omega arith)
+
+-- every block is whole
+pub block_is_whole : (n time_col : ℕ) (columns : List CellsOf) → IsBlock n time_col columns → IsWhole (block_of n time_col columns)
+block_is_whole n time_col columns is =
+    let size : (i : ℕ) → length (row_at columns i) ≡ length (kinds_of columns) = λ i. length-map columns (λ (c : CellsOf). cell_of_row c i) ∙ sym (length-map columns (λ (c : CellsOf). c.kind)) in
+    record {
+      few = omega (arith, length-map columns (λ (c : CellsOf). c.kind), is.few);
+      designated = is.designated;
+      cells = λ k d lt. let low : k < n = omega (arith, length-rows_of n columns) in ap length (get_or-rows_of n k columns d low) ∙ size k;
+      order = is.order;
+      timed = is.timed;
+    }

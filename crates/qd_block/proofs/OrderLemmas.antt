@@ -7,79 +7,19 @@ use Rattle.std.proofs.lemmas.Bool.Decides.{eqb_tells}
 use Rattle.std.proofs.lemmas.List.{get_or-map, length-map, ext_get_or}
 use Rattle.std.proofs.lemmas.List.Sorted.{All-permutation, length_permutation}
 use Rattle.std.proofs.lemmas.List.FromFn.{get_or-map-range_with_len, length-map-range_with_len, get_or-range_with_len, length-range_with_len}
+use Rattle.std.proofs.lemmas.List.Elements.{All-from_recursion, recursion_from_All}
 use Rattle.qd_base.specs.declared.cell.Cell.{Cell}
 use Rattle.qd_base.specs.declared.cell.Cell.TheVariants as cell
 use Rattle.qd_base.specs.declared.limits.TheConstants.{NULL_TIME}
 use Rattle.qd_base.specs.Rows.{Row, cell_at, time_in, time_of}
 use Rattle.qd_base.specs.Laws.{IsInOrder, at_time}
-use Rattle.qd_base.proofs.Order.{in_order-fold, at_time-fold}
 use Rattle.qd_base.proofs.Lists.{each-map}
+use Rattle.qd_base.proofs.Sorted.{images_in_order, images_of_time, stable_is_put}
 use Rattle.qd_column.specs.Cells.{CellsOf, cell_of_row, time_cell}
 use Rattle.qd_block.specs.Blocks.{row_at, rows_of, IsTimed, in_time_order}
 use Rattle.qd_block.specs.Order.{placed, at_moment, IsOrderOf}
 use Rattle.qd_block.specs.declared.order.Placed.{Placed}
-use Rattle.qd_block.proofs.RowLemmas.{length-rows_of, get_or-rows_of, cell_at-row_at, each_row, each_of_all}
-
--- rows in order of time with the same rows of each time are the same
-module _ (col : ℕ) where
-  yes : (t : ℕ) (x : Row) (xs : List Row) → time_of col x ≡ t → at_time col t (x ∷ xs) ≡ x ∷ at_time col t xs
-  yes t x xs e = rw (eq-eqb (time_of col x) t e) refl
-
-  no : (t : ℕ) (x : Row) (xs : List Row) → time_of col x ≢ t → at_time col t (x ∷ xs) ≡ at_time col t xs
-  no t x xs e = rw (ne_eqb (time_of col x) t e) refl
-
-  none_later : (t : ℕ) (xs : List Row) → AllByRecursion (λ x. t < time_of col x) xs → at_time col t xs ≡ []
-  none_later t [] h = refl
-  none_later t (x ∷ xs) h = no t x xs (λ e. let lt = h.0 in absurd (omega arith)) ∙ none_later t xs h.1
-
-  later : (t : ℕ) (x : Row) (xs : List Row) → t < time_of col x → AllByRecursion (λ y. time_of col x ≤ time_of col y) xs → AllByRecursion (λ y. t < time_of col y) xs
-  later t x [] lt h = tt
-  later t x (y ∷ ys) lt h = (let le = h.0 in omega arith, later t x ys lt h.1)
-
-  first_is_least : (t : ℕ) (x : Row) (xs : List Row) → IsInOrder col (x ∷ xs) → 0 < length (at_time col t (x ∷ xs)) → time_of col x ≤ t
-  first_is_least t x xs o some =
-      elim (cases_lt t (time_of col x)) [ inl late ↦ (let none = none_later t (x ∷ xs) (late, later t x xs late o.0) in absurd (omega (arith, ap length none))) | inr low ↦ low ]
-
-  pub same_in_order : (xs ys : List Row) → IsInOrder col xs → IsInOrder col ys → ((t : ℕ) → at_time col t xs ≡ at_time col t ys) → xs ≡ ys
-  same_in_order [] [] ox oy same = refl
-  same_in_order [] (y ∷ ys) ox oy same = let e : [] ≡ y ∷ at_time col (time_of col y) ys = same (time_of col y) ∙ yes (time_of col y) y ys refl in cc
-  same_in_order (x ∷ xs) [] ox oy same = let e : x ∷ at_time col (time_of col x) xs ≡ [] = sym (yes (time_of col x) x xs refl) ∙ same (time_of col x) in cc
-  same_in_order (x ∷ xs) (y ∷ ys) ox oy same =
-      let tx = time_of col x in
-      let ty = time_of col y in
-      let in_ys : at_time col tx (y ∷ ys) ≡ x ∷ at_time col tx xs = sym (same tx) ∙ yes tx x xs refl in
-      let in_xs : at_time col ty (x ∷ xs) ≡ y ∷ at_time col ty ys = same ty ∙ yes ty y ys refl in
-      let below : ty ≤ tx = first_is_least tx y ys oy (rw in_ys (omega arith)) in
-      let above : tx ≤ ty = first_is_least ty x xs ox (rw in_xs (omega arith)) in
-      let time : tx ≡ ty = omega arith in
-      let heads : x ∷ at_time col tx xs ≡ y ∷ at_time col tx ys = sym in_ys ∙ yes tx y ys (sym time) in
-      let head : x ≡ y = cc in
-      let rest : (t : ℕ) → at_time col t xs ≡ at_time col t ys = λ t.
-      elim (eqb_tells tx t) [ inl is ↦ (let h : x ∷ at_time col t xs ≡ y ∷ at_time col t ys = sym (yes t x xs is.1) ∙ same t ∙ yes t y ys (sym time ∙ is.1) in cc) | inr isnt ↦ sym (no t x xs isnt.1) ∙ same t ∙ no t y ys (λ e. isnt.1 (time ∙ e)) ] in
-      let tails : xs ≡ ys = same_in_order xs ys ox.1 oy.1 rest in
-      cc
-
-  pub stable_is_put : (sorted rows : List Row) → IsInOrder col sorted → ((t : ℕ) → at_time col t sorted ≡ at_time col t rows) → sorted ≡ in_time_order col rows
-  stable_is_put sorted rows o same = same_in_order sorted (in_time_order col rows) o (in_order-fold col [] [] rows tt) (λ t. same t ∙ sym (at_time-fold col t [] rows))
-
-  -- images whose times don't fall are in order
-  each_later : {X : Type 0} (R : X → Row) (time : X → ℕ) (x : X) (xs : List X) → IsNonDecreasingBy time (x ∷ xs) → time_of col (R x) ≡ time x → All (λ y. time_of col (R y) ≡ time y) xs → AllByRecursion (λ r. time_of col (R x) ≤ time_of col r) (map R xs)
-  each_later R time x xs rising at each = each-map R (λ r. time_of col (R x) ≤ time_of col r) xs (each_of_all (λ y. time_of col (R x) ≤ time_of col (R y)) xs (λ k d lt. let low : time x ≤ time (get_or xs k d) = rising 0 (suc k) d (omega arith) (omega arith) in let there = each k d lt in omega arith))
-
-  pub images_in_order : {X : Type 0} (R : X → Row) (time : X → ℕ) (xs : List X) → IsNonDecreasingBy time xs → All (λ y. time_of col (R y) ≡ time y) xs → IsInOrder col (map R xs)
-  images_in_order R time [] rising each = tt
-  images_in_order R time (x ∷ xs) rising each = (each_later R time x xs rising (each 0 x (omega arith)) (λ k d lt. each (suc k) d (omega arith)), images_in_order R time xs (λ i j d low high. rising (suc i) (suc j) d (omega arith) (omega arith)) (λ k d lt. each (suc k) d (omega arith)))
-
-  -- the images of one time
-  pub images_of_time : (R : Placed → Row) (t : ℕ) (ps : List Placed) → All (λ p. time_of col (R p) ≡ p.time) ps → at_time col t (map R ps) ≡ map R (at_moment t ps)
-  images_of_time R t [] each = refl
-  images_of_time R t (p ∷ ps) each =
-      let at : time_of col (R p) ≡ p.time = each 0 p (omega arith) in
-      let rest = images_of_time R t ps (λ k d lt. each (suc k) d (omega arith)) in
-      elim (eqb_tells t p.time) [
-        | inl same ↦ yes t (R p) (map R ps) (at ∙ sym same.1) ∙ ap (λ l. R p ∷ l) rest ∙ rw same.0 refl
-        | inr other ↦ no t (R p) (map R ps) (λ e. other.1 (sym e ∙ at)) ∙ rest ∙ rw other.0 refl
-      ]
+use Rattle.qd_block.proofs.RowLemmas.{length-rows_of, get_or-rows_of, cell_at-row_at}
 
 -- the moments of a column of times
 pub record AreTimes (n col : ℕ) (columns : List CellsOf) (times : List ℕ) : Type 0 where
@@ -96,7 +36,7 @@ are_times n col columns times d there size cells timed =
       count = count;
       each = λ i low.
           let at : cell_at (row_at columns i) col ≡ time_cell (get_or times i 0) = cell_at-row_at columns i col d there ∙ ap (λ (cs : List Cell). get_or cs i cell.Null) cells ∙ get_or-map time_cell times i 0 cell.Null (omega arith) in
-          let some : IsTimed col (row_at columns i) = subst (IsTimed col) (get_or-rows_of n i columns [] low) (each_row (IsTimed col) (rows_of n columns) timed i [] (omega (arith, length-rows_of n columns))) in
+          let some : IsTimed col (row_at columns i) = subst (IsTimed col) (get_or-rows_of n i columns [] low) (All-from_recursion (IsTimed col) (rows_of n columns) timed i [] (omega (arith, length-rows_of n columns))) in
           at ∙ time_shown (get_or times i 0) (λ null. some (at ∙ null));
     }
 
@@ -144,12 +84,52 @@ are_placed n col columns times ps are order =
     let make : ℕ → Placed = λ i. record { time = get_or times i 0; place = i } in
     let all_rows : map (row_of columns) (placed times) ≡ rows_of n columns = map-map (row_of columns) make (range_with_len 0 (length times)) ∙ ap (λ (k : ℕ). map (row_at columns) (range_with_len 0 k)) are.count in
     let sorted : IsInOrder col (map (row_of columns) ps) = images_in_order col (row_of columns) (λ (p : Placed). p.time) ps order.in_order (λ k d lt. (hold k d lt).0) in
-    let same : (t : ℕ) → at_time col t (map (row_of columns) ps) ≡ at_time col t (rows_of n columns) = λ t. images_of_time col (row_of columns) t ps (λ k d lt. (hold k d lt).0) ∙ ap (map (row_of columns)) (order.stable t) ∙ sym (images_of_time col (row_of columns) t (placed times) (λ k d lt. (first k d lt).0)) ∙ ap (at_time col t) all_rows in
+    let same : (t : ℕ) → at_time col t (map (row_of columns) ps) ≡ at_time col t (rows_of n columns) = λ t. images_of_time col (row_of columns) (λ (p : Placed). p.time) t ps (λ k d lt. (hold k d lt).0) ∙ ap (map (row_of columns)) (order.stable t) ∙ sym (images_of_time col (row_of columns) (λ (p : Placed). p.time) t (placed times) (λ k d lt. (first k d lt).0)) ∙ ap (at_time col t) all_rows in
     let chosen = map_places columns ps in
     record {
       count = length-map ps (λ (p : Placed). p.place) ∙ length_permutation (placed times) ps order.moved ∙ length-map-range_with_len make 0 (length times) ∙ are.count;
       within = λ k d lt. let low : k < length ps = omega (arith, length-map ps (λ (p : Placed). p.place)) in let q : Placed = record { time = 0; place = 0 } in subst (λ (i : ℕ). i < n) (sym (get_or-map (λ (p : Placed). p.place) ps k q d low)) (hold k q low).2;
       order = subst (IsInOrder col) (sym chosen) sorted;
-      timed = subst (λ (rs : List Row). AllByRecursion (IsTimed col) rs) (sym chosen) (each-map (row_of columns) (IsTimed col) ps (each_of_all (λ p. IsTimed col (row_of columns p)) ps (λ k d lt. (hold k d lt).1)));
+      timed = subst (λ (rs : List Row). AllByRecursion (IsTimed col) rs) (sym chosen) (each-map (row_of columns) (IsTimed col) ps (recursion_from_All (λ p. IsTimed col (row_of columns p)) ps (λ k d lt. (hold k d lt).1)));
       rows = chosen ∙ stable_is_put col (map (row_of columns) ps) (rows_of n columns) sorted same;
     }
+
+-- rows at places in order of time
+abbrev pub row_there : List Row → Placed → Row
+row_there rows p = get_or rows p.place []
+
+all_there : (rows : List Row) (n : ℕ) → n ≡ length rows → map (λ i. get_or rows i []) (range_with_len 0 n) ≡ rows
+all_there rows n size =
+    let f : ℕ → Row = λ i. get_or rows i [] in
+    let count : length (map f (range_with_len 0 n)) ≡ n = length-map-range_with_len f 0 n in
+    ext_get_or [] (map f (range_with_len 0 n)) rows (count ∙ size) (λ i h. let low : i < n = omega (arith, count) in get_or-map-range_with_len f 0 n i i [] low (omega arith))
+
+times_there : (col : ℕ) (rows : List Row) (times : List ℕ) → map (time_of col) rows ≡ times → All (λ p. (time_of col (row_there rows p) ≡ p.time) × (p.place < length times)) (placed times)
+times_there col rows times are k d lt =
+    let make : ℕ → Placed = λ i. record { time = get_or times i 0; place = i } in
+    let size : length times ≡ length rows = ap length (sym are) ∙ length-map rows (time_of col) in
+    let low : k < length times = omega (arith, length-map-range_with_len make 0 (length times)) in
+    let at : get_or (placed times) k d ≡ make k = get_or-map-range_with_len make 0 (length times) k k d low (omega arith) in
+    let time : time_of col (get_or rows k []) ≡ get_or times k 0 = sym (get_or-map (time_of col) rows k [] 0 (omega arith)) ∙ ap (λ (ts : List ℕ). get_or ts k 0) are in
+    let P : Placed → Type 0 = λ p. (time_of col (row_there rows p) ≡ p.time) × (p.place < length times) in
+    subst P (sym at) (time, low)
+
+pub places_within : (times : List ℕ) (ps : List Placed) → IsOrderOf times ps → All (λ i. i < length times) (map (λ (p : Placed). p.place) ps)
+places_within times ps order =
+    let make : ℕ → Placed = λ i. record { time = get_or times i 0; place = i } in
+    let P : Placed → Type 0 = λ p. p.place < length times in
+    let first : All P (placed times) = λ k d lt. let low : k < length times = omega (arith, length-map-range_with_len make 0 (length times)) in subst P (sym (get_or-map-range_with_len make 0 (length times) k k d low (omega arith))) low in
+    let hold : All P ps = All-permutation P (placed times) ps order.moved first in
+    λ k d lt. let low : k < length ps = omega (arith, length-map ps (λ (p : Placed). p.place)) in let q : Placed = record { time = 0; place = 0 } in subst (λ (i : ℕ). i < length times) (sym (get_or-map (λ (p : Placed). p.place) ps k q d low)) (hold k q low)
+
+pub rows_placed : (col : ℕ) (rows : List Row) (times : List ℕ) (ps : List Placed) → map (time_of col) rows ≡ times → IsOrderOf times ps → map (λ i. get_or rows i []) (map (λ (p : Placed). p.place) ps) ≡ in_time_order col rows
+rows_placed col rows times ps are order =
+    let R : Placed → Row = row_there rows in
+    let make : ℕ → Placed = λ i. record { time = get_or times i 0; place = i } in
+    let first = times_there col rows times are in
+    let hold = All-permutation (λ p. (time_of col (R p) ≡ p.time) × (p.place < length times)) (placed times) ps order.moved first in
+    let size : length times ≡ length rows = ap length (sym are) ∙ length-map rows (time_of col) in
+    let all_rows : map R (placed times) ≡ rows = map-map R make (range_with_len 0 (length times)) ∙ all_there rows (length times) size in
+    let sorted : IsInOrder col (map R ps) = images_in_order col R (λ (p : Placed). p.time) ps order.in_order (λ k d lt. (hold k d lt).0) in
+    let same : (t : ℕ) → at_time col t (map R ps) ≡ at_time col t rows = λ t. images_of_time col R (λ (p : Placed). p.time) t ps (λ k d lt. (hold k d lt).0) ∙ ap (map R) (order.stable t) ∙ sym (images_of_time col R (λ (p : Placed). p.time) t (placed times) (λ k d lt. (first k d lt).0)) ∙ ap (at_time col t) all_rows in
+    map-map (λ i. get_or rows i []) (λ (p : Placed). p.place) ps ∙ stable_is_put col (map R ps) rows sorted same

@@ -57,16 +57,6 @@ rows_chosen columns places =
     row_chosen [] places i h = refl
     row_chosen (c ∷ cs) places i h = ap (λ (x : Cell). x ∷ row_at (map (λ (c : CellsOf). cells_at c places) cs) i) (get_or-map (cell_of_row c) places i 0 cell.Null h) ∙ ap (λ (r : Row). cell_of_row c (get_or places i 0) ∷ r) (row_chosen cs places i h)
 
--- a fact of each row, and of each item of a list
-pub each_row : {X : Type 0} (P : X → Type 0) (xs : List X) → AllByRecursion P xs → All P xs
-each_row P [] h k d lt = absurd (omega arith)
-each_row P (x ∷ xs) h zero d lt = h.0
-each_row P (x ∷ xs) h (suc k) d lt = each_row P xs h.1 k d (omega arith)
-
-pub each_of_all : {X : Type 0} (P : X → Type 0) (xs : List X) → All P xs → AllByRecursion P xs
-each_of_all P [] h = tt
-each_of_all P (x ∷ xs) h = (h zero x (omega arith), each_of_all P xs (λ k d lt. h (suc k) d (omega arith)))
-
 pub kinds_kept : (columns : List CellsOf) (f : CellsOf → CellsOf) → ((c : CellsOf) → (f c).kind ≡ c.kind) → kinds_of (map f columns) ≡ kinds_of columns
 kinds_kept [] f h = refl
 kinds_kept (c ∷ cs) f h = ap (λ (k : ColType). k ∷ kinds_of (map f cs)) (h c) ∙ ap (λ (ks : List ColType). c.kind ∷ ks) (kinds_kept cs f h)

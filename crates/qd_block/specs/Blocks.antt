@@ -93,3 +93,12 @@ in_time_order time_col rows = fold (put time_col []) [] rows
 -- the rows of a column from one up to another
 abbrev pub part_of_column : ℕ → ℕ → CellsOf → CellsOf
 part_of_column from to column = record { kind = column.kind; cells = slice_range column.cells from to }
+
+-- what holds of every block: a cell for each column in each row, and rows in order of their designated timestamps,
+-- which are there
+pub record IsWhole (block : Block) : Type 0 where
+  pub few : length block.kinds ≤ MAX_COLUMNS
+  pub designated : slice_get block.kinds block.time_col ≡ Some kind.Time
+  pub cells : All (λ r. length r ≡ length block.kinds) block.rows
+  pub order : IsInOrder block.time_col block.rows
+  pub timed : AllByRecursion (IsTimed block.time_col) block.rows

@@ -2,7 +2,7 @@
 ghost use Rattle.std.specs.Prelude.{◌≡◌, ◌-◌, ◌<◌, ◌≤◌, Some, length, map, All, IfOk, slice_get, slice_range};
 ghost use Rattle.qd_base.specs.declared.cell.Cell.TheVariants as cell;
 ghost use Rattle.qd_base.specs.Rows.{Row, time_of, cell_at};
-ghost use Rattle.qd_block.specs.Blocks.{column_in, part_of_column};
+ghost use Rattle.qd_block.specs.Blocks.{block_of, column_in, part_of_column, IsBlock, IsWhole};
 
 use qd_base::{Dictionary, Memory};
 use qd_column::Column;
@@ -33,6 +33,33 @@ impl<D: Dictionary> Model for Block<D> {
 }
 
 impl<D: Dictionary> Block<D> {
+    /// Makes the block of whole columns: at most 256 of one length, with rows in order of their designated timestamp,
+    /// which is NULL in none. It takes constant time and no memory.
+    pub fn of_columns(
+        alloc: Global,
+        columns: Vec<Column<D>>,
+        rows: usize,
+        time_col: u32,
+    ) -> Block<D>
+        requires block { IsBlock rows time_col columns.items }
+        ensures block { result ≡ block_of rows time_col columns.items }
+    {
+        Block {
+            alloc,
+            columns,
+            rows,
+            time_col: time_col as usize,
+        }
+    }
+
+    /// Tells that the block is whole: each row has a cell for each column, and the rows are in order of time. It does
+    /// nothing.
+    pub fn is_whole(&self)
+        ensures whole { IsWhole self.now }
+    {
+        let _rows = self.rows;
+    }
+
     /// Gives the number of rows, in constant time.
     pub fn rows(&self) -> u64
         ensures count { result ≡ length self.now.rows }

@@ -10,3 +10,4 @@ mod tests;
 
 pub use block::{Block, ColumnView};
 pub use builder::Builder;
+pub use order::{rises, time_order};

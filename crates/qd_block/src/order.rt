@@ -1,7 +1,9 @@
 //! Places in order of time.
-ghost use Rattle.std.specs.Prelude.{◌≡◌, List, IfOk, map, OnOk, OnErr};
+ghost use Rattle.std.specs.Prelude.{◌≡◌, ℕ, ◌<◌, List, [], IfOk, All, map, length, slice_index_or, OnOk, OnErr};
 ghost use Rattle.std.specs.Bool.{OnTrue, OnFalse};
 ghost use Rattle.std.specs.List.Sorted.{IsNonDecreasing};
+ghost use Rattle.qd_base.specs.Rows.{Row, time_of};
+ghost use Rattle.qd_block.specs.Blocks.{in_time_order};
 ghost use Rattle.qd_block.specs.Order.{placed, IsOrderOf, IsSortedFrom};
 ghost use Rattle.qd_block.specs.declared.order.Placed.{Placed as Moment};
 
@@ -16,15 +18,19 @@ pub(crate) struct Placed {
 }
 
 /// Says whether no time is less than the one before it. It costs time linear in their number.
-pub(crate) fn rises(times: &[u64]) -> bool
+pub fn rises(times: &[u64]) -> bool
     ensures rises { OnTrue result (IsNonDecreasing times.now) }
 {
-    for i in 0..times.len() {
-        if 0 < i && times[i] < times[i - 1] {
-            return false;
-        }
-    }
-    true
+    times.is_sorted()
+}
+
+/// Gives the places of times in order of time, those of one time in the order of their numbers: so rows with these
+/// times come to stand as if they were put one by one. It costs n log n and memory linear in their number.
+pub fn time_order(alloc: Global, times: &[u64]) -> Result<Vec<usize>, Memory>
+    ensures within { IfOk result (λ v. All (λ i. i < length times.now) v.items) }
+    ensures order { (col : ℕ) (rows : List Row) → map (time_of col) rows ≡ times.now → IfOk result (λ v. map (λ i. slice_index_or rows i []) v.items ≡ in_time_order col rows) }
+{
+    places_in_order(alloc, times)
 }
 
 /// Gives the places of times in order of time, those of one time in the order of their numbers. It costs n log n.

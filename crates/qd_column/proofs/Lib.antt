@@ -2,3 +2,4 @@ pub mod ListLemmas
 mod TextLemmas
 pub mod SymbolLemmas
 mod ColumnLemmas
+pub mod RunLemmas

@@ -112,3 +112,18 @@ leads_more from to table id text leads size within is k h =
           (let at : get_or (set table id (id_for to text)) k NULL_ID ≡ get_or table k NULL_ID = get_or-set_other table id k (id_for to text) NULL_ID other.1 in
           ⊎_elim (λ none. inl (at ∙ none)) (λ led. let kept = text_kept to text [] (get_or table k NULL_ID) led.0 in let stands : get_or (with_text to text) (get_or (set table id (id_for to text)) k NULL_ID) [] ≡ get_or from k [] = ap (λ n. get_or (with_text to text) n []) at ∙ kept.1 ∙ led.1 in inr (subst (λ (n : ℕ). n < length (with_text to text)) (sym at) kept.0, stands)) (leads k h))
     ]
+
+-- a table that leads to the texts of cells leads to those of more cells
+leads_with : (from to : List (List ℕ)) (table : List ℕ) (x : Cell) → LeadsTo from to table → LeadsTo from (with_text_of to x) table
+leads_with from to table cell.Null leads = leads
+leads_with from to table (cell.Long x) leads = leads
+leads_with from to table (cell.Bool b) leads = leads
+leads_with from to table (cell.Text t) leads = λ k h. ⊎_elim (λ none. inl none) (λ led. let kept = text_kept to t [] (get_or table k NULL_ID) led.0 in inr (kept.0, kept.1 ∙ led.1)) (leads k h)
+leads_with from to table (cell.Time t) leads = leads
+
+leads_on : (from to : List (List ℕ)) (table : List ℕ) (more : List Cell) → LeadsTo from to table → LeadsTo from (fold with_text_of to more) table
+leads_on from to table [] leads = leads
+leads_on from to table (x ∷ more) leads = leads_on from (with_text_of to x) table more (leads_with from to table x leads)
+
+pub leads_longer : (from : List (List ℕ)) (table : List ℕ) (cells more : List Cell) → LeadsTo from (texts_in cells) table → LeadsTo from (texts_in (cells ++ more)) table
+leads_longer from table cells more leads = subst (λ (t : List (List ℕ)). LeadsTo from t table) (sym (fold-append with_text_of [] cells more)) (leads_on from (texts_in cells) table more leads)

@@ -1,10 +1,15 @@
 //! How columns are copied, and how their cells come in and out as values.
-ghost use Rattle.std.specs.Prelude.{◌≡◌, ℕ, ◌<◌, ◌≤◌, Some, length, All, IfOk, OnOk, OnErr, slice_get, slice_range};
+ghost use Rattle.std.specs.Prelude.{◌≡◌, ℕ, ◌<◌, ◌≤◌, Some, length, All, IfOk, OnOk, OnErr, slice_get, slice_range, replicate};
 ghost use Rattle.qd_base.specs.Lawful.{Takes};
+ghost use Rattle.qd_base.specs.Database.{missing};
 ghost use Rattle.qd_column.specs.Cells.{cells_at, with_cell};
+ghost use Rattle.qd_column.specs.Runs.{laid, IsRunOf};
 
 use crate::column::{Column, Data};
 use crate::gather::{gathered, part_of};
+use crate::runs::{Run, spliced};
+use crate::symbols::Symbols;
+use crate::texts::Texts;
 use qd_base::{Cell, ColType, Dictionary, Memory, Txt};
 use std::alloc::Global;
 
@@ -68,6 +73,55 @@ impl<D: Dictionary> Column<D> {
                 Ok(Column { data })
             }
         }
+    }
+
+    /// Copies rows of two columns of one kind, in the order of the runs. It costs time and memory linear in the number
+    /// of rows, their bytes and, in SYMBOL columns, that of the columns' texts.
+    pub fn spliced(
+        alloc: Global,
+        first: &Column<D>,
+        second: &Column<D>,
+        runs: &[Run],
+    ) -> Result<Column<D>, Memory>
+        requires kind { first.now.kind ≡ second.now.kind }
+        requires within { All (IsRunOf (length first.now.cells) (length second.now.cells)) runs.now }
+        ensures cells { IfOk result (λ column. column ≡ record { kind = first.now.kind; cells = laid first.now.cells second.now.cells runs.now }) }
+    {
+        match (&first.data, &second.data) {
+            (Data::Longs(a), Data::Longs(b)) => {
+                let data = Data::Longs(spliced(alloc, a.as_slice(), b.as_slice(), runs)?);
+                Ok(Column { data })
+            }
+            (Data::Truths(a), Data::Truths(b)) => {
+                let data = Data::Truths(spliced(alloc, a.as_slice(), b.as_slice(), runs)?);
+                Ok(Column { data })
+            }
+            (Data::Symbols(a), Data::Symbols(b)) => {
+                let data = Data::Symbols(Symbols::spliced(alloc, a, b, runs)?);
+                Ok(Column { data })
+            }
+            (Data::Texts(a), Data::Texts(b)) => {
+                let data = Data::Texts(Texts::spliced(alloc, a, b, runs)?);
+                Ok(Column { data })
+            }
+            (Data::Times(a), Data::Times(b)) => {
+                let data = Data::Times(spliced(alloc, a.as_slice(), b.as_slice(), runs)?);
+                Ok(Column { data })
+            }
+            _ => unreachable!(),
+        }
+    }
+
+    /// Makes a column of rows that lack it: NULL in each, or false in a BOOLEAN column. It costs time and memory linear
+    /// in their number.
+    pub fn missing(alloc: Global, kind: ColType, rows: usize) -> Result<Column<D>, Memory>
+        ensures cells { IfOk result (λ column. column ≡ record { kind = kind; cells = replicate rows (missing kind) }) }
+    {
+        let mut column = Column::new(alloc, kind)?;
+        for _ in 0..rows {
+            column.push_missing()?;
+        }
+        Ok(column)
     }
 
     /// Gives the cell of a row. It costs time and memory linear in its text.

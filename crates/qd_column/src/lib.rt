@@ -6,11 +6,14 @@
 mod column;
 mod copying;
 mod gather;
+mod parts;
 mod reading;
+mod runs;
 mod symbols;
 mod texts;
 
 pub use column::Column;
 pub use gather::{gathered, part_of};
+pub use runs::{Run, Side, spliced};
 pub use symbols::Symbols;
 pub use texts::Texts;

@@ -54,10 +54,12 @@ impl<D: Dictionary> Column<D> {
         }
     }
 
-    /// Lends the dictionary of a SYMBOL column, in constant time: its texts, in the order in which they first appear.
+    /// Lends the dictionary of a SYMBOL column, in constant time: its texts, in the order in which they first appear, each
+    /// of at most 65,535 bytes.
     pub fn dictionary(&self) -> &D
         requires { self.now.kind ≡ kind.Symbol }
         ensures texts { D.texts result.now ≡ texts_in self.now.cells }
+        ensures short { All (λ t. length t ≤ MAX_TEXT_BYTES) (texts_in self.now.cells) }
     {
         match &self.data {
             Data::Symbols(symbols) => symbols.dictionary(),

@@ -3,9 +3,11 @@ ghost use Rattle.std.specs.Prelude.{◌≡◌, ◌≢◌, ℕ, ◌<◌, ◌≤�
 ghost use Rattle.qd_base.specs.declared.cell.Cell.TheVariants as cell;
 ghost use Rattle.qd_base.specs.Dictionary.{id_for};
 ghost use Rattle.qd_column.specs.Cells.{text_or_null};
+ghost use Rattle.qd_column.specs.Runs.{laid, IsRunOf};
 ghost use Rattle.qd_column.specs.Symbols.{texts_in, symbol_cell, id_or_null, IsIdOf, AreSymbols, LeadsTo};
 
 use crate::gather::gathered;
+use crate::runs::{Run, Side};
 use qd_base::{Dictionary, MAX_TEXT_BYTES, Memory, NULL_ID};
 use std::alloc::Global;
 use std::marker::Model;
@@ -42,6 +44,14 @@ impl<D: Dictionary> Symbols<D> {
         })
     }
 
+    /// Makes the column of ids and the dictionary of its texts, which stand in the order in which they first appear.
+    pub(crate) fn of_parts(ids: Vec<u64>, dictionary: D) -> Symbols<D>
+        requires { AreSymbols (D.texts dictionary) ids.items }
+        ensures cells { result ≡ map (symbol_cell (D.texts dictionary)) ids.items }
+    {
+        Symbols { ids, dictionary }
+    }
+
     /// Gives the number of rows, in constant time.
     pub fn len(&self) -> usize
         ensures count { result ≡ length self.now }
@@ -60,6 +70,7 @@ impl<D: Dictionary> Symbols<D> {
     /// Lends the dictionary: the texts of the column, in the order in which they first appear.
     pub fn dictionary(&self) -> &D
         ensures texts { D.texts result.now ≡ texts_in self.now }
+        ensures short { All (λ t. length t ≤ MAX_TEXT_BYTES) (texts_in self.now) }
     {
         &self.dictionary
     }
@@ -189,5 +200,51 @@ impl<D: Dictionary> Symbols<D> {
         ensures cells { IfOk result (λ symbols. symbols ≡ slice_range self.now from to) }
     {
         Symbols::of_ids(alloc, &self.dictionary, &self.ids[from..to])
+    }
+
+    /// Copies rows of two columns, in the order of the runs. Each text of either is looked up once. It costs time and
+    /// memory linear in the number of rows and of the columns' texts.
+    pub fn spliced(
+        alloc: Global,
+        first: &Symbols<D>,
+        second: &Symbols<D>,
+        runs: &[Run],
+    ) -> Result<Symbols<D>, Memory>
+        requires { All (IsRunOf (length first.now) (length second.now)) runs.now }
+        ensures cells { IfOk result (λ symbols. symbols ≡ laid first.now second.now runs.now) }
+    {
+        let mut symbols = Symbols::new(alloc)?;
+        let mut of_first = Vec::from_elem(alloc, NULL_ID, first.dictionary.len() as usize)?;
+        let mut of_second = Vec::from_elem(alloc, NULL_ID, second.dictionary.len() as usize)?;
+        for run in runs {
+            match run.side {
+                Side::First => symbols.push_part(first, &mut of_first, run.from, run.to)?,
+                Side::Second => symbols.push_part(second, &mut of_second, run.from, run.to)?,
+            }
+        }
+        Ok(symbols)
+    }
+
+    /// Adds the rows of another column from one up to another. The table leads from that one's ids to those of this
+    /// column, as far as they are known.
+    fn push_part(
+        &mut self,
+        other: &Symbols<D>,
+        table: &mut Vec<u64>,
+        from: usize,
+        to: usize,
+    ) -> Result<(), Memory>
+        requires ordered { from ≤ to }
+        requires within { to ≤ length other.now }
+        requires size { length table.old.items ≡ length (texts_in other.now) }
+        requires leads { LeadsTo (texts_in other.now) (texts_in self.old) table.old.items }
+        ensures ok { OnOk result (self.new ≡ self.old ++ slice_range other.now from to) }
+        ensures size { length table.new.items ≡ length table.old.items }
+        ensures leads { OnOk result (LeadsTo (texts_in other.now) (texts_in self.new) table.new.items) }
+    {
+        for id in &other.ids[from..to] {
+            self.push_from(&other.dictionary, table, *id)?;
+        }
+        Ok(())
     }
 }

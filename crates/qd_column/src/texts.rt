@@ -2,8 +2,10 @@
 ghost use Rattle.std.specs.Prelude.{◌≡◌, ℕ, ◌<◌, ◌≤◌, List, [], ◌∷◌, ◌++◌, Some, length, map, All, IfOk, IfSome, OnOk, OnErr, slice_get, slice_range, slice_index_or, option_map};
 ghost use Rattle.qd_base.specs.declared.cell.Cell.TheVariants as cell;
 ghost use Rattle.qd_column.specs.Cells.{text_or_null};
+ghost use Rattle.qd_column.specs.Runs.{laid, IsRunOf};
 ghost use Rattle.qd_column.specs.Texts.{cells_from, start_at, Tile};
 
+use crate::runs::{Run, Side};
 use qd_base::{MAX_TEXT_BYTES, Memory};
 use std::alloc::Global;
 use std::marker::Model;
@@ -40,6 +42,22 @@ impl Texts {
             marks: Vec::new(alloc),
             bytes: Vec::new(alloc),
         }
+    }
+
+    /// Makes the column of marks and the bytes that they tile.
+    pub(crate) fn of_parts(marks: Vec<u64>, bytes: Vec<u8>) -> Texts
+        requires { Tile 0 marks.items (length bytes.items) }
+        ensures cells { result ≡ cells_from bytes.items 0 marks.items }
+    {
+        Texts { marks, bytes }
+    }
+
+    /// Lends the marks and the bytes that they tile, in constant time.
+    pub(crate) fn parts(&self) -> (&[u64], &[u8])
+        ensures cells { self.now ≡ cells_from result.1.now 0 result.0.now }
+        ensures tiled { Tile 0 result.0.now (length result.1.now) }
+    {
+        (self.marks.as_slice(), self.bytes.as_slice())
     }
 
     /// Gives the number of rows, in constant time.
@@ -113,10 +131,41 @@ impl Texts {
         ensures cells { IfOk result (λ texts. texts ≡ slice_range self.now from to) }
     {
         let mut texts = Texts::new(alloc);
-        for i in from..to {
-            texts.push_row(self, i)?;
+        texts.push_part(self, from, to)?;
+        Ok(texts)
+    }
+
+    /// Copies rows of two columns, in the order of the runs. It costs time and memory linear in their number and their
+    /// bytes.
+    pub fn spliced(
+        alloc: Global,
+        first: &Texts,
+        second: &Texts,
+        runs: &[Run],
+    ) -> Result<Texts, Memory>
+        requires { All (IsRunOf (length first.now) (length second.now)) runs.now }
+        ensures cells { IfOk result (λ texts. texts ≡ laid first.now second.now runs.now) }
+    {
+        let mut texts = Texts::new(alloc);
+        for run in runs {
+            match run.side {
+                Side::First => texts.push_part(first, run.from, run.to)?,
+                Side::Second => texts.push_part(second, run.from, run.to)?,
+            }
         }
         Ok(texts)
+    }
+
+    /// Adds the rows of another column from one up to another.
+    fn push_part(&mut self, other: &Texts, from: usize, to: usize) -> Result<(), Memory>
+        requires ordered { from ≤ to }
+        requires within { to ≤ length other.now }
+        ensures ok { OnOk result (self.new ≡ self.old ++ slice_range other.now from to) }
+    {
+        for i in from..to {
+            self.push_row(other, i)?;
+        }
+        Ok(())
     }
 }
 

@@ -1,12 +1,11 @@
-use Rattle.std.proofs.Common.{arith}
-use Rattle.std.proofs.lemmas.List.{take_all}
-use Rattle.qd_block.proofs.MomentLemmas.{rises_more}
+use Rattle.std.proofs.Common.{Bool, true, false}
+use Rattle.std.specs.Bool.{MatchBool, OnTrue}
+use Rattle.std.proofs.lemmas.List.Sorted.{non_decreasing_from_is_sorted}
 use Rattle.qd_block.proofs.order.rises.Goals as goal
-use Rattle.qd_block.proofs.order.rises.Goals.{else-i-gt0-via-then-i-gt0+else-times-i, else-i-gt0-via-else-i-gt0}
 
-pub loop-i-preserved : goal.loop-i-preserved
-loop-i-preserved c =
-    elim c.else-i-gt0.branch [ else-i-gt0-via-then-i-gt0+else-times-i w ↦ rises_more c.args.times.now c.loop-i.i (omega arith) c.loop-i.invariant (λ _. w.if-times-i.false) | else-i-gt0-via-else-i-gt0 w ↦ rises_more c.args.times.now c.loop-i.i (omega arith) c.loop-i.invariant (λ some. absurd (omega arith)) ]
+where_true : (b : Bool) (P Q : Type 0) → MatchBool b P Q → OnTrue b P
+where_true true P Q h = h
+where_true false P Q h = tt
 
 pub returns : goal.returns
-returns c = record { rises = rw (take_all c.loop-i.i c.args.times.now (omega arith)) at c.loop-i.invariant }
+returns c = record { rises = where_true c.is_sorted.result _ _ (non_decreasing_from_is_sorted c.args.times.now c.is_sorted.result c.is_sorted.ensures.cases) }

@@ -5,7 +5,7 @@ use Rattle.qd_base.specs.declared.schema.ColType.{ColType}
 use Rattle.qd_base.specs.Lawful.{HasKinds}
 use Rattle.qd_base.specs.Rows.{Row}
 use Rattle.qd_block.specs.Blocks.{Block, Building, FitsKinds, IsTimed, in_time_order}
-use Rattle.qd_block.proofs.OrderLemmas.{stable_is_put}
+use Rattle.qd_base.proofs.Sorted.{stable_is_put}
 use Rattle.qd_block.proofs.FitLemmas.{fits_columns}
 use Rattle.qd_block.proofs.block.Block.from_rows.Goals as goal
 

@@ -1,0 +1,17 @@
+pub mod Sorts
+pub mod Judging
+pub mod Combining
+pub mod Choosing
+pub mod Tokens
+pub mod Repeating
+pub mod Living
+pub mod Regroup
+pub mod WriteExact
+pub mod ExprExact
+pub mod Depth
+pub mod Calling
+pub mod Seconds
+pub mod QueryExact
+pub mod ShownExact
+pub mod WholeExact
+pub mod Decided

@@ -1,0 +1,10 @@
+pub mod Lists
+pub mod Numbers
+pub mod Frame
+pub mod Boards
+pub mod Pinning
+pub mod Holding
+pub mod Seats
+pub mod Runs
+pub mod Follows
+pub mod Examples

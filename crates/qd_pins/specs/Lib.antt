@@ -1,0 +1,4 @@
+pub mod Machine
+pub mod Kept
+pub mod Laws
+pub mod Examples

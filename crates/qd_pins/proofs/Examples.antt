@@ -1,7 +1,8 @@
 -- The small runs may come, step by step.
-use Rattle.std.proofs.Common.{◌≡◌, ℕ, zero, suc, ◌<◌, ◌≤◌, false, List, [], ◌∷◌, ◌++◌, replicate, length, Some, None, refl, sym, subst, ◌∙◌, inr, arith, le_refl}
+use Rattle.std.proofs.Common.{◌≡◌, ℕ, zero, suc, ◌-◌, ◌<◌, ◌≤◌, false, List, [], ◌∷◌, ◌++◌, replicate, length, Some, None, refl, sym, subst, ◌∙◌, inr, arith, le_refl}
 use Rattle.std.specs.Prelude.{Contains, Option, slice_index_or}
 use mathlib.Core.List.{IsPrefix}
+use Rattle.qd_pins.specs.declared.limits.TheConstants.{ROWS}
 use Rattle.qd_pins.specs.declared.view.View.{View}
 use Rattle.qd_pins.specs.declared.view.Place.{Place}
 use Rattle.qd_pins.specs.declared.view.Version.{Version}
@@ -13,12 +14,12 @@ use Rattle.qd_pins.proofs.Runs.{run_on}
 
 module _ (first second : Option (Version (List ℕ))) where
   abbrev rows : List (Option (Version (List ℕ)))
-  rows = first ∷ second ∷ replicate 62 None
+  rows = first ∷ second ∷ replicate (ROWS - 2) None
 
   all_rows : (P : Version (List ℕ) → Type 0) → ((x : Version (List ℕ)) → first ≡ Some x → P x) → ((x : Version (List ℕ)) → second ≡ Some x → P x) → (row : ℕ) (x : Version (List ℕ)) → version_at rows row ≡ Some x → P x
   all_rows P one two zero x e = one x e
   all_rows P one two (suc zero) x e = two x e
-  all_rows P one two (suc (suc row)) x e = let n = no_version {S = List ℕ} 62 row in let d : None ≡ Some x = sym n ∙ e in absurd (cc)
+  all_rows P one two (suc (suc row)) x e = let n = no_version {S = List ℕ} (ROWS - 2) row in let d : None ≡ Some x = sym n ∙ e in absurd (cc)
 
 same_version : (x y : Version (List ℕ)) → Some y ≡ Some x → y ≡ x
 same_version x y e = cc

@@ -1,8 +1,9 @@
 -- What follows from the rule.
-use Rattle.std.proofs.Common.{◌≡◌, ◌≢◌, ℕ, ◌+◌, ◌≤◌, Bool, true, false, cond, List, refl, sym, ap, ◌∙◌, subst, ⊎_elim, arith}
+use Rattle.std.proofs.Common.{◌≡◌, ◌≢◌, ℕ, ◌+◌, ◌<◌, ◌≤◌, Bool, true, false, cond, List, refl, sym, ap, ◌∙◌, subst, ⊎_elim, arith}
 use Rattle.std.specs.Prelude.{is_some, if◌then◌else◌}
 use mathlib.Core.Option.{some, some-injective}
 use lib.ListN.{get_elem?}
+use Rattle.qd_pins.specs.declared.limits.TheConstants.{PINS_END}
 use Rattle.qd_pins.specs.declared.view.Place.{Place}
 use Rattle.qd_pins.specs.declared.view.Phase.{Phase}
 use Rattle.qd_pins.specs.declared.view.Phase.TheVariants.{Idle, Pinned}
@@ -54,11 +55,10 @@ positions_are_ones_own I S blocks book s r seat other n v w at there mine theirs
     let d = k.history.once n in absurd (omega arith))
     (same_or_other other seat)
 
-pub pins_stay_small : (I S : Type 0) → PinsStaySmall I S
-pins_stay_small I S blocks book s r row =
-    let k = kept_reached blocks book s r in
+pub pins_small : {I S : Type 0} (blocks : S → List ℕ) (s : State I S) → Kept blocks s → (row : ℕ) → s.board.pins row < PINS_END
+pins_small {I} {S} blocks s k row =
     let p = k.pins.pins row in
-    let u = sum_under (λ (u : View I S). once_on row u.phase) (λ (u : View I S). weight u) s.views (λ i u at. light k i u at u.spent refl) in
+    let u = sum_under (λ (u : View I S). once_on row u.phase) (λ (u : View I S). weight u) s.views (λ i u at. light i u at u.spent refl) in
     let l = k.pins.rooms in omega arith
   where
     once_le : (p : Phase) → once_on row p ≤ 1
@@ -68,9 +68,12 @@ pins_stay_small I S blocks book s r row =
         choose true = omega arith
         choose false = omega arith
 
-    light : Kept blocks s → (i : ℕ) (u : View I S) → get_elem? s.views i ≡ some u → (b : Bool) → u.spent ≡ b → once_on row u.phase ≤ weight u
-    light k i u at true e = let idle = k.keepers i u at (k.pins.gone i u at e) in let z : once_on row u.phase ≡ 0 = ap (once_on row) idle in omega arith
-    light k i u at false e = let l = once_le u.phase in let z : weight u ≡ u.room + 1 = ap (λ t. if t then 0 else u.room + 1) e in omega arith
+    light : (i : ℕ) (u : View I S) → get_elem? s.views i ≡ some u → (b : Bool) → u.spent ≡ b → once_on row u.phase ≤ weight u
+    light i u at true e = let idle = k.keepers i u at (k.pins.gone i u at e) in let z : once_on row u.phase ≡ 0 = ap (once_on row) idle in omega arith
+    light i u at false e = let l = once_le u.phase in let z : weight u ≡ u.room + 1 = ap (λ t. if t then 0 else u.room + 1) e in omega arith
+
+pub pins_stay_small : (I S : Type 0) → PinsStaySmall I S
+pins_stay_small I S blocks book s r row = pins_small blocks s (kept_reached blocks book s r) row
 
 pub sole_seat_retires : (I S : Type 0) → SoleSeatRetires I S
 sole_seat_retires I S blocks book s r seat v at sole idle row =

@@ -1,9 +1,10 @@
 -- An event of one seat changes the board and that seat's view. What has to be shown of it so that it keeps the rule.
-use Rattle.std.proofs.Common.{◌≡◌, ◌≢◌, ℕ, ◌+◌, ◌^◌, ◌<◌, ◌≤◌, true, cond, List, length, set, Some, None, refl, ◌∙◌, arith}
+use Rattle.std.proofs.Common.{◌≡◌, ◌≢◌, ℕ, ◌+◌, ◌<◌, ◌≤◌, true, cond, List, length, set, Some, None, refl, ◌∙◌, arith}
 use Rattle.std.specs.Prelude.{if◌then◌else◌, Option}
 use Rattle.std.proofs.lemmas.List.{length-set}
 use mathlib.Core.Option.{some}
 use lib.ListN.{get_elem?}
+use Rattle.qd_pins.specs.declared.limits.TheConstants.{MAX_SPLITS}
 use Rattle.qd_pins.specs.declared.view.Mode.TheVariants.{Sole, Keeper}
 use Rattle.qd_pins.specs.declared.view.Phase.{Phase}
 use Rattle.qd_pins.specs.declared.view.Phase.TheVariants.{Idle, Looked, Trying, Pinned}
@@ -68,7 +69,7 @@ module _ {I S : Type 0} (blocks : S → List ℕ) where
 
   -- the rule, from its parts on the board, on each view, and on all views together
   pub kept_from : (s : State I S) → Stands s.board → OneHolder s → Each s.views (λ seat v. Fits s.board v)
-      → ((row : ℕ) → s.board.pins row ≡ counted row s.views) → rooms s.views ≤ 2 ^ 61 + 1 → ((n : ℕ) → claimed n s.views ≤ 1)
+      → ((row : ℕ) → s.board.pins row ≡ counted row s.views) → rooms s.views ≤ MAX_SPLITS + 1 → ((n : ℕ) → claimed n s.views ≤ 1)
       → Each s.views (λ seat v. v.mode ≡ Sole → Each s.views (λ other w. other ≢ seat → w.mode ≡ Keeper))
       → Kept blocks s
   kept_from s stands holds fits pins room once alone = record {

@@ -272,7 +272,7 @@ module _ {I S : Type 0} (blocks : S → List ℕ) where
       added = behind (length s.board.history) (length book.history - length s.board.history)
 
       w : View I S
-      w = record v { seen = book.history; mine = v.mine ++ added; known = s.board.current.n; noted = book.versions; records = v.records ++ record_of s.board book ∷ []; hold = None }
+      w = record v { seen = book.history; mine = v.mine ++ added; known = s.board.current.n; noted = book.versions; records = v.records ++ record_of (sight s.board) book ∷ []; hold = None }
 
       grown : length s.board.history ≤ length book.history
       grown = prefix_length s.board.history book.history need.history
@@ -309,8 +309,8 @@ module _ {I S : Type 0} (blocks : S → List ℕ) where
           mine = rises_append v.mine added 0 (length s.board.history) (length book.history) (rises_wider 0 (length v.seen) (length s.board.history) v.mine (prefix_length v.seen s.board.history h.seen.seen) h.seen.mine)
               (rises_behind (length s.board.history) (length book.history - length s.board.history) (length book.history) (let g = grown in omega arith));
           known = le_refl s.board.current.n;
-          faults = never_falls_push (λ r. r.faults_found) (λ r. r.faults_left) 0 s.board.faults book.faults v.records (record_of s.board book) h.seen.faults (le_refl s.board.faults) need.faults (le_refl book.faults);
-          removed = never_falls_push (λ r. r.removed_found) (λ r. r.removed_left) 0 s.board.removed book.removed v.records (record_of s.board book) h.seen.removed (le_refl s.board.removed) need.removed (le_refl book.removed);
+          faults = never_falls_push (λ r. r.faults_found) (λ r. r.faults_left) 0 s.board.faults book.faults v.records (record_of (sight s.board) book) h.seen.faults (le_refl s.board.faults) need.faults (le_refl book.faults);
+          removed = never_falls_push (λ r. r.removed_found) (λ r. r.removed_left) 0 s.board.removed book.removed v.records (record_of (sight s.board) book) h.seen.removed (le_refl s.board.removed) need.removed (le_refl book.removed);
         };
         noted = subst (λ (vs : List (Option (Version S))). NotedFits c (record w { noted = vs })) (sym need.versions) noted;
         keeper = h.keeper;

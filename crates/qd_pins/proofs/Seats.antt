@@ -1,5 +1,5 @@
 -- Seats are split, joined and shared, and the first one opens the board: the rule is kept.
-use Rattle.std.proofs.Common.{◌≡◌, ◌≢◌, ◌⊎◌, ℕ, zero, suc, ◌+◌, ◌-◌, ◌^◌, ◌<◌, ◌≤◌, Bool, true, false, List, [], ◌∷◌, ◌++◌, length, set, leb, replicate, Some, None, refl, sym, ap, ◌∙◌, subst, inl, inr, ⊎_elim, arith, zero-le, le_refl}
+use Rattle.std.proofs.Common.{◌≡◌, ◌≢◌, ◌⊎◌, ℕ, zero, suc, ◌+◌, ◌-◌, ◌<◌, ◌≤◌, Bool, true, false, List, [], ◌∷◌, ◌++◌, length, set, leb, replicate, Some, None, refl, sym, ap, ◌∙◌, subst, inl, inr, ⊎_elim, arith, zero-le, le_refl}
 use Rattle.std.specs.Prelude.{◌==◌, nat_le, if◌then◌else◌, Option, is_some}
 use Rattle.std.proofs.lemmas.List.{length-set, length-append}
 use Rattle.std.proofs.lemmas.List.Sums.{sum_by_push}
@@ -7,6 +7,7 @@ use Rattle.std.proofs.lemmas.Bool.Decides.{eqb_tells, leb_tells}
 use mathlib.Core.Option.{some, some-injective, some-ne-none}
 use mathlib.Core.List.{IsPrefix}
 use lib.ListN.{get_elem?}
+use Rattle.qd_pins.specs.declared.limits.TheConstants.{MAX_SPLITS, ROWS}
 use Rattle.qd_pins.specs.declared.view.Mode.{Mode}
 use Rattle.qd_pins.specs.declared.view.Mode.TheVariants.{Sole, Writer, Keeper}
 use Rattle.qd_pins.specs.declared.view.Place.{Place}
@@ -153,7 +154,7 @@ module _ {I S : Type 0} (blocks : S → List ℕ) where
               (λ (h : ((seat == i) ≡ false) × (seat ≢ i)). let a = (k.sole i u there m).others seat v at h.1 in cc)
               t
 
-  joins : (s : State I S) (seat : ℕ) (v : View I S) (other : ℕ) (w : View I S) → Kept blocks s → get_elem? s.views seat ≡ some v → v.spent ≡ false → MayJoin s.views seat other w → Kept blocks (record { board = s.board; views = set (set s.views seat (joined v w)) other gone })
+  pub joins : (s : State I S) (seat : ℕ) (v : View I S) (other : ℕ) (w : View I S) → Kept blocks s → get_elem? s.views seat ≡ some v → v.spent ≡ false → MayJoin s.views seat other w → Kept blocks (record { board = s.board; views = set (set s.views seat (joined v w)) other gone })
   joins s seat v other w k at stands need = kept_from blocks (record { board = s.board; views = set once other gone }) (stands_of blocks s k)
       (record {
         holds = both (λ j u. u.hold ≡ hold_of s.board j) (λ j u a b there. k.one_holder.holds j u there) (k.one_holder.holds seat v at) (sym need.no_lock ∙ k.one_holder.holds other w need.there);
@@ -229,7 +230,7 @@ module _ {I S : Type 0} (blocks : S → List ℕ) where
           rows = ap length may.versions;
           live = λ row. live row ∙ sym (ap (λ vs. is_some (version_at vs row)) may.versions);
           distinct = λ row other x y d e n. (only row x d).0 ∙ sym (only other y e).0;
-          current = (first, ap (λ vs. version_at vs book.current.row) may.versions ∙ ap (λ (p : Place). version_at (Some first ∷ replicate 63 None) p.row) may.current, sym (ap (λ (p : Place). p.n) may.current));
+          current = (first, ap (λ vs. version_at vs book.current.row) may.versions ∙ ap (λ (p : Place). version_at (Some first ∷ replicate (ROWS - 1) None) p.row) may.current, sym (ap (λ (p : Place). p.n) may.current));
           newer = λ row other x y d e m n. (only row x d).0 ∙ sym (only other y e).0;
           newest = λ e row x d. let o : first.n ≡ x.n = ap (λ (t : Version S). t.n) (only row x d).1 in let c : book.current.n ≡ first.n = ap (λ (p : Place). p.n) may.current in omega arith;
         };
@@ -246,20 +247,20 @@ module _ {I S : Type 0} (blocks : S → List ℕ) where
         sole = λ m. refl;
       }))
       (λ row. refl)
-      (le_refl (2 ^ 61 + 1))
+      (le_refl (MAX_SPLITS + 1))
       (λ n. zero-le)
       (one (λ i u. u.mode ≡ Sole → Each (first_view book ∷ []) (λ j x. j ≢ i → x.mode ≡ Keeper)) (λ m. one (λ j x. j ≢ 0 → x.mode ≡ Keeper) (λ ne. absurd (ne refl))))
     where
       one : (P : ℕ → View I S → Type 0) → P 0 (first_view book) → (j : ℕ) (u : View I S) → get_elem? (first_view book ∷ []) j ≡ some u → P j u
       one P mine = each_push [] (first_view book) P (λ j u e. absurd (some-ne-none u (sym e))) mine
 
-      live : (row : ℕ) → (row == 0) ≡ is_some (version_at (Some first ∷ replicate 63 None) row)
+      live : (row : ℕ) → (row == 0) ≡ is_some (version_at (Some first ∷ replicate (ROWS - 1) None) row)
       live zero = refl
-      live (suc row) = test_other (suc row) 0 (λ e. omega arith) ∙ sym (ap is_some (no_version 63 row))
+      live (suc row) = test_other (suc row) 0 (λ e. omega arith) ∙ sym (ap is_some (no_version (ROWS - 1) row))
 
-      first_only : (row : ℕ) (x : Version S) → version_at (Some first ∷ replicate 63 None) row ≡ Some x → (row ≡ 0) × (first ≡ x)
+      first_only : (row : ℕ) (x : Version S) → version_at (Some first ∷ replicate (ROWS - 1) None) row ≡ Some x → (row ≡ 0) × (first ≡ x)
       first_only zero x e = (refl, (cc))
-      first_only (suc row) x e = let n = no_version {S = S} 63 row in let d : None ≡ Some x = sym n ∙ e in absurd (cc)
+      first_only (suc row) x e = let n = no_version {S = S} (ROWS - 1) row in let d : None ≡ Some x = sym n ∙ e in absurd (cc)
 
       only : (row : ℕ) (x : Version S) → version_at book.versions row ≡ Some x → (row ≡ 0) × (first ≡ x)
       only row x e = first_only row x (sym (ap (λ vs. version_at vs row) may.versions) ∙ e)

@@ -1,8 +1,9 @@
 -- Worked examples: two seats over a history of one item, of which a second version is published. A version lists its
 -- blocks, and that is its shape.
-use Rattle.std.specs.Prelude.{◌≡◌, ℕ, List, [], ◌∷◌, ◌++◌, replicate, Option, Some, None}
+use Rattle.std.specs.Prelude.{◌≡◌, ℕ, ◌-◌, List, [], ◌∷◌, ◌++◌, replicate, Option, Some, None}
 use mathlib.Core.Option.{Option as Found, some, none}
 use lib.ListN.{get_elem?}
+use Rattle.qd_pins.specs.declared.limits.TheConstants.{ROWS}
 use Rattle.qd_pins.specs.declared.view.Mode.TheVariants.{Writer}
 use Rattle.qd_pins.specs.declared.view.Place.{Place}
 use Rattle.qd_pins.specs.declared.view.Phase.{Phase}
@@ -27,7 +28,7 @@ newer = record { n = 1; shape = 7 ∷ 8 ∷ [] }
 
 -- the book with these versions in its first two rows
 abbrev pub book_of : Place → Option (Version (List ℕ)) → Option (Version (List ℕ)) → List ℕ → Book ℕ (List ℕ)
-book_of current first second present = record { history = 5 ∷ []; current = current; versions = first ∷ second ∷ replicate 62 None; present = present; queued = 0; faults = 0; removed = 0 }
+book_of current first second present = record { history = 5 ∷ []; current = current; versions = first ∷ second ∷ replicate (ROWS - 2) None; present = present; queued = 0; faults = 0; removed = 0 }
 
 abbrev pub opened : State ℕ (List ℕ)
 opened = opening (book_of (place_at 0 0) (Some older) None (7 ∷ []))

@@ -1,8 +1,9 @@
 -- What every event keeps, in nine parts.
-use Rattle.std.specs.Prelude.{◌≡◌, ◌≢◌, ℕ, ◌+◌, ◌^◌, ◌<◌, ◌≤◌, Bool, true, false, ◌==◌, if◌then◌else◌, List, [], ◌∷◌, length, sum_by, count_by, is_some, Some, None}
+use Rattle.std.specs.Prelude.{◌≡◌, ◌≢◌, ℕ, ◌+◌, ◌<◌, ◌≤◌, Bool, true, false, ◌==◌, if◌then◌else◌, List, [], ◌∷◌, length, sum_by, count_by, is_some, Some, None}
 use mathlib.Core.Option.{some}
 use mathlib.Core.List.{IsPrefix}
 use lib.ListN.{get_elem?}
+use Rattle.qd_pins.specs.declared.limits.TheConstants.{MAX_SPLITS, ROWS}
 use Rattle.qd_pins.specs.declared.view.Mode.TheVariants.{Sole, Keeper}
 use Rattle.qd_pins.specs.declared.view.Place.{Place}
 use Rattle.qd_pins.specs.declared.view.Phase.{Phase}
@@ -72,14 +73,14 @@ module _ {I S : Type 0} where
   -- The pins of a row are the seats that count on it. A count stays far below what a word holds.
   pub record PinsAreCounted (s : State I S) : Type 0 where
     pub pins : (row : ℕ) → s.board.pins row ≡ counted row s.views
-    pub rooms : rooms s.views ≤ 2 ^ 61 + 1
+    pub rooms : rooms s.views ≤ MAX_SPLITS + 1
     -- a seat that went into another counts on nothing
     pub gone : Each s.views (λ seat v. v.spent ≡ true → v.mode ≡ Keeper)
 
   -- Live rows are those of the versions, and no two have one number. The current version is live, and at most one live
   -- version is newer, none while nobody holds the lock.
   pub record VersionsStand (b : Board I S) : Type 0 where
-    pub rows : length b.versions ≡ 64
+    pub rows : length b.versions ≡ ROWS
     pub live : (row : ℕ) → b.live row ≡ is_some (version_at b.versions row)
     pub distinct : (row other : ℕ) (x y : Version S) → version_at b.versions row ≡ Some x → version_at b.versions other ≡ Some y → x.n ≡ y.n → row ≡ other
     pub current : IsLive b b.current

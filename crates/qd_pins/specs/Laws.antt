@@ -1,8 +1,9 @@
 -- What holds after every run, and what follows for a reader, a writer and two seats.
-use Rattle.std.specs.Prelude.{◌≡◌, ℕ, ◌^◌, ◌<◌, true, ◌⊎◌, List, Contains, Some, None}
+use Rattle.std.specs.Prelude.{◌≡◌, ℕ, ◌<◌, true, ◌⊎◌, List, Contains, Some, None}
 use mathlib.Core.Option.{some}
 use mathlib.Core.List.{IsPrefix}
 use lib.ListN.{get_elem?}
+use Rattle.qd_pins.specs.declared.limits.TheConstants.{PINS_END}
 use Rattle.qd_pins.specs.declared.view.Mode.TheVariants.{Sole}
 use Rattle.qd_pins.specs.declared.view.Place.{Place}
 use Rattle.qd_pins.specs.declared.view.Phase.TheVariants.{Idle, Pinned}
@@ -45,9 +46,9 @@ SeatsSeeOneHistory I S = (blocks : S → List ℕ) (book : Book I S) (s : State 
 abbrev pub PositionsAreOnesOwn : (I S : Type 0) → Type 0
 PositionsAreOnesOwn I S = (blocks : S → List ℕ) (book : Book I S) (s : State I S) → Reached I S blocks book s → (seat other n : ℕ) (v w : View I S) → get_elem? s.views seat ≡ some v → get_elem? s.views other ≡ some w → Contains v.mine n → Contains w.mine n → seat ≡ other
 
--- Pins stay below 2^62, so a word has room for twice as many and for the bit that says whether the row is live.
+-- Pins stay below their limit, so a word has room for twice as many and for the bit that says whether the row is live.
 abbrev pub PinsStaySmall : (I S : Type 0) → Type 0
-PinsStaySmall I S = (blocks : S → List ℕ) (book : Book I S) (s : State I S) → Reached I S blocks book s → (row : ℕ) → s.board.pins row < 2 ^ 62
+PinsStaySmall I S = (blocks : S → List ℕ) (book : Book I S) (s : State I S) → Reached I S blocks book s → (row : ℕ) → s.board.pins row < PINS_END
 
 -- While a Sole seat is idle no row has a pin, so each row that it retires goes.
 abbrev pub SoleSeatRetires : (I S : Type 0) → Type 0

@@ -1,9 +1,10 @@
 -- The scoreboard as a machine. Seats step one at a time, in any order: a reader pins a version by counting on its row, a
 -- writer makes versions live, current and no longer live, and the holder of the lock changes the book.
-use Rattle.std.specs.Prelude.{◌≡◌, ◌≢◌, ℕ, zero, suc, ◌+◌, ◌-◌, ◌*◌, ◌^◌, ◌<◌, ◌≤◌, max, Bool, true, false, ◌&&◌, ◌==◌, ◌⊎◌, if◌then◌else◌, nat_le, List, [], ◌∷◌, ◌++◌, length, replicate, fold, Contains, slice_set, slice_index_or, is_some, Option, Some, None}
+use Rattle.std.specs.Prelude.{◌≡◌, ◌≢◌, ℕ, zero, suc, ◌+◌, ◌-◌, ◌*◌, ◌<◌, ◌≤◌, max, Bool, true, false, ◌&&◌, ◌==◌, ◌⊎◌, if◌then◌else◌, nat_le, List, [], ◌∷◌, ◌++◌, length, replicate, fold, Contains, slice_set, slice_index_or, is_some, Option, Some, None}
 use mathlib.Core.Option.{Option as Found, none, some}
 use mathlib.Core.List.{IsPrefix}
 use lib.ListN.{get_elem?}
+use Rattle.qd_pins.specs.declared.limits.TheConstants.{MAX_SPLITS, ROWS}
 use Rattle.qd_pins.specs.declared.view.Mode.{Mode}
 use Rattle.qd_pins.specs.declared.view.Mode.TheVariants.{Sole, Writer, Keeper}
 use Rattle.qd_pins.specs.declared.view.Place.{Place}
@@ -17,7 +18,7 @@ use Rattle.qd_pins.specs.declared.view.View.{View}
 pub record Book (I S : Type 0) : Type 0 where
   pub history : List I
   pub current : Place
-  -- one for each of the 64 rows
+  -- one for each row
   pub versions : List (Option (Version S))
   pub present : List ℕ
   -- how many present blocks are queued for removal
@@ -117,16 +118,60 @@ module _ {I S : Type 0} where
   hold_of b seat = seen_by (sight b) seat b.holder
 
   -- the record of a hold that ends
-  abbrev pub record_of : Board I S → Book I S → Record
-  record_of b book = record {
-    items = length b.history;
-    faults_found = b.faults;
-    removed_found = b.removed;
+  abbrev pub record_of : Sight I S → Book I S → Record
+  record_of h book = record {
+    items = length h.history;
+    faults_found = h.faults;
+    removed_found = h.removed;
     faults_left = book.faults;
     removed_left = book.removed;
     queued_left = book.queued;
     live_left = live_from 0 book.versions;
   }
+
+  -- a view as the lock is taken, and as it is given back with this book
+  abbrev pub took : View I S → Sight I S → View I S
+  took v h = record v { refused = []; hold = Some h }
+
+  abbrev pub gave : View I S → Sight I S → Book I S → View I S
+  gave v h book = record v {
+    seen = book.history;
+    mine = v.mine ++ behind (length h.history) (length book.history - length h.history);
+    known = h.current.n;
+    noted = book.versions;
+    records = v.records ++ record_of h book ∷ [];
+    hold = None;
+  }
+
+  -- a view once the current place was read, a row was counted up, the place was read again, and the row counted down
+  abbrev pub looked : View I S → Place → View I S
+  looked v now = record v { phase = Looked now; known = now.n }
+
+  abbrev pub tries : View I S → Place → View I S
+  tries v place = record v { phase = Trying place }
+
+  abbrev pub confirmed : View I S → Place → Place → View I S
+  confirmed v now place = record v { phase = if same_place now place then Pinned place else Trying place; known = now.n }
+
+  abbrev pub dropped : View I S → View I S
+  dropped v = record v { phase = Idle }
+
+  abbrev pub pinned_held : View I S → Place → View I S
+  pinned_held v now = record v { phase = Pinned now; known = now.n }
+
+  -- a view of the holder whose own step changed what it sees, or found a row that is counted on
+  abbrev pub sees : View I S → Sight I S → View I S
+  sees v h = record v { hold = Some h }
+
+  abbrev pub refuses : View I S → ℕ → ℕ → View I S
+  refuses v row word = record v { refused = v.refused ++ record { row = row; word = word } ∷ [] }
+
+  -- a view whose seat was split, and one that isn't Sole any more
+  abbrev pub lent : View I S → View I S
+  lent v = record v { room = v.room - 1 }
+
+  abbrev pub shared : View I S → View I S
+  shared v = record v { mode = Writer }
 
   -- the board without the row's version
   abbrev pub retired : Board I S → ℕ → Board I S
@@ -146,28 +191,19 @@ module _ {I S : Type 0} where
 
   -- the seat's view after its event
   abbrev pub view_after : Board I S → ℕ → View I S → Event I S → View I S
-  view_after b seat v Take = record v { refused = []; hold = Some (sight b) }
-  view_after b seat v (Give book) = record v {
-    seen = book.history;
-    mine = v.mine ++ behind (length b.history) (length book.history - length b.history);
-    known = b.current.n;
-    noted = book.versions;
-    records = v.records ++ record_of b book ∷ [];
-    hold = None;
-  }
-  view_after b seat v Look = record v { phase = Looked b.current; known = b.current.n }
-  view_after b seat v (Raise place) = record v { phase = Trying place }
-  view_after b seat v (Confirm place) = record v { phase = if same_place b.current place then Pinned place else Trying place; known = b.current.n }
-  view_after b seat v (Drop place) = record v { phase = Idle }
-  view_after b seat v HeldRaise = record v { phase = Pinned b.current; known = b.current.n }
-  view_after b seat v (GoLive row x) = record v { hold = Some (sight (board_after b seat (GoLive row x))) }
-  view_after b seat v (SetCurrent place) = record v { hold = Some (sight (board_after b seat (SetCurrent place))) }
-  view_after b seat v (Retire row) =
-      if b.pins row == 0 then record v { hold = Some (sight (retired b row)) }
-      else record v { refused = v.refused ++ record { row = row; word = 2 * b.pins row + 1 } ∷ [] }
-  view_after b seat v (Split mode) = record v { room = v.room - 1 }
+  view_after b seat v Take = took v (sight b)
+  view_after b seat v (Give book) = gave v (sight b) book
+  view_after b seat v Look = looked v b.current
+  view_after b seat v (Raise place) = tries v place
+  view_after b seat v (Confirm place) = confirmed v b.current place
+  view_after b seat v (Drop place) = dropped v
+  view_after b seat v HeldRaise = pinned_held v b.current
+  view_after b seat v (GoLive row x) = sees v (sight (board_after b seat (GoLive row x)))
+  view_after b seat v (SetCurrent place) = sees v (sight (board_after b seat (SetCurrent place)))
+  view_after b seat v (Retire row) = if b.pins row == 0 then sees v (sight (retired b row)) else refuses v row (2 * b.pins row + 1)
+  view_after b seat v (Split mode) = lent v
   view_after b seat v (Join other) = v
-  view_after b seat v Share = record v { mode = Writer }
+  view_after b seat v Share = shared v
 
   -- the view of a seat that is split off
   abbrev pub newcomer : View I S → Mode → View I S
@@ -187,7 +223,7 @@ module _ {I S : Type 0} where
 
   -- the views after an event of the seat, whose view is v
   abbrev pub views_after : State I S → ℕ → View I S → Event I S → List (View I S)
-  views_after s seat v (Split mode) = slice_set s.views seat (view_after s.board seat v (Split mode)) ++ newcomer v mode ∷ []
+  views_after s seat v (Split mode) = slice_set s.views seat (lent v) ++ newcomer v mode ∷ []
   views_after s seat v (Join other) = join_views s.views seat v other (get_elem? s.views other)
   views_after s seat v e = slice_set s.views seat (view_after s.board seat v e)
 
@@ -230,7 +266,7 @@ module _ {I S : Type 0} (blocks : S → List ℕ) where
 module _ {I S : Type 0} where
   pub record MayGoLive (b : Board I S) (seat row : ℕ) (x : Version S) : Type 0 where
     pub holder : b.holder ≡ Some seat
-    pub is_row : row < 64
+    pub is_row : row < ROWS
     pub dead : b.live row ≡ false
     -- the current version is the newest that is live
     pub greatest : IsGreatest b.current.n b.versions
@@ -286,7 +322,7 @@ module _ {I S : Type 0} (blocks : S → List ℕ) where
 
   -- what the board is opened over: row 0 is the one live row, and the current one
   pub record MayOpen (book : Book I S) (first : Version S) : Type 0 where
-    pub versions : book.versions ≡ Some first ∷ replicate 63 None
+    pub versions : book.versions ≡ Some first ∷ replicate (ROWS - 1) None
     pub current : book.current ≡ record { n = first.n; row = 0 }
     pub within : first.n ≤ length book.history
     pub present : AllPresent blocks book.versions book.present
@@ -294,7 +330,7 @@ module _ {I S : Type 0} (blocks : S → List ℕ) where
 module _ {I S : Type 0} where
   -- the view of the first seat
   abbrev pub first_view : Book I S → View I S
-  first_view book = record { spent = false; mode = Sole; room = 2 ^ 61; seen = book.history; mine = []; known = book.current.n; phase = Idle; noted = []; records = []; refused = []; hold = None }
+  first_view book = record { spent = false; mode = Sole; room = MAX_SPLITS; seen = book.history; mine = []; known = book.current.n; phase = Idle; noted = []; records = []; refused = []; hold = None }
 
   abbrev pub opening : Book I S → State I S
   opening book = record {

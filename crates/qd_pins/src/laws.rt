@@ -1,4 +1,4 @@
-// What every run of the scoreboard keeps. Each function takes and returns nothing: its contract is the law.
+//! What every run of the scoreboard keeps. Each function takes and returns nothing: its contract is the law.
 ghost use Rattle.qd_pins.specs.Laws.{EveryRunIsKept, PinnedRowsAreLive, PinnedBlocksArePresent, HistoryOnlyGrows, SeatsSeeOneHistory, PositionsAreOnesOwn, PinsStaySmall, SoleSeatRetires};
 ghost use Rattle.qd_pins.specs.Examples.{WorkedExamples};
 
@@ -32,7 +32,7 @@ pub fn positions_are_ones_own<I, S>()
     ensures law { PositionsAreOnesOwn I S }
 {}
 
-/// A row has fewer than 2^62 pins, so twice as many fit a word beside its live bit.
+/// A row has fewer than [`PINS_END`](crate::PINS_END) pins, so twice as many fit a word beside its live bit.
 pub fn pins_stay_small<I, S>()
     ensures law { PinsStaySmall I S }
 {}

@@ -6,6 +6,7 @@
 #![tactic(auto)]
 
 mod laws;
+mod limits;
 #[cfg(test)]
 mod tests;
 mod view;
@@ -15,4 +16,5 @@ pub use laws::{
     pins_stay_small, positions_are_ones_own, seats_see_one_history, sole_seat_retires,
     worked_examples,
 };
+pub use limits::{MAX_SPLITS, PINS_END, ROWS};
 pub use view::{Mode, Phase, Place, Record, Refusal, Sight, Version, View};

@@ -1,4 +1,4 @@
-// The laws hold of any items and shapes; each is called once, at numbers.
+//! The laws hold of any items and shapes; each is called once, at numbers.
 use crate::laws::{
     every_run, history_only_grows, pinned_blocks_are_present, pinned_rows_are_live,
     pins_stay_small, positions_are_ones_own, seats_see_one_history, sole_seat_retires,

@@ -1,7 +1,8 @@
-// What a seat knows. No value of these types is made: they are the data of contracts and proofs.
+//! What a seat knows. No value of these types is made: they are the data of contracts and proofs.
 use std::collections::LinkedList;
 
 /// What a seat may do with the list of items.
+#[derive(Clone, Copy, Debug, PartialEq, Eq)]
 pub enum Mode {
     /// It adds items, and no other seat does.
     Sole,
@@ -15,7 +16,7 @@ pub enum Mode {
 pub struct Place {
     /// How many items the version stands for.
     pub n: u64,
-    /// Its row on the scoreboard, below 64.
+    /// Its row on the scoreboard, below [`ROWS`](crate::ROWS).
     pub row: u64,
 }
 

@@ -3,7 +3,7 @@
 use Rattle.std.specs.Prelude.{ℕ, ◌+◌, ◌-◌, ◌*◌, ◌/◌, Bool, true, false, not, ◌||◌, ◌&&◌, List, [], ◌∷◌, ◌==◌, nat_le, length, take, drop, fold, codes, if◌then◌else◌, pos, ℤ, neg_ℤ}
 use Rattle.std.specs.List.{list_all}
 use Rattle.std.specs.Str.{bytes_eq}
-use Rattle.qd_base.specs.declared.limits.TheConstants.{MAX_TIME}
+use Rattle.qd_base.specs.declared.limits.TheConstants.{MAX_NUMBER, MAX_TIME}
 use Rattle.qd_ilp.specs.Cut.{begins}
 
 -- A tag's value, or that of a field: a quoted text, a LONG, a number past the range of one, a truth word, or something
@@ -54,7 +54,7 @@ abbrev pub is_long : List ℕ → Bool
 is_long w = begins 105 (drop (length (unsigned w) - 1) (unsigned w)) && are_digits (long_digits w)
 
 abbrev pub long_of : Bool → ℕ → Value
-long_of negative n = if nat_le n 9223372036854775807 then Long (if negative then neg_ℤ (pos n) else pos n) else Huge
+long_of negative n = if nat_le n MAX_NUMBER then Long (if negative then neg_ℤ (pos n) else pos n) else Huge
 
 -- what a value says that is no text
 unfoldable pub bare : List ℕ → Value

@@ -7,7 +7,7 @@ ghost use Rattle.qd_ilp.specs.Value.{is_true, is_false, is_digit, are_digits, nu
 ghost use Rattle.qd_ilp.specs.Kept.{value_in, moment_in, ValueFits};
 
 use crate::cut::{begins_with, behind};
-use qd_base::{MAX_TIME, Memory};
+use qd_base::{MAX_NUMBER, MAX_TIME, Memory};
 use std::alloc::AllocError;
 
 /// Where a text lies in a batch's buffer, which has fewer than 2^32 bytes.
@@ -174,7 +174,7 @@ fn long(negative: bool, number: u64) -> Kept
     ensures long { (bytes : List ℕ) → value_in bytes result ≡ long_of negative number }
     ensures fits { (len : ℕ) → ValueFits len result }
 {
-    if number > i64::MAX as u64 {
+    if number > MAX_NUMBER {
         return Kept::Huge;
     }
     let number = number as i64;

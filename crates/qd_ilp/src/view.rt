@@ -73,6 +73,7 @@ impl<'a> RowView<'a> {
 
     /// Lends the tag or the field at position `i`, in constant time: first the tags, then the fields, as they stand in
     /// the line.
+    #[inline(always)]
     pub fn item(&self, i: usize) -> ItemView<'a>
         requires { i < length self.now.items }
         ensures item { slice_get self.now.items i ≡ Some (item_of result) }
@@ -102,6 +103,7 @@ pub(crate) fn row_lent<'a>(bytes: &'a [u8], pairs: &'a [Pair], head: Head) -> Ro
 }
 
 /// Lends the bytes of a span.
+#[inline(always)]
 fn lent<'a>(bytes: &'a [u8], span: Span) -> &'a [u8]
     requires { SpanFits (length bytes.now) span }
     ensures bytes { result.now ≡ bytes_in bytes.now span }
@@ -110,6 +112,7 @@ fn lent<'a>(bytes: &'a [u8], span: Span) -> &'a [u8]
 }
 
 /// Lends a tag or a field.
+#[inline(always)]
 fn item_lent<'a>(bytes: &'a [u8], pair: Pair) -> ItemView<'a>
     requires { PairFits (length bytes.now) pair }
     ensures item { item_of result ≡ item_in bytes.now pair }
@@ -121,6 +124,7 @@ fn item_lent<'a>(bytes: &'a [u8], pair: Pair) -> ItemView<'a>
 }
 
 /// Lends a value.
+#[inline(always)]
 fn value_lent<'a>(bytes: &'a [u8], value: Kept) -> ValueView<'a>
     requires { ValueFits (length bytes.now) value }
     ensures value { value_of result ≡ value_in bytes.now value }

@@ -1,16 +1,21 @@
 -- What an overlay shows, when a table is made and when a column is added.
-use Rattle.std.proofs.Common.{◌≡◌, ℕ, ◌+◌, Bool, true, false, cond, List, [], ◌∷◌, ◌++◌, Option, Some, None, IsNone, length-append, get_or, set, refl, sym, ap, ◌∙◌, true≢false, arith, slice_get, IfSome, is_some}
+use Rattle.std.proofs.Common.{◌≡◌, ℕ, ◌+◌, Bool, true, false, cond, List, [], ◌∷◌, ◌++◌, Option, Some, None, IsNone, length-append, get_or, map, ltb, position, refl, sym, ap, ap₂, ◌∙◌, true≢false, arith, slice_get, IfSome, is_some}
 use Rattle.std.specs.Option.{option_map, option_or}
+use Rattle.std.proofs.lemmas.List.{length-map, map_push}
 use Rattle.std.proofs.lemmas.List.Folds.{find-append}
 use Rattle.std.proofs.lemmas.List.Quantifiers.{position-Some}
 use Rattle.std.proofs.lemmas.Option.{same_Some, slice_get-get_or}
 use Rattle.qd_base.specs.declared.schema.Col.{Col}
 use Rattle.qd_base.specs.declared.schema.Schema.{Schema}
+use Rattle.qd_base.specs.declared.schema.PartUnit.TheVariants as unit
 use Rattle.qd_base.specs.Schemas.{same_name, at_name, with_column, schema_of, table_at}
 use Rattle.qd_base.proofs.Alike.{alike, find-at_other, find-at_same, names_equal}
 use Rattle.qd_base.proofs.Lawful.{length-at_name}
-use Rattle.qd_base.proofs.Tables.{at_name-position, find-position, not_found}
+use Rattle.qd_base.proofs.Tables.{find-position, not_found}
+use Rattle.qd_base.proofs.Texts.{position-map}
+use Rattle.qd_lines.specs.declared.own.TableName.{TableName}
 use Rattle.qd_lines.specs.Overlays.{Overlays}
+use Rattle.qd_lines.specs.Owned.{AreNames}
 
 -- ---- the table of a name
 
@@ -37,13 +42,6 @@ not-found schemas name at = go (schema_of schemas name) refl
     go : (o : Option Schema) → schema_of schemas name ≡ o → o ≡ None
     go None e = refl
     go (Some s) e = absurd (not_found (λ t. same_name t.name name) (λ t. Unit {0}) schemas at (rw e tt))
-
--- a column pushed onto the columns of the table at a name's position
-pub column_pushed : (items : List Schema) (table : List ℕ) (col added : Col) (i : ℕ) (s : Schema) (cols : List Col) → Some i ≡ table_at items table → s ≡ get_or items i s → added ≡ col → cols ≡ s.cols ++ added ∷ [] → set items i (record s { cols = cols }) ≡ at_name (λ (t : Schema). t.name) (with_column col) table items
-column_pushed items table col added i s cols at is same pushed =
-    let h = at_name-position (λ (t : Schema). t.name) (with_column col) table items i s (sym at) in
-    let e : get_or items i s ≡ s = sym is in
-    rw (h, e, pushed, same) refl
 
 -- ---- one table more
 
@@ -83,6 +81,9 @@ module _ (base own all : List Schema) (tables : ℕ) (o : Overlays base own all 
 
 -- ---- one column more
 
+some_schema : Schema
+some_schema = record { name = []; cols = []; time_col = 0; unit = unit.Day; keys = [] }
+
 -- the schemas with a column more in the table of a name
 abbrev pub widened : List ℕ → Col → List Schema → List Schema
 widened table col schemas = at_name (λ s. s.name) (with_column col) table schemas
@@ -104,11 +105,14 @@ module _ (table : List ℕ) (col : Col) where
         case name false e = found-others all name e ∙ o.named name ∙ ap (λ p. option_or p (schema_of base name)) (other name e)
 
     -- the table is one of `own`
-    pub widened-own : (s : Schema) → schema_of own table ≡ Some s → Overlays base (widened table col own) (widened table col all) tables
+    widened-own : (s : Schema) → schema_of own table ≡ Some s → Overlays base (widened table col own) (widened table col all) tables
     widened-own s found =
         shows (widened table col own)
         (λ name h. let at : schema_of own name ≡ Some s = sym (found-alike own table name h) ∙ found in rw (found-widened own name h, at) refl)
         (λ name h. sym (found-others own name h))
+
+    pub widened-at : (i : ℕ) → Some i ≡ table_at own table → Overlays base (widened table col own) (widened table col all) tables
+    widened-at i at = widened-own (get_or own i some_schema) (find-position (λ (t : Schema). same_name t.name table) own i some_schema (sym at))
 
     -- only `base` has the table
     pub widened-copy : (s : Schema) → schema_of own table ≡ None → schema_of base table ≡ Some s → Overlays base (own ++ with_column col s ∷ []) (widened table col all) tables
@@ -142,6 +146,20 @@ copy-widened copied s cols col same pushed = ap (λ cs. record copied { cols = c
 pub none-given : {T : Type 0} (o : Option T) → ((x : T) → o ≡ Some x → ⊥) → o ≡ None
 none-given None h = refl
 none-given (Some x) h = absurd (h x refl)
+
+-- ---- names in the order of their tables
+
+module _ {X : Type 0} (name_of : X → List ℕ) where
+  position-named : (name : List ℕ) (xs : List X) → position (λ (n : List ℕ). same_name n name) (map name_of xs) ≡ position (λ x. same_name (name_of x) name) xs
+  position-named name xs = ap₂ (λ n m. cond (ltb n m) (Some n) None) (position-map (λ (n : List ℕ). same_name n name) name_of xs) (length-map xs name_of)
+
+pub found-by-name : (names : List TableName) (schemas : List Schema) (name : List ℕ) → AreNames names schemas → position (λ (n : TableName). same_name n.text name) names ≡ table_at schemas name
+found-by-name names schemas name same =
+    sym (position-named (λ (n : TableName). n.text) name names) ∙ ap (position (λ (n : List ℕ). same_name n name)) same ∙ position-named (λ (s : Schema). s.name) name schemas
+
+pub named-pushed : (names : List TableName) (schemas : List Schema) (n : TableName) (s : Schema) → AreNames names schemas → n.text ≡ s.name → AreNames (names ++ n ∷ []) (schemas ++ s ∷ [])
+named-pushed names schemas n s same e =
+    map_push (λ (m : TableName). m.text) names n ∙ ap₂ (λ ts t. ts ++ t ∷ []) same e ∙ sym (map_push (λ (t : Schema). t.name) schemas s)
 
 -- ---- the table that is recalled
 

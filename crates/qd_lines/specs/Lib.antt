@@ -1,5 +1,6 @@
 pub mod Sinks
 pub mod Changes
+pub mod Owned
 pub mod Overlays
 pub mod Drafts
 pub mod Codes

@@ -21,5 +21,5 @@ spotted own (Some (spot.Base schema)) = Some schema.now
 
 -- what an overlay shows; the table that it recalls is the one of its name
 pub record Covers (o : Overlay) (all : List Schema) : Type 0 where
-  pub shown : Overlays o.base.now o.own.items all o.tables
-  pub recent : IfSome (spotted o.own.items o.recent) (λ s. schema_of all s.name ≡ Some s)
+  pub shown : Overlays o.base.now o.own all o.tables
+  pub recent : IfSome (spotted o.own o.recent) (λ s. schema_of all s.name ≡ Some s)

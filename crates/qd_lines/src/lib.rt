@@ -13,6 +13,7 @@ mod laws;
 mod lent;
 mod names;
 mod overlay;
+mod own;
 mod sink;
 #[cfg(test)]
 mod tests;

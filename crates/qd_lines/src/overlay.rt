@@ -8,6 +8,7 @@ ghost use Rattle.qd_base.specs.Schemas.{schema_of, schemas_step, table_at};
 ghost use Rattle.qd_lines.specs.Overlays.{Covers, Overlays, spotted};
 
 use crate::names::is_name;
+use crate::own::Own;
 use qd_base::{Col, Duplicate, Memory, Schema, Schemas};
 use std::alloc::Global;
 
@@ -16,7 +17,7 @@ use std::alloc::Global;
 #[derive(Drop)]
 pub(crate) struct Overlay<'a> {
     base: &'a Schemas,
-    own: Vec<Schema>,
+    own: Own,
     /// The number of tables: those of `base`, and those that lines have made.
     tables: usize,
     /// The table that was sought last, where none was made or changed since.
@@ -39,7 +40,7 @@ impl<'a> Overlay<'a> {
     {
         Overlay {
             base,
-            own: Vec::new(alloc),
+            own: Own::new(alloc),
             tables: base.len(),
             recent: None,
         }
@@ -54,12 +55,11 @@ impl<'a> Overlay<'a> {
     }
 
     /// Recalls the table of a name, so that `sought` gives it until another is sought, or one is made or changed. It costs
-    /// time linear in the name where its table is recalled already, and else in the number of tables that lines have made or
-    /// changed, and logarithmic in that of all.
+    /// time linear in the name where its table is recalled already, and else logarithmic in the number of tables.
     pub(crate) fn seek(&mut self, name: &[u8])
         ensures all { (all : List Schema) → Covers self.old all → Covers self.new all }
         ensures recent { (all : List Schema) → Covers self.new all →
-            spotted self.new.own.items self.new.recent ≡ schema_of all name.now }
+            spotted self.new.own self.new.recent ≡ schema_of all name.now }
     {
         if self.recalled(name).is_none() {
             self.recent = self.spot(name);
@@ -68,7 +68,7 @@ impl<'a> Overlay<'a> {
 
     /// Lends the schema of the table that was sought last, in constant time.
     pub(crate) fn sought(&self) -> Option<&Schema>
-        ensures schema { option_map (λ s. s.now) result ≡ spotted self.now.own.items self.now.recent }
+        ensures schema { option_map (λ s. s.now) result ≡ spotted self.now.own self.now.recent }
     {
         self.at(self.recent)
     }
@@ -104,14 +104,14 @@ impl<'a> Overlay<'a> {
         self.recent = None;
         let col = col.copy()?;
         match self.own_position(table) {
-            Some(i) => self.own[i].cols.push(col),
+            Some(i) => self.own.add_column(i, col),
             None => widen(&mut self.own, self.base, table, col),
         }
     }
 
     /// Lends the table that is recalled, where it is the one of this name.
     fn recalled(&self, name: &[u8]) -> Option<&Schema>
-        ensures recent { IfSome result (λ s. spotted self.now.own.items self.now.recent ≡ Some s.now) }
+        ensures recent { IfSome result (λ s. spotted self.now.own self.now.recent ≡ Some s.now) }
         ensures schema { (all : List Schema) → Covers self.now all →
             IfSome result (λ s. schema_of all name.now ≡ Some s.now) }
     {
@@ -123,7 +123,7 @@ impl<'a> Overlay<'a> {
 
     /// Lends the table of a spot.
     fn at(&self, spot: Option<Spot<'a>>) -> Option<&Schema>
-        ensures schema { option_map (λ s. s.now) result ≡ spotted self.now.own.items spot.entry }
+        ensures schema { option_map (λ s. s.now) result ≡ spotted self.now.own spot.entry }
     {
         match spot {
             None => None,
@@ -134,8 +134,8 @@ impl<'a> Overlay<'a> {
 
     /// Says where the table of a name is kept, where there is one.
     fn spot(&self, name: &[u8]) -> Option<Spot<'a>>
-        ensures schema { spotted self.now.own.items result ≡
-            option_or (schema_of self.now.own.items name.now) (schema_of self.now.base.now name.now) }
+        ensures schema { spotted self.now.own result ≡
+            option_or (schema_of self.now.own name.now) (schema_of self.now.base.now name.now) }
     {
         match self.own_position(name) {
             Some(i) => Some(Spot::Own(i)),
@@ -148,19 +148,17 @@ impl<'a> Overlay<'a> {
 
     /// Gives the position of the table of a name among those that lines have made or changed.
     fn own_position(&self, name: &[u8]) -> Option<usize>
-        ensures position { result ≡ table_at self.now.own.items name.now }
+        ensures position { result ≡ table_at self.now.own name.now }
     {
-        self.own
-            .iter()
-            .position(|schema| is_name(schema.name.bytes(), name))
+        self.own.find(name)
     }
 }
 
 /// Adds a column to a copy of the table of a name, which is put behind the others.
-fn widen(own: &mut Vec<Schema>, base: &Schemas, table: &[u8], col: Col) -> Result<(), Memory>
-    requires { table_at own.old.items table.now ≡ None }
-    ensures ok { (all : List Schema) (tables : ℕ) → Overlays base.now own.old.items all tables →
-        OnOk result (Overlays base.now own.new.items (schemas_step all (op.AddColumn table.now col)) tables) }
+fn widen(own: &mut Own, base: &Schemas, table: &[u8], col: Col) -> Result<(), Memory>
+    requires { table_at own.old table.now ≡ None }
+    ensures ok { (all : List Schema) (tables : ℕ) → Overlays base.now own.old all tables →
+        OnOk result (Overlays base.now own.new (schemas_step all (op.AddColumn table.now col)) tables) }
 {
     if let Some(schema) = table_of(base, table) {
         let mut schema = schema.copy()?;

@@ -78,8 +78,8 @@ pub fn entry_of(
 /// the sink has taken the changes of the lines before it, and nothing need be said of it.
 ///
 /// It costs time linear in the batch and, for each row, in the columns of its table. A line that isn't of the table of the
-/// line before costs time logarithmic in the number of tables, and linear in that of those that the batch has made or
-/// changed so far; what the sink does comes on top. A table's schema is copied where a line changes it.
+/// line before costs time logarithmic in the number of tables; what the sink does comes on top. A table's schema is copied
+/// where a line changes it.
 pub fn walk_batch<T: OpSink>(
     alloc: Global,
     schemas: &Schemas,
@@ -276,7 +276,7 @@ fn micros_of(moment: Option<u64>) -> u64
 /// Finds what a line finds of its table, which was sought.
 fn place_of<'p>(overlay: &'p Overlay<'_>, stamp: &'p ColList, table: &'p [u8]) -> Place<'p>
     requires stamp { stamp.now ≡ stamp_column ∷ [] }
-    requires sought { (all : List Schema) → Covers overlay.now all → spotted overlay.now.own.items overlay.now.recent ≡ schema_of all table.now }
+    requires sought { (all : List Schema) → Covers overlay.now all → spotted overlay.now.own overlay.now.recent ≡ schema_of all table.now }
     ensures place { (all : List Schema) (row : Row) → Covers overlay.now all → AreSchemas all → row.table ≡ table.now → IsPlaceOf all row result }
     ensures usable { (all : List Schema) → Covers overlay.now all → AreSchemas all → Usable result.columns }
     ensures named { (all : List Schema) → Covers overlay.now all → AreSchemas all → AreNamed result.columns }

@@ -1,20 +1,24 @@
-use Rattle.std.proofs.Common.{refl, sym}
+use Rattle.std.proofs.Common.{sym}
 use Rattle.std.proofs.lemmas.Result.{on_ok_weaker}
-use Rattle.qd_lines.proofs.OverlayLemmas.{column_pushed, found-at, widened-own}
+use Rattle.qd_base.proofs.Tables.{column_added, table_within}
+use Rattle.qd_lines.proofs.OverlayLemmas.{widened-at}
 use Rattle.qd_lines.proofs.overlay.Overlay.add_column.Goals as goal
+
+pub add_column-requires : goal.add_column-requires
+add_column-requires c = record { there = table_within c.args.self.now.own c.args.table.now c.in-Some.i c.in-Some.ensures.position }
 
 pub returns-in-Some : goal.returns-in-Some
 returns-in-Some c =
     record {
       ok = λ all covers.
-          on_ok_weaker c.push.result
+          on_ok_weaker c.add_column.result
           (λ pushed. record {
             shown =
-                rw (column_pushed c.args.self.now.own.items c.args.table.now c.args.col.now c.in_ok-col.col c.in-Some.i c.index_mut.result.now c.push.new.self c.in-Some.ensures.position c.index_mut.ensures.value c.in_ok-col.ensures.same pushed)
-                (widened-own c.args.table.now c.args.col.now c.args.self.now.base.now c.args.self.now.own.items all c.args.self.now.tables covers.shown c.index_mut.result.now (found-at c.args.self.now.own.items c.args.table.now c.in-Some.i c.index_mut.result.now c.in-Some.ensures.position c.index_mut.ensures.value));
+                rw (column_added c.args.self.now.own c.add_column.new.self c.args.table.now c.args.col.now c.in_ok-col.col c.in-Some.i c.in-Some.ensures.position c.in_ok-col.ensures.same pushed)
+                (widened-at c.args.table.now c.args.col.now c.args.self.now.base.now c.args.self.now.own all c.args.self.now.tables covers.shown c.in-Some.i c.in-Some.ensures.position);
             recent = tt;
           })
-          c.push.ensures.ok;
+          c.add_column.ensures.ok;
     }
 
 pub returns-in-None : goal.returns-in-None

@@ -5,7 +5,7 @@ pub returns : goal.returns
 returns c =
     record {
       ok = λ all covers new. record {
-        shown = rw (c.in_ok-push.ensures.items, c.in_ok-copy.ensures.same) (created c.args.self.now.base.now c.args.self.now.own.items all c.args.self.now.tables covers.shown c.args.schema.now new);
+        shown = rw (c.in_ok-push.ensures.ok, c.in_ok-copy.ensures.same) (created c.args.self.now.base.now c.args.self.now.own all c.args.self.now.tables covers.shown c.args.schema.now new);
         recent = tt;
       };
     }

@@ -9,7 +9,7 @@ returns-then-is_none c =
     record {
       all = λ all covers. record {
         shown = covers.shown;
-        recent = recalls all c.args.name.now (spotted c.args.self.now.own.items c.spot-self.result) (covers.shown.named c.args.name.now ∙ sym c.spot-self.ensures.schema);
+        recent = recalls all c.args.name.now (spotted c.args.self.now.own c.spot-self.result) (covers.shown.named c.args.name.now ∙ sym c.spot-self.ensures.schema);
       };
       recent = λ all covers. c.spot-self.ensures.schema ∙ sym (covers.shown.named c.args.name.now);
     }
@@ -18,5 +18,5 @@ pub returns-else-is_none : goal.returns-else-is_none
 returns-else-is_none c =
     record {
       all = λ all covers. covers;
-      recent = λ all covers. one-value c.recalled.result (λ s. s.now) (spotted c.args.self.now.own.items c.args.self.now.recent) (schema_of all c.args.name.now) c.if-is_none.ensures c.recalled.ensures.recent (c.recalled.ensures.schema all covers);
+      recent = λ all covers. one-value c.recalled.result (λ s. s.now) (spotted c.args.self.now.own c.args.self.now.recent) (schema_of all c.args.name.now) c.if-is_none.ensures c.recalled.ensures.recent (c.recalled.ensures.schema all covers);
     }

@@ -1,0 +1,5 @@
+pub mod Values
+pub mod Longs
+pub mod Orders
+pub mod Truths
+pub mod Chains

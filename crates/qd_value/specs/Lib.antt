@@ -1,0 +1,4 @@
+pub mod Cells
+pub mod Scalars
+pub mod Value
+pub mod Laws

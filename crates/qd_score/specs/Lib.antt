@@ -1,0 +1,6 @@
+pub mod Rule
+pub mod Plays
+pub mod Calls
+pub mod Pinning
+pub mod Publishing
+pub mod Lending

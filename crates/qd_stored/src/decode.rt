@@ -7,7 +7,7 @@ ghost use Rattle.qd_stored.specs.Reading.{AreThere, IsReadColumn, IsFault, IsUns
 
 use crate::dictionary::load;
 use crate::fault::{AUX, ColumnFault, LoadFault, MAIN};
-use crate::numbers::{last_end, named_by, odd_id, odd_mark};
+use crate::numbers::{last_end, names_in_order, odd_mark};
 use crate::words::{longs_in, words_in};
 use qd_base::{ColType, Dictionary};
 use qd_column::Column;
@@ -157,13 +157,14 @@ fn symbols_of<D: Dictionary>(
     ensures ok { IfOk result (λ column. IsReadColumn kind.Symbol rows main.now aux.now column) }
     ensures err { IfErr result (λ e. IsFault kind.Symbol rows main.now aux.now e) }
 {
-    if let Some(row) = odd_id(ids.as_slice()) {
-        return Err(broken_at(row));
-    }
+    let named = match names_in_order(ids.as_slice()) {
+        Ok(named) => named,
+        Err(row) => return Err(broken_at(row)),
+    };
     if (ids.len() as u64) < rows {
         return Err(cut_main(main));
     }
-    match load(alloc, aux, named_by(ids.as_slice())) {
+    match load(alloc, aux, named) {
         Ok(dictionary) => Ok(Column::of_symbols(ids, dictionary)),
         Err(LoadFault::Damaged { at }) => Err(ColumnFault::Damaged { half: AUX, at }),
         Err(LoadFault::Memory) => Err(ColumnFault::Memory),

@@ -1,5 +1,5 @@
 //! The rules of the numbers that stand for rows, looked at one after another.
-ghost use Rattle.std.specs.Prelude.{◌≡◌, ℕ, ◌<◌, ◌≤◌, take, length, slice_index, IfOk, IfErr, IfSome, IfNone};
+ghost use Rattle.std.specs.Prelude.{◌≡◌, ℕ, ◌<◌, ◌≤◌, take, length, slice_index, IfOk, IfErr, IfSome, IfNone, OnOk};
 ghost use Rattle.qd_base.specs.declared.schema.ColType.TheVariants as kind;
 ghost use Rattle.qd_stored.specs.Fields.{named, end_of, Follows, AreFields};
 
@@ -18,24 +18,25 @@ pub(crate) fn named_by(ids: &[u64]) -> u64
     count
 }
 
-/// The first id that is neither that of a text named before nor the next one.
-pub(crate) fn odd_id(ids: &[u64]) -> Option<usize>
-    ensures none { IfNone result (AreFields kind.Symbol ids.now) }
-    ensures some { IfSome result (λ i. (i < length ids.now) × AreFields kind.Symbol (take i ids.now) × (Follows kind.Symbol (take i ids.now) (slice_index ids.now i) → ⊥)) }
+/// How many texts ids name, or the first id that is neither that of a text named before nor the next one.
+pub(crate) fn names_in_order(ids: &[u64]) -> Result<u64, usize>
+    ensures named { IfOk result (λ n. n ≡ named ids.now) }
+    ensures kept { OnOk result (AreFields kind.Symbol ids.now) }
+    ensures odd { IfErr result (λ i. (i < length ids.now) × AreFields kind.Symbol (take i ids.now) × (Follows kind.Symbol (take i ids.now) (slice_index ids.now i) → ⊥)) }
 {
     let mut count = 0;
     for i in 0..ids.len() {
         let id = ids[i];
         if id != NULL_ID {
             if count < id {
-                return Some(i);
+                return Err(i);
             }
             if id == count {
                 count += 1;
             }
         }
     }
-    None
+    Ok(count)
 }
 
 /// The first mark that ends before the one before it, too far behind it, or behind it where it is that of NULL.

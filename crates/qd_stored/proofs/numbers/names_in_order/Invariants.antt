@@ -1,7 +1,7 @@
 use Rattle.std.proofs.Common.{◌≡◌, take}
 use Rattle.qd_base.specs.declared.schema.ColType.TheVariants as kind
 use Rattle.qd_stored.specs.Fields.{named, AreFields}
-use Rattle.qd_stored.proofs.numbers.odd_id.Given as goal
+use Rattle.qd_stored.proofs.numbers.names_in_order.Given as goal
 
 -- the ids so far keep the rule, and the texts that they name are counted
 abbrev pub invariant-loop-i : goal.invariant-loop-i

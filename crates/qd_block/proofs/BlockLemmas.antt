@@ -1,6 +1,6 @@
 -- Blocks of whole columns.
-use Rattle.std.proofs.Common.{◌≡◌, ◌≢◌, ℕ, zero, suc, ◌+◌, ◌-◌, ◌<◌, ◌≤◌, List, [], ◌∷◌, ◌++◌, Some, length, map, take, drop, get_or, refl, sym, ap, ◌∙◌, arith, All, slice_get, slice_range, subst, length-drop}
-use Rattle.std.specs.List.{range_with_len, AllByRecursion}
+use Rattle.std.proofs.Common.{◌≡◌, ℕ, zero, suc, ◌+◌, ◌-◌, ◌<◌, ◌≤◌, List, [], ◌∷◌, Some, length, map, take, drop, get_or, refl, sym, ap, ◌∙◌, arith, All, slice_get, slice_range, subst, length-drop}
+use Rattle.std.specs.List.{AllByRecursion}
 use Rattle.std.specs.List.Sorted.{IsNonDecreasing}
 use Rattle.std.proofs.lemmas.List.{get_or-map, length-map, ext_get_or, get_or-take, get_or-drop, length-take-le}
 use Rattle.qd_base.specs.declared.cell.Cell.{Cell}
@@ -11,12 +11,12 @@ use Rattle.qd_base.specs.Rows.{Row, cell_at, time_of, time_in}
 use Rattle.qd_base.specs.Laws.{IsInOrder}
 use Rattle.qd_base.specs.declared.schema.Col.{Col}
 use Rattle.qd_base.proofs.Sorted.{stable_is_put}
-use Rattle.qd_column.specs.Cells.{CellsOf, cell_of_row, cells_at, no_cells, time_cell}
+use Rattle.qd_column.specs.Cells.{CellsOf, cell_of_row, cells_at, no_cells}
 use Rattle.qd_column.proofs.ListLemmas.{got}
 use Rattle.qd_block.specs.Blocks.{Block, Building, block_of, building_of, row_at, rows_of, kinds_of, kinds_in, column_in, part_of_column, in_time_order, IsTimed, IsBlock, IsBuilding, IsWhole}
-use Rattle.qd_block.proofs.RowLemmas.{length-rows_of, get_or-rows_of, cell_at-row_at, column_of_rows, kind_at, got_there, rows_chosen, kinds_kept}
+use Rattle.qd_block.proofs.RowLemmas.{length-rows_of, get_or-rows_of, column_of_rows, kind_at, got_there, rows_chosen, kinds_kept}
 use Rattle.qd_block.proofs.BuildLemmas.{next_col}
-use Rattle.qd_block.proofs.OrderLemmas.{AreTimes, ArePlaced, are_times, rows_rise}
+use Rattle.qd_block.proofs.OrderLemmas.{AreTimes, ArePlaced, rows_rise}
 
 pub designated_there : (columns : List CellsOf) (time_col : ℕ) → slice_get (kinds_of columns) time_col ≡ Some kind.Time → time_col < length columns
 designated_there columns time_col h = let there = got_there (kinds_of columns) time_col kind.Time h in omega (arith, length-map columns (λ (c : CellsOf). c.kind))

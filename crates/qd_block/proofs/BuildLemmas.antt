@@ -1,7 +1,6 @@
 -- Cells and rows that are added to columns.
-use Rattle.std.proofs.Common.{◌≡◌, ◌≢◌, ℕ, zero, suc, ◌+◌, ◌-◌, ◌<◌, ◌≤◌, inl, inr, List, [], ◌∷◌, ◌++◌, Some, length, map, take, get_or, set, refl, sym, ap, ◌∙◌, arith, All, slice_get, subst, length-append}
+use Rattle.std.proofs.Common.{◌≡◌, ◌≢◌, ℕ, zero, suc, ◌+◌, ◌<◌, inl, inr, List, [], ◌∷◌, ◌++◌, Some, length, map, take, get_or, set, refl, sym, ap, ◌∙◌, arith, slice_get, subst, length-append}
 use Rattle.std.specs.List.{AllByRecursion}
-use Rattle.std.proofs.lemmas.Bool.{cases_lt}
 use Rattle.std.proofs.lemmas.Bool.Decides.{eqb_tells}
 use Rattle.std.proofs.lemmas.List.{get_or-map, length-map, get_or-set_same, get_or-set_other, get_or_append_left, get_or_push, take_more, take_all, length-take-le}
 use Rattle.std.proofs.Math.Seq.{map-set_same}
@@ -12,7 +11,7 @@ use Rattle.qd_base.specs.Rows.{Row, cell_at}
 use Rattle.qd_base.proofs.Lists.{each-append}
 use Rattle.qd_column.specs.Cells.{CellsOf, cell_of_row, with_cell}
 use Rattle.qd_block.specs.Blocks.{Building, building_of, with_open, row_at, rows_of, kinds_of, IsTimed, IsBuilding}
-use Rattle.qd_block.proofs.RowLemmas.{rows_same, rows_more, cell_at-row_at, got_there, kind_at}
+use Rattle.qd_block.proofs.RowLemmas.{rows_same, rows_more, cell_at-row_at, got_there}
 
 -- the column that the next cell goes into
 pub next_col : (n filled time_col : ℕ) (columns : List CellsOf) → IsBuilding n filled time_col columns → length (take filled (row_at columns n)) ≡ filled

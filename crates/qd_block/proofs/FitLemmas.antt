@@ -1,13 +1,13 @@
 -- Rows that fit the columns of a builder.
-use Rattle.std.proofs.Common.{◌≡◌, ◌≢◌, ℕ, zero, suc, ◌+◌, ◌<◌, ◌≤◌, List, [], ◌∷◌, ◌++◌, Some, length, map, take, get_or, refl, sym, ap, ◌∙◌, arith, subst}
-use Rattle.std.proofs.lemmas.List.{take_more, take_all, length-take-le}
+use Rattle.std.proofs.Common.{◌≡◌, ◌≢◌, ℕ, zero, suc, ◌+◌, ◌<◌, List, [], ◌∷◌, ◌++◌, length, take, get_or, refl, sym, ap, ◌∙◌, arith, subst}
+use Rattle.std.proofs.lemmas.List.{take_more, length-take-le}
 use Rattle.qd_base.specs.declared.cell.Cell.{Cell}
 use Rattle.qd_base.specs.declared.cell.Cell.TheVariants as cell
 use Rattle.qd_base.specs.declared.schema.ColType.{ColType}
 use Rattle.qd_base.specs.declared.schema.ColType.TheVariants as kind
 use Rattle.qd_base.specs.declared.schema.Col.{Col}
 use Rattle.qd_base.specs.Lawful.{Takes, HasKinds}
-use Rattle.qd_base.specs.Rows.{Row, cell_at}
+use Rattle.qd_base.specs.Rows.{Row}
 use Rattle.qd_block.specs.Blocks.{Building, kinds_in, with_open, FitsKinds, IsTimed}
 
 pub fits_length : (kinds : List ColType) (row : Row) → FitsKinds kinds row → length row ≡ length kinds

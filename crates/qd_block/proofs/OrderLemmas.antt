@@ -1,8 +1,7 @@
 -- Rows in order of time are the rows put into a table one after another.
-use Rattle.std.proofs.Common.{◌≡◌, ◌≢◌, ℕ, zero, suc, ◌+◌, ◌-◌, ◌<◌, ◌≤◌, inl, inr, Bool, true, false, eqb, List, [], ◌∷◌, ◌++◌, length, map, get_or, refl, sym, ap, ◌∙◌, arith, All, subst, filter, fold, append-nil, zero-add}
+use Rattle.std.proofs.Common.{◌≡◌, ◌≢◌, ℕ, ◌<◌, inl, inr, List, [], ◌∷◌, length, map, get_or, refl, sym, ap, ◌∙◌, arith, All, subst, zero-add}
 use Rattle.std.specs.List.{range_with_len, AllByRecursion}
-use Rattle.std.specs.List.Sorted.{IsNonDecreasingBy, IsNonDecreasing, IsPermutation}
-use Rattle.std.proofs.lemmas.Bool.{eq-eqb, ne_eqb, cases_lt, false≢true}
+use Rattle.std.specs.List.Sorted.{IsNonDecreasing}
 use Rattle.std.proofs.lemmas.Bool.Decides.{eqb_tells}
 use Rattle.std.proofs.lemmas.List.{get_or-map, length-map, ext_get_or}
 use Rattle.std.proofs.lemmas.List.Sorted.{All-permutation, length_permutation}
@@ -15,9 +14,9 @@ use Rattle.qd_base.specs.Rows.{Row, cell_at, time_in, time_of}
 use Rattle.qd_base.specs.Laws.{IsInOrder, at_time}
 use Rattle.qd_base.proofs.Lists.{each-map}
 use Rattle.qd_base.proofs.Sorted.{images_in_order, images_of_time, stable_is_put}
-use Rattle.qd_column.specs.Cells.{CellsOf, cell_of_row, time_cell}
+use Rattle.qd_column.specs.Cells.{CellsOf, time_cell}
 use Rattle.qd_block.specs.Blocks.{row_at, rows_of, IsTimed, in_time_order}
-use Rattle.qd_block.specs.Order.{placed, at_moment, IsOrderOf}
+use Rattle.qd_block.specs.Order.{placed, IsOrderOf}
 use Rattle.qd_block.specs.declared.order.Placed.{Placed}
 use Rattle.qd_block.proofs.RowLemmas.{length-rows_of, get_or-rows_of, cell_at-row_at}
 

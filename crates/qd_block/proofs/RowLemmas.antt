@@ -1,15 +1,13 @@
 -- The rows of columns, one by one.
-use Rattle.std.proofs.Common.{◌≡◌, ◌≢◌, ℕ, zero, suc, ◌+◌, ◌-◌, ◌<◌, ◌≤◌, List, [], ◌∷◌, ◌++◌, Some, length, map, take, drop, get_or, set, refl, sym, ap, ◌∙◌, arith, All, slice_get, slice_range, subst}
-use Rattle.std.specs.List.{range_with_len, AllByRecursion}
+use Rattle.std.proofs.Common.{◌≡◌, ℕ, zero, suc, ◌+◌, ◌<◌, List, [], ◌∷◌, ◌++◌, Some, length, map, get_or, refl, sym, ap, ◌∙◌, arith, slice_get}
 use Rattle.std.proofs.lemmas.List.{ext_get_or, get_or-map, length-map}
 use Rattle.std.proofs.lemmas.List.FromFn.{get_or-map-range_with_len, length-map-range_with_len, map-range_with_len_more}
-use Rattle.std.proofs.lemmas.Option.{slice_get-get_or}
 use Rattle.qd_base.specs.declared.cell.Cell.{Cell}
 use Rattle.qd_base.specs.declared.cell.Cell.TheVariants as cell
 use Rattle.qd_base.specs.declared.schema.ColType.{ColType}
 use Rattle.qd_base.specs.Rows.{Row, cell_at}
 use Rattle.qd_column.specs.Cells.{CellsOf, cell_of_row, cells_at}
-use Rattle.qd_block.specs.Blocks.{row_at, rows_of, kinds_of, IsTimed}
+use Rattle.qd_block.specs.Blocks.{row_at, rows_of, kinds_of}
 
 pub length-rows_of : (n : ℕ) (columns : List CellsOf) → length (rows_of n columns) ≡ n
 length-rows_of n columns = length-map-range_with_len (row_at columns) 0 n

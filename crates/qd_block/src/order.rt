@@ -1,5 +1,5 @@
 //! Places in order of time.
-ghost use Rattle.std.specs.Prelude.{◌≡◌, ℕ, ◌<◌, List, [], IfOk, All, map, length, slice_index_or, OnOk, OnErr};
+ghost use Rattle.std.specs.Prelude.{◌≡◌, ℕ, ◌+◌, ◌<◌, List, [], IfOk, All, map, length, slice_index, slice_index_or, OnOk, OnErr};
 ghost use Rattle.std.specs.Bool.{OnTrue, OnFalse};
 ghost use Rattle.std.specs.List.Sorted.{IsNonDecreasing};
 ghost use Rattle.qd_base.specs.Rows.{Row, time_of};
@@ -20,6 +20,7 @@ pub(crate) struct Placed {
 /// Says whether no time is less than the one before it. It costs time linear in their number.
 pub fn rises(times: &[u64]) -> bool
     ensures rises { OnTrue result (IsNonDecreasing times.now) }
+    ensures falls { OnFalse result ((k : ℕ) × (k + 1 < length times.now) × (slice_index times.now (k + 1) < slice_index times.now k)) }
 {
     times.is_sorted()
 }

@@ -1,4 +1,4 @@
-use Rattle.std.proofs.Common.{◌≡◌, map, get_or, length}
+use Rattle.std.proofs.Common.{◌≡◌, map, get_or}
 use Rattle.std.specs.List.{range_with_len}
 use Rattle.qd_block.proofs.order.places_of.Given as goal
 

@@ -1,7 +1,5 @@
-use Rattle.std.proofs.Common.{◌≡◌, ◌∙◌, ◌<◌, ℕ, List, [], All, ap, sym, subst, map, length, get_or}
+use Rattle.std.proofs.Common.{◌∙◌, ◌<◌, ℕ, List, [], All, ap, sym, subst, map, length, get_or}
 use Rattle.std.proofs.lemmas.Result.{IfOk-weaker}
-use Rattle.qd_base.specs.Rows.{Row}
-use Rattle.qd_block.specs.declared.order.Placed.{Placed}
 use Rattle.qd_block.proofs.OrderLemmas.{places_within, rows_placed}
 use Rattle.qd_block.proofs.order.time_order.Goals as goal
 

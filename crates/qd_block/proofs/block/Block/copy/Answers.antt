@@ -1,4 +1,4 @@
-use Rattle.std.proofs.Common.{◌≡◌, ◌∙◌, ◌≤◌, ◌-◌, ap, sym, subst, length, arith, IfOk, List, slice_range, ℕ}
+use Rattle.std.proofs.Common.{◌≡◌, ◌≤◌, ◌-◌, ap, subst, length, arith, IfOk, List, slice_range}
 use Rattle.std.proofs.lemmas.List.{take_all}
 use Rattle.qd_base.specs.Rows.{Row}
 use Rattle.qd_block.specs.Blocks.{Block}

@@ -1,4 +1,4 @@
-use Rattle.std.proofs.Common.{◌≡◌, ◌∙◌, ◌≤◌, ap, sym, subst, map, length, arith, All, List, ℕ}
+use Rattle.std.proofs.Common.{◌∙◌, ◌≤◌, ap, sym, subst, map, length, arith, All, List, ℕ}
 use Rattle.qd_column.specs.Cells.{CellsOf}
 use Rattle.qd_block.specs.Blocks.{Block, part_of_column}
 use Rattle.qd_block.proofs.RowLemmas.{length-rows_of}

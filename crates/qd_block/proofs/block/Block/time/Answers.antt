@@ -1,4 +1,3 @@
-use Rattle.std.proofs.Common.{◌≡◌}
 use Rattle.qd_block.proofs.BlockLemmas.{time_read}
 use Rattle.qd_block.proofs.block.Block.time.Goals as goal
 

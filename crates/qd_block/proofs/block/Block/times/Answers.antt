@@ -1,4 +1,4 @@
-use Rattle.std.proofs.Common.{◌≡◌, ◌∙◌, ◌<◌, ap, sym, length, map}
+use Rattle.std.proofs.Common.{◌∙◌, ◌<◌, ap, sym, length, map}
 use Rattle.qd_base.specs.Rows.{cell_at}
 use Rattle.qd_column.specs.Cells.{CellsOf}
 use Rattle.qd_block.specs.Blocks.{Block}

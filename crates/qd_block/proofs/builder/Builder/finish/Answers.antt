@@ -1,11 +1,10 @@
-use Rattle.std.proofs.Common.{◌≡◌, ◌∙◌, ◌<◌, ap, sym, subst, length, map, get_or, arith, All, List, ℕ, [], slice_get}
+use Rattle.std.proofs.Common.{◌≡◌, ◌∙◌, ◌<◌, ap, sym, subst, length, map, arith, All, List, ℕ}
 use Rattle.std.specs.List.Sorted.{IsNonDecreasing}
-use Rattle.qd_base.specs.declared.schema.ColType.{ColType}
 use Rattle.qd_base.specs.declared.schema.ColType.TheVariants as kind
 use Rattle.qd_base.specs.Rows.{Row}
 use Rattle.qd_column.specs.Cells.{CellsOf, cells_at}
 use Rattle.qd_column.proofs.ListLemmas.{got}
-use Rattle.qd_block.specs.Blocks.{Building, kinds_of, in_time_order, rows_of}
+use Rattle.qd_block.specs.Blocks.{Building, kinds_of, in_time_order}
 use Rattle.qd_block.specs.declared.order.Placed.{Placed}
 use Rattle.qd_block.proofs.RowLemmas.{kind_at, got_there}
 use Rattle.qd_block.proofs.OrderLemmas.{AreTimes, ArePlaced, are_times, are_placed}

@@ -1,4 +1,4 @@
-use Rattle.std.proofs.Common.{◌≡◌, ◌∙◌, ap, map, take, length, arith}
+use Rattle.std.proofs.Common.{◌≡◌, ◌∙◌, ap, map, arith}
 use Rattle.std.proofs.lemmas.List.{take_all}
 use Rattle.qd_base.specs.declared.schema.Col.{Col}
 use Rattle.qd_column.specs.Cells.{no_cells}

@@ -1,4 +1,4 @@
-use Rattle.std.proofs.Common.{◌≡◌, ℤ, w64, ◌∙◌, ◌<◌, ap, length, get_or, ⊎_elim}
+use Rattle.std.proofs.Common.{◌≡◌, ℤ, w64, ◌∙◌, ◌<◌, ap, length, get_or}
 use Rattle.std.proofs.lemmas.Int.{to_z-of_z}
 use Rattle.qd_base.specs.declared.cell.Cell.TheVariants as cell
 use Rattle.qd_column.specs.Cells.{CellsOf, with_cell}

@@ -1,8 +1,7 @@
 use Rattle.std.proofs.Common.{◌≡◌, ◌∙◌, ap, sym, subst, length, take, arith}
 use Rattle.std.proofs.lemmas.List.{take_all}
-use Rattle.qd_base.specs.Rows.{Row, cell_at}
 use Rattle.qd_block.specs.Blocks.{Building, FitsKinds, IsTimed}
-use Rattle.qd_block.proofs.FitLemmas.{opened, fits_length, next_fits, IsNext}
+use Rattle.qd_block.proofs.FitLemmas.{fits_length, next_fits}
 use Rattle.qd_block.proofs.builder.Builder.push_row.Goals as goal
 
 pub push_cell-requires-clause-there : goal.push_cell-requires-clause-there

@@ -6,3 +6,4 @@ pub mod Sits
 pub mod Counts
 pub mod Lives
 pub mod Views
+pub mod Bare

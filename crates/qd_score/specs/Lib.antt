@@ -4,3 +4,4 @@ pub mod Calls
 pub mod Pinning
 pub mod Publishing
 pub mod Lending
+pub mod Counted

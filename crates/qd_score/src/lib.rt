@@ -11,13 +11,17 @@
 #![tactic(auto)]
 
 mod booked;
+mod counted;
 mod limits;
 mod pins;
 mod score;
 mod table;
+#[cfg(test)]
+mod tests;
 mod versions;
 
 pub use booked::Booked;
+pub use counted::{CountBook, Listed};
 pub use limits::VERSIONS_END;
 pub use pins::{Moved, Pin};
 pub use score::{Hold, Score, Seat};

@@ -182,7 +182,8 @@ fn bad() -> Error {
     Error::from(ErrorKind::InvalidInput)
 }
 
-fn run(rt: &HostRuntime) -> io::Result<()> {
+fn main(rt: HostRuntime) -> io::Result<()> {
+    let rt = &rt;
     let mut words = env::args(rt)?;
     let _program = words.next();
     let (Some(threads), Some(wanted)) = (words.next(), words.next()) else {
@@ -213,10 +214,6 @@ fn run(rt: &HostRuntime) -> io::Result<()> {
     );
     let nanos = began.elapsed(rt)?.as_nanos();
     println!(rt; "pins: {} ns, {} moved, {} published", nanos, moved, published)
-}
-
-fn main(rt: HostRuntime) -> io::Result<()> {
-    run(&rt)
 }
 '''
 

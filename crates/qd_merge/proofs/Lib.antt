@@ -4,3 +4,15 @@ pub mod Kept
 pub mod ClassLemmas
 pub mod Numbers
 pub mod Times
+pub mod Marks
+pub mod Parts
+pub mod Puts
+pub mod Orders
+pub mod Replacing
+pub mod Lent
+pub mod Wide
+pub mod Groups
+pub mod Grown
+pub mod Merges
+pub mod Splices
+pub mod Batched

@@ -1,10 +1,13 @@
-//! Batches: rows that come together, in any order of time, are sorted and deduplicated, so that putting them into a
-//! table is putting them one by one as they came.
+//! Merging: rows that come together, in any order of time, are sorted and deduplicated, and merged with the rows that
+//! are there, exactly as if they were put in one by one.
 #![tactic(auto)]
 
 mod batch;
 mod classes;
 mod laws;
+mod merge;
+mod order;
+mod replaced;
 #[cfg(test)]
 mod tests;
 
@@ -12,3 +15,4 @@ pub use batch::{dedup_batch, sort_batch};
 pub use laws::{
     batches_are_batches, batches_join, keeps_every_row, merged_in_order, merges_one_by_one,
 };
+pub use merge::{Block, merge_block, merge_blocks};

@@ -48,6 +48,16 @@ impl<T> Seq<T> {
         }
     }
 
+    /// Makes the empty list with room for `capacity` items: that many pushes move nothing and find their memory.
+    /// It takes the memory at once, or finds none.
+    pub fn with_capacity(alloc: Global, capacity: usize) -> Result<Seq<T>, Memory>
+        ensures empty { IfOk result (λ made. made ≡ []) }
+    {
+        Ok(Seq {
+            items: Vec::with_capacity(alloc, capacity)?,
+        })
+    }
+
     /// Gives the number of items, in constant time.
     pub fn len(&self) -> usize
         ensures count { result ≡ length self.now }

@@ -57,6 +57,11 @@ fn lists_hold_what_they_are_given(rt: HostRuntime) -> Result<(), Fail> {
     keys.insert(0, 6)?;
     assert_eq!(rt; keys.as_slice(), [6, 7, 8, 9].as_slice());
     assert_eq!(rt; keys.copy()?.as_slice(), [6, 7, 8, 9].as_slice());
+    let mut roomy: KeyList = Seq::with_capacity(alloc, 1)?;
+    assert!(rt; roomy.is_empty());
+    roomy.push(7)?;
+    roomy.push(9)?;
+    assert_eq!(rt; roomy.as_slice(), [7, 9].as_slice());
     Ok(())
 }
 

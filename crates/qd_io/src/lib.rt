@@ -20,7 +20,7 @@ mod writing;
 
 pub use fault::IoFault;
 pub use hosts::{Host, MemHost, StdHost};
-pub use memory::{MemClock, MemSink, MemSource};
+pub use memory::{FailurePlan, MemClock, MemSink, MemSource};
 pub use pair::Both;
 pub use standard::{StdClock, StdSink, StdSource};
 pub use traits::{Clock, Ends, Sink, Source};

@@ -5,5 +5,6 @@ mod sink;
 mod source;
 
 pub use clock::MemClock;
+pub use plan::FailurePlan;
 pub use sink::MemSink;
 pub use source::MemSource;

@@ -2,7 +2,6 @@
 mod bytes;
 mod contents;
 mod note;
-mod plan;
 mod saved;
 mod volume;
 

@@ -4,7 +4,8 @@ ghost use Rattle.std.specs.Prelude.{◌≡◌, ◌≤◌, [], IfOk};
 use std::alloc::{AllocError, Global};
 use std::marker::Model;
 
-/// The numbers of the calls that fail, and two counts, which stand still at the greatest `u64`.
+/// When a device over memory fails: the numbers of the calls that do, counted from 0, and how many calls were made and
+/// have failed. The two counts stand still at the greatest `u64`.
 #[derive(Drop)]
 pub struct FailurePlan {
     calls: u64,
@@ -43,6 +44,13 @@ impl FailurePlan {
             fails: Vec::new(alloc),
             failed: 0,
         }
+    }
+
+    /// How many calls were made.
+    pub fn calls(&self) -> u64
+        ensures { result ≡ self.now.calls }
+    {
+        self.calls
     }
 
     /// How many calls have failed.

@@ -11,11 +11,10 @@ ghost use Rattle.std.specs.Prelude.{◌≡◌, ◌≤◌, ◌∷◌, ℕ, [], le
 use super::bytes::read_from;
 use super::contents::{Contents, bytes_in, cut_file, remove_file, write_file};
 use super::note::{Note, Noted};
-use super::plan::Failures;
 use super::saved::replay;
 use crate::Memory;
 use crate::traits::Volume;
-use qd_io::IoFault;
+use qd_io::{FailurePlan, IoFault};
 use std::alloc::{AllocError, Global};
 use std::collections::BTreeMap;
 use std::marker::Model;
@@ -30,7 +29,7 @@ pub struct MemVolume {
     alloc: Global,
     files: Contents,
     notes: Vec<Note>,
-    plan: Failures,
+    plan: FailurePlan,
 }
 
 impl Model for MemVolume {
@@ -58,7 +57,7 @@ impl MemVolume {
             alloc,
             files: BTreeMap::new(alloc),
             notes: Vec::new(alloc),
-            plan: Failures::at(alloc, fails)?,
+            plan: FailurePlan::new(alloc, fails)?,
         })
     }
 

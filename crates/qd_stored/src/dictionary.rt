@@ -24,17 +24,6 @@ pub fn encode_from<D: Dictionary>(alloc: Global, dictionary: &D, k: u64) -> Resu
     Ok(Txt::from_vec(bytes))
 }
 
-/// Adds a text behind its length.
-fn push_text(bytes: &mut Vec<u8>, text: &[u8]) -> Result<(), Memory>
-    requires short { length text.now ≤ MAX_TEXT_BYTES }
-    ensures bytes { OnOk result (bytes.new.items ≡ bytes.old.items ++ stored_text text.now) }
-{
-    let size: &[u8] = &(text.len() as u16).to_le_bytes();
-    bytes.extend_from_slice(size)?;
-    bytes.extend_from_slice(text)?;
-    Ok(())
-}
-
 /// How many bytes the first `count` texts of a dictionary take. A number that no file can have is want of memory.
 pub(crate) fn size_before<D: Dictionary>(dictionary: &D, count: u64) -> Result<u64, Memory>
     requires within { count ≤ length (D.texts dictionary.now) }
@@ -80,6 +69,17 @@ pub fn load<D: Dictionary>(alloc: Global, bytes: &[u8], count: u64) -> Result<D,
         }
     }
     Ok(dictionary)
+}
+
+/// Adds a text behind its length.
+fn push_text(bytes: &mut Vec<u8>, text: &[u8]) -> Result<(), Memory>
+    requires short { length text.now ≤ MAX_TEXT_BYTES }
+    ensures bytes { OnOk result (bytes.new.items ≡ bytes.old.items ++ stored_text text.now) }
+{
+    let size: &[u8] = &(text.len() as u16).to_le_bytes();
+    bytes.extend_from_slice(size)?;
+    bytes.extend_from_slice(text)?;
+    Ok(())
 }
 
 /// Lends the text whose length begins at a place, where the bytes have the whole of it.

@@ -72,65 +72,6 @@ impl<'a> Scalar<'a> {
     }
 }
 
-/// A number, or NULL where it is the least one, which stands for NULL.
-#[tactic(auto, using(crate::proofs::Longs::least, crate::proofs::Longs::fitting))]
-fn ranged<'a>(number: i64) -> Scalar<'a>
-    ensures value { cell_of result ≡ spec.long number }
-{
-    if number == NULL_LONG {
-        Scalar::Null
-    } else {
-        Scalar::Long(number)
-    }
-}
-
-/// A number that was found, or NULL.
-#[tactic(auto, using(crate::proofs::Longs::long_some, crate::proofs::Longs::long_none))]
-fn long<'a>(found: Option<i64>) -> Scalar<'a>
-    ensures ranged { (exact : ℤ) → SomeIff found (FitsSigned w64 exact) exact → cell_of result ≡ spec.long exact }
-{
-    match found {
-        Some(number) => ranged(number),
-        None => Scalar::Null,
-    }
-}
-
-/// Divides; by zero it gives NULL.
-fn quotient<'a>(x: i64, y: i64) -> Scalar<'a>
-    ensures value { cell_of result ≡ spec.on_numbers does.Divide x y }
-{
-    if y == 0 {
-        Scalar::Null
-    } else {
-        long(x.checked_div(y))
-    }
-}
-
-/// Gives a remainder; by zero it is NULL.
-#[tactic(auto, using(crate::proofs::Longs::rem_long))]
-fn remainder<'a>(x: i64, y: i64) -> Scalar<'a>
-    ensures value { cell_of result ≡ spec.on_numbers does.Remainder x y }
-{
-    if y == 0 {
-        Scalar::Null
-    } else {
-        Scalar::Long(x.wrapping_rem(y))
-    }
-}
-
-/// What an operator makes of two numbers.
-fn on_numbers<'a>(op: Arithmetic, x: i64, y: i64) -> Scalar<'a>
-    ensures value { cell_of result ≡ spec.on_numbers op x y }
-{
-    match op {
-        Arithmetic::Plus => long(x.checked_add(y)),
-        Arithmetic::Minus => long(x.checked_sub(y)),
-        Arithmetic::Times => long(x.checked_mul(y)),
-        Arithmetic::Divide => quotient(x, y),
-        Arithmetic::Remainder => remainder(x, y),
-    }
-}
-
 /// What an operator makes of two values: NULL where one isn't a number. It takes constant time.
 pub fn arithmetic<'a>(op: Arithmetic, x: Scalar<'a>, y: Scalar<'a>) -> Scalar<'a>
     ensures value { cell_of result ≡ spec.arithmetic op (cell_of x.entry) (cell_of y.entry) }
@@ -209,5 +150,64 @@ pub fn is_within(x: Scalar<'_>, lo: u64, hi: u64) -> bool
     match x {
         Scalar::Time(time) => lo <= time && time <= hi,
         _ => false,
+    }
+}
+
+/// A number, or NULL where it is the least one, which stands for NULL.
+#[tactic(auto, using(crate::proofs::Longs::least, crate::proofs::Longs::fitting))]
+fn ranged<'a>(number: i64) -> Scalar<'a>
+    ensures value { cell_of result ≡ spec.long number }
+{
+    if number == NULL_LONG {
+        Scalar::Null
+    } else {
+        Scalar::Long(number)
+    }
+}
+
+/// A number that was found, or NULL.
+#[tactic(auto, using(crate::proofs::Longs::long_some, crate::proofs::Longs::long_none))]
+fn long<'a>(found: Option<i64>) -> Scalar<'a>
+    ensures ranged { (exact : ℤ) → SomeIff found (FitsSigned w64 exact) exact → cell_of result ≡ spec.long exact }
+{
+    match found {
+        Some(number) => ranged(number),
+        None => Scalar::Null,
+    }
+}
+
+/// Divides; by zero it gives NULL.
+fn quotient<'a>(x: i64, y: i64) -> Scalar<'a>
+    ensures value { cell_of result ≡ spec.on_numbers does.Divide x y }
+{
+    if y == 0 {
+        Scalar::Null
+    } else {
+        long(x.checked_div(y))
+    }
+}
+
+/// Gives a remainder; by zero it is NULL.
+#[tactic(auto, using(crate::proofs::Longs::rem_long))]
+fn remainder<'a>(x: i64, y: i64) -> Scalar<'a>
+    ensures value { cell_of result ≡ spec.on_numbers does.Remainder x y }
+{
+    if y == 0 {
+        Scalar::Null
+    } else {
+        Scalar::Long(x.wrapping_rem(y))
+    }
+}
+
+/// What an operator makes of two numbers.
+fn on_numbers<'a>(op: Arithmetic, x: i64, y: i64) -> Scalar<'a>
+    ensures value { cell_of result ≡ spec.on_numbers op x y }
+{
+    match op {
+        Arithmetic::Plus => long(x.checked_add(y)),
+        Arithmetic::Minus => long(x.checked_sub(y)),
+        Arithmetic::Times => long(x.checked_mul(y)),
+        Arithmetic::Divide => quotient(x, y),
+        Arithmetic::Remainder => remainder(x, y),
     }
 }

@@ -10,12 +10,13 @@ use Rattle.qd_pins.specs.declared.view.Phase.TheVariants.{Idle, Pinned}
 use Rattle.qd_pins.specs.declared.view.View.{View}
 use Rattle.qd_pins.specs.Machine.{Book, State, gone}
 use Rattle.qd_pins.specs.Kept.{counts_on, times, IsLive, PhaseFits, Kept}
-use Rattle.qd_pins.specs.Laws.{Reached, EveryRunIsKept, PinnedRowsAreLive, PinnedBlocksArePresent, HistoryOnlyGrows, SeatsSeeOneHistory, PositionsAreOnesOwn, PinsStaySmall, SoleSeatRetires}
+use Rattle.qd_pins.specs.Laws.{Reached, EveryRunIsKept, PinnedRowsAreLive, PinnedBlocksArePresent, HistoryOnlyGrows, SeatsSeeOneHistory, IsIncludedIn, SeatsOnlyLearn, NothingIsForgotten, PositionsAreOnesOwn, PinsStaySmall, SoleSeatRetires}
 use Rattle.qd_pins.proofs.Lists.{sum_none, sum_under, sum_two_le, prefix_either}
 use Rattle.qd_pins.proofs.Numbers.{times_contains}
 use Rattle.qd_pins.proofs.Frame.{once_on, weight}
 use Rattle.qd_pins.proofs.Boards.{same_or_other}
 use Rattle.qd_pins.proofs.Runs.{kept_after, grows_run}
+use Rattle.qd_pins.proofs.Learning.{later_run, known_run}
 
 pub every_run : (I S : Type 0) → EveryRunIsKept I S
 every_run I S blocks book first steps opens run = kept_after blocks book first steps opens run
@@ -44,14 +45,23 @@ seats_see_one_history I S blocks book s r seat other v w at there =
     let k = kept_reached blocks book s r in
     prefix_either v.seen w.seen s.board.history (k.history.seats seat v at).seen (k.history.seats other w there).seen
 
+pub seats_only_learn : (I S : Type 0) → SeatsOnlyLearn I S
+seats_only_learn I S blocks book s r steps run seat v w at there stands = ⊎_elim
+    (λ (e : w.spent ≡ true). let d : true ≡ false = sym e ∙ stands in absurd (cc))
+    (λ (h : (v.spent ≡ false) × IsIncludedIn v w). h.1)
+    (later_run blocks s steps (kept_reached blocks book s r) run seat v w at there)
+
+pub nothing_is_forgotten : (I S : Type 0) → NothingIsForgotten I S
+nothing_is_forgotten I S blocks book s r steps run seat v at stands = known_run blocks s steps (kept_reached blocks book s r) run seat v at stands
+
 pub positions_are_ones_own : (I S : Type 0) → PositionsAreOnesOwn I S
-positions_are_ones_own I S blocks book s r seat other n v w at there mine theirs = ⊎_elim
+positions_are_ones_own I S blocks book s r seat other n v w at there own theirs = ⊎_elim
     (λ (same : other ≡ seat). sym same)
     (λ (ne : other ≢ seat).
     let k = kept_reached blocks book s r in
-    let a = times_contains n v.mine mine.0 mine.1 mine.2 in
-    let b = times_contains n w.mine theirs.0 theirs.1 theirs.2 in
-    let c = sum_two_le (λ (u : View I S). times n u.mine) s.views seat other v w gone ne refl at there in
+    let a = times_contains n v.own own.0 own.1 own.2 in
+    let b = times_contains n w.own theirs.0 theirs.1 theirs.2 in
+    let c = sum_two_le (λ (u : View I S). times n u.own) s.views seat other v w gone ne refl at there in
     let d = k.history.once n in absurd (omega arith))
     (same_or_other other seat)
 

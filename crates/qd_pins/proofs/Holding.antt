@@ -29,7 +29,7 @@ module _ {I S : Type 0} where
   refit b v refused hold h = record {
     gone = h.gone;
     phase = h.phase;
-    seen = record { seen = h.seen.seen; mine = h.seen.mine; known = h.seen.known; faults = h.seen.faults; removed = h.seen.removed };
+    seen = record { seen = h.seen.seen; own = h.seen.own; known = h.seen.known; faults = h.seen.faults; removed = h.seen.removed };
     noted = h.noted;
     keeper = h.keeper;
     sole = h.sole;
@@ -94,7 +94,7 @@ module _ {I S : Type 0} (blocks : S → List ℕ) where
       moved j u there h = record {
         gone = h.gone;
         phase = phases j u there h.phase;
-        seen = record { seen = h.seen.seen; mine = h.seen.mine; known = le_trans h.seen.known le; faults = h.seen.faults; removed = h.seen.removed };
+        seen = record { seen = h.seen.seen; own = h.seen.own; known = le_trans h.seen.known le; faults = h.seen.faults; removed = h.seen.removed };
         noted = noted u h.noted;
         keeper = h.keeper;
         sole = h.sole;
@@ -272,7 +272,7 @@ module _ {I S : Type 0} (blocks : S → List ℕ) where
       added = behind (length s.board.history) (length book.history - length s.board.history)
 
       w : View I S
-      w = record v { seen = book.history; mine = v.mine ++ added; known = s.board.current.n; noted = book.versions; records = v.records ++ record_of (sight s.board) book ∷ []; hold = None }
+      w = record v { seen = book.history; own = v.own ++ added; known = s.board.current.n; noted = book.versions; records = v.records ++ record_of (sight s.board) book ∷ []; hold = None }
 
       grown : length s.board.history ≤ length book.history
       grown = prefix_length s.board.history book.history need.history
@@ -290,7 +290,7 @@ module _ {I S : Type 0} (blocks : S → List ℕ) where
         phase = h.phase;
         seen = record {
           seen = prefix_trans u.seen s.board.history book.history h.seen.seen need.history;
-          mine = h.seen.mine;
+          own = h.seen.own;
           known = h.seen.known;
           faults = never_falls_wider (λ r. r.faults_found) (λ r. r.faults_left) 0 s.board.faults book.faults u.records need.faults h.seen.faults;
           removed = never_falls_wider (λ r. r.removed_found) (λ r. r.removed_left) 0 s.board.removed book.removed u.records need.removed h.seen.removed;
@@ -306,7 +306,7 @@ module _ {I S : Type 0} (blocks : S → List ℕ) where
         phase = h.phase;
         seen = record {
           seen = prefix_refl book.history;
-          mine = rises_append v.mine added 0 (length s.board.history) (length book.history) (rises_wider 0 (length v.seen) (length s.board.history) v.mine (prefix_length v.seen s.board.history h.seen.seen) h.seen.mine)
+          own = rises_append v.own added 0 (length s.board.history) (length book.history) (rises_wider 0 (length v.seen) (length s.board.history) v.own (prefix_length v.seen s.board.history h.seen.seen) h.seen.own)
               (rises_behind (length s.board.history) (length book.history - length s.board.history) (length book.history) (let g = grown in omega arith));
           known = le_refl s.board.current.n;
           faults = never_falls_push (λ r. r.faults_found) (λ r. r.faults_left) 0 s.board.faults book.faults v.records (record_of (sight s.board) book) h.seen.faults (le_refl s.board.faults) need.faults (le_refl book.faults);
@@ -325,12 +325,12 @@ module _ {I S : Type 0} (blocks : S → List ℕ) where
 
       once : (n : ℕ) → claimed n (set s.views seat w) ≤ 1
       once n =
-          let t = sum_at (λ (u : View I S). times n u.mine) s.views seat v w at in
-          let a = times_append n v.mine added in
+          let t = sum_at (λ (u : View I S). times n u.own) s.views seat v w at in
+          let a = times_append n v.own added in
           let r : RisesWithin (length s.board.history) (length book.history) added = rises_behind (length s.board.history) (length book.history - length s.board.history) (length book.history) (let g = grown in omega arith) in
           let le = k.history.once n in
           ⊎_elim (λ (d : (leb n (length s.board.history) ≡ true) × (n ≤ length s.board.history)). let z = times_below n (length s.board.history) (length book.history) added d.1 r in omega arith)
           (λ (d : (leb n (length s.board.history) ≡ false) × (length s.board.history < n)).
-          let z = sum_none (λ (u : View I S). times n u.mine) s.views (λ j u there. let f = k.history.seats j u there in let l = prefix_length u.seen s.board.history f.seen in let lt : length s.board.history < n = d.1 in times_above n 0 (length u.seen) u.mine (omega arith) f.mine) in
+          let z = sum_none (λ (u : View I S). times n u.own) s.views (λ j u there. let f = k.history.seats j u there in let l = prefix_length u.seen s.board.history f.seen in let lt : length s.board.history < n = d.1 in times_above n 0 (length u.seen) u.own (omega arith) f.own) in
           let o = times_once n (length s.board.history) (length book.history) added r in omega arith)
           (leb_tells n (length s.board.history))

@@ -6,5 +6,6 @@ pub mod Pinning
 pub mod Holding
 pub mod Seats
 pub mod Runs
+pub mod Learning
 pub mod Follows
 pub mod Examples

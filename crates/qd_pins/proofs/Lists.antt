@@ -19,17 +19,17 @@ module _ {A : Type 0} where
   at_or (x ∷ xs) (suc i) v d e = at_or xs i v d e
 
   pub each_set : (l : List A) (i : ℕ) (w : A) (P : ℕ → A → Type 0) → ((j : ℕ) (v : A) → j ≢ i → get_elem? l j ≡ some v → P j v) → P i w → (j : ℕ) (v : A) → get_elem? (set l i w) j ≡ some v → P j v
-  each_set [] i w P others mine j v e = absurd (some-ne-none v (sym e))
-  each_set (x ∷ xs) zero w P others mine zero v e = subst (P 0) (some-injective _ _ e) mine
-  each_set (x ∷ xs) zero w P others mine (suc j) v e = others (suc j) v (λ h. omega arith) e
-  each_set (x ∷ xs) (suc i) w P others mine zero v e = others 0 v (λ h. omega arith) e
-  each_set (x ∷ xs) (suc i) w P others mine (suc j) v e = each_set xs i w (λ k. P (suc k)) (λ k u ne at. others (suc k) u (λ h. ne (omega arith)) at) mine j v e
+  each_set [] i w P others own j v e = absurd (some-ne-none v (sym e))
+  each_set (x ∷ xs) zero w P others own zero v e = subst (P 0) (some-injective _ _ e) own
+  each_set (x ∷ xs) zero w P others own (suc j) v e = others (suc j) v (λ h. omega arith) e
+  each_set (x ∷ xs) (suc i) w P others own zero v e = others 0 v (λ h. omega arith) e
+  each_set (x ∷ xs) (suc i) w P others own (suc j) v e = each_set xs i w (λ k. P (suc k)) (λ k u ne at. others (suc k) u (λ h. ne (omega arith)) at) own j v e
 
   pub each_push : (l : List A) (w : A) (P : ℕ → A → Type 0) → ((j : ℕ) (v : A) → get_elem? l j ≡ some v → P j v) → P (length l) w → (j : ℕ) (v : A) → get_elem? (l ++ w ∷ []) j ≡ some v → P j v
-  each_push [] w P others mine zero v e = subst (P 0) (some-injective _ _ e) mine
-  each_push [] w P others mine (suc j) v e = absurd (some-ne-none v (sym e))
-  each_push (x ∷ xs) w P others mine zero v e = others 0 v e
-  each_push (x ∷ xs) w P others mine (suc j) v e = each_push xs w (λ k. P (suc k)) (λ k u at. others (suc k) u at) mine j v e
+  each_push [] w P others own zero v e = subst (P 0) (some-injective _ _ e) own
+  each_push [] w P others own (suc j) v e = absurd (some-ne-none v (sym e))
+  each_push (x ∷ xs) w P others own zero v e = others 0 v e
+  each_push (x ∷ xs) w P others own (suc j) v e = each_push xs w (λ k. P (suc k)) (λ k u at. others (suc k) u at) own j v e
 
   pub set_else : (l : List A) (i j : ℕ) (w : A) → j ≢ i → get_elem? (set l i w) j ≡ get_elem? l j
   set_else [] i j w ne = refl

@@ -23,14 +23,14 @@ module _ {I S : Type 0} where
   refit b v p known h fits le idle = record {
     gone = h.gone;
     phase = fits;
-    seen = record { seen = h.seen.seen; mine = h.seen.mine; known = le; faults = h.seen.faults; removed = h.seen.removed };
+    seen = record { seen = h.seen.seen; own = h.seen.own; known = le; faults = h.seen.faults; removed = h.seen.removed };
     noted = h.noted;
     keeper = idle;
     sole = h.sole;
   }
 
-  pub same_claims : (views : List (View I S)) (seat : ℕ) (v w : View I S) (n : ℕ) → get_elem? views seat ≡ some v → w.mine ≡ v.mine → claimed n views ≤ 1 → claimed n (set views seat w) ≤ 1
-  same_claims views seat v w n at same le = let s = sum_at (λ (u : View I S). times n u.mine) views seat v w at in let e : times n w.mine ≡ times n v.mine = ap (times n) same in omega arith
+  pub same_claims : (views : List (View I S)) (seat : ℕ) (v w : View I S) (n : ℕ) → get_elem? views seat ≡ some v → w.own ≡ v.own → claimed n views ≤ 1 → claimed n (set views seat w) ≤ 1
+  same_claims views seat v w n at same le = let s = sum_at (λ (u : View I S). times n u.own) views seat v w at in let e : times n w.own ≡ times n v.own = ap (times n) same in omega arith
 
 module _ {I S : Type 0} (blocks : S → List ℕ) where
   same_stands : (b : Board I S) (pins : ℕ → ℕ) → Stands blocks b → Stands blocks (record b { pins = pins })

@@ -48,7 +48,7 @@ module _ {I S : Type 0} where
   fits_newcomer b v mode h kind = record {
     gone = λ e. absurd (cc);
     phase = tt;
-    seen = record { seen = h.seen.seen; mine = zero-le; known = h.seen.known; faults = zero-le; removed = zero-le };
+    seen = record { seen = h.seen.seen; own = zero-le; known = h.seen.known; faults = zero-le; removed = zero-le };
     noted = h.noted;
     keeper = λ m. refl;
     sole = λ m. absurd (⊎_elim (λ (e : mode ≡ Keeper). cc) (λ (e : mode ≡ Writer). cc) kind);
@@ -58,7 +58,7 @@ module _ {I S : Type 0} where
   fits_room b v room h = record {
     gone = h.gone;
     phase = h.phase;
-    seen = record { seen = h.seen.seen; mine = h.seen.mine; known = h.seen.known; faults = h.seen.faults; removed = h.seen.removed };
+    seen = record { seen = h.seen.seen; own = h.seen.own; known = h.seen.known; faults = h.seen.faults; removed = h.seen.removed };
     noted = h.noted;
     keeper = h.keeper;
     sole = h.sole;
@@ -68,7 +68,7 @@ module _ {I S : Type 0} where
   fits_gone b = record {
     gone = λ e. refl;
     phase = tt;
-    seen = record { seen = (b.history, refl); mine = zero-le; known = zero-le; faults = zero-le; removed = zero-le };
+    seen = record { seen = (b.history, refl); own = zero-le; known = zero-le; faults = zero-le; removed = zero-le };
     noted = λ row x e. absurd (cc);
     keeper = λ m. refl;
     sole = λ m. absurd (cc);
@@ -92,7 +92,7 @@ module _ {I S : Type 0} (blocks : S → List ℕ) where
         fits = record {
           gone = λ e. absurd (cc);
           phase = h.phase;
-          seen = record { seen = h.seen.seen; mine = h.seen.mine; known = h.seen.known; faults = h.seen.faults; removed = h.seen.removed };
+          seen = record { seen = h.seen.seen; own = h.seen.own; known = h.seen.known; faults = h.seen.faults; removed = h.seen.removed };
           noted = h.noted;
           keeper = λ m. absurd (cc);
           sole = λ m. absurd (cc);
@@ -119,7 +119,7 @@ module _ {I S : Type 0} (blocks : S → List ℕ) where
       let c = weight_of v stands in
       let d = weight_of w stands in
       let e = need.room in omega arith)
-      (λ n. let c = same_claims s.views seat v w n at refl (k.history.once n) in let b = sum_by_push (λ (u : View I S). times n u.mine) old new in omega arith)
+      (λ n. let c = same_claims s.views seat v w n at refl (k.history.once n) in let b = sum_by_push (λ (u : View I S). times n u.own) old new in omega arith)
       (each_push old new (λ i u. u.mode ≡ Sole → Each (old ++ new ∷ []) (λ j x. j ≢ i → x.mode ≡ Keeper))
       (each_set s.views seat w (λ i u. u.mode ≡ Sole → Each (old ++ new ∷ []) (λ j x. j ≢ i → x.mode ≡ Keeper)) (λ i u ne there m. alone i u there m) (λ m. alone seat v at m))
       (λ m. absurd (⊎_elim (λ (e : mode ≡ Keeper). cc) (λ (e : mode ≡ Writer). cc) kind)))
@@ -173,9 +173,9 @@ module _ {I S : Type 0} (blocks : S → List ℕ) where
       let d = weight_of w need.stands in
       let e = weight_of (joined v w) stands in omega arith)
       (λ n.
-      let a = sum_at (λ (u : View I S). times n u.mine) s.views seat v (joined v w) at in
-      let b = sum_at (λ (u : View I S). times n u.mine) once other w gone there in
-      let c = times_merged n v.mine w.mine in
+      let a = sum_at (λ (u : View I S). times n u.own) s.views seat v (joined v w) at in
+      let b = sum_at (λ (u : View I S). times n u.own) once other w gone there in
+      let c = times_merged n v.own w.own in
       let d = k.history.once n in omega arith)
       (both (λ i u. u.mode ≡ Sole → Each (set once other gone) (λ j x. j ≢ i → x.mode ≡ Keeper)) (λ i u a b here m. alone i u here m) (λ m. alone seat v at m) (λ m. absurd (cc)))
     where
@@ -201,7 +201,7 @@ module _ {I S : Type 0} (blocks : S → List ℕ) where
             phase = h.phase;
             seen = record {
               seen = longer_prefix v.seen w.seen s.board.history h.seen.seen g.seen.seen;
-              mine = rises_merged 0 (length (longer v.seen w.seen)) v.mine w.mine (rises_wider 0 (length v.seen) (length (longer v.seen w.seen)) v.mine l.0 h.seen.mine) (rises_wider 0 (length w.seen) (length (longer v.seen w.seen)) w.mine l.1 g.seen.mine) apart;
+              own = rises_merged 0 (length (longer v.seen w.seen)) v.own w.own (rises_wider 0 (length v.seen) (length (longer v.seen w.seen)) v.own l.0 h.seen.own) (rises_wider 0 (length w.seen) (length (longer v.seen w.seen)) w.own l.1 g.seen.own) apart;
               known = let a = h.seen.known in let b = g.seen.known in omega arith;
               faults = h.seen.faults;
               removed = h.seen.removed;
@@ -211,10 +211,10 @@ module _ {I S : Type 0} (blocks : S → List ℕ) where
             sole = λ m. longer_whole v.seen w.seen (let a = prefix_length w.seen s.board.history g.seen.seen in let b : length v.seen ≡ length s.board.history = ap length (h.sole m) in omega arith) ∙ h.sole m;
           }
         where
-          apart : (n : ℕ) → times n v.mine + times n w.mine ≤ 1
+          apart : (n : ℕ) → times n v.own + times n w.own ≤ 1
           apart n =
-              let a = sum_at (λ (u : View I S). times n u.mine) s.views seat v gone at in
-              let b = sum_at (λ (u : View I S). times n u.mine) (set s.views seat gone) other w gone (set_else s.views seat other gone need.apart ∙ need.there) in
+              let a = sum_at (λ (u : View I S). times n u.own) s.views seat v gone at in
+              let b = sum_at (λ (u : View I S). times n u.own) (set s.views seat gone) other w gone (set_else s.views seat other gone need.apart ∙ need.there) in
               let d = k.history.once n in omega arith
 
       alone : (i : ℕ) (u : View I S) → get_elem? s.views i ≡ some u → u.mode ≡ Sole → Each (set once other gone) (λ j x. j ≢ i → x.mode ≡ Keeper)
@@ -241,7 +241,7 @@ module _ {I S : Type 0} (blocks : S → List ℕ) where
       (one (λ j u. Fits (opening book).board u) (record {
         gone = λ e. absurd (cc);
         phase = tt;
-        seen = record { seen = prefix_refl book.history; mine = zero-le; known = le_refl book.current.n; faults = zero-le; removed = zero-le };
+        seen = record { seen = prefix_refl book.history; own = zero-le; known = le_refl book.current.n; faults = zero-le; removed = zero-le };
         noted = λ row x e. absurd (cc);
         keeper = λ m. refl;
         sole = λ m. refl;
@@ -252,7 +252,7 @@ module _ {I S : Type 0} (blocks : S → List ℕ) where
       (one (λ i u. u.mode ≡ Sole → Each (first_view book ∷ []) (λ j x. j ≢ i → x.mode ≡ Keeper)) (λ m. one (λ j x. j ≢ 0 → x.mode ≡ Keeper) (λ ne. absurd (ne refl))))
     where
       one : (P : ℕ → View I S → Type 0) → P 0 (first_view book) → (j : ℕ) (u : View I S) → get_elem? (first_view book ∷ []) j ≡ some u → P j u
-      one P mine = each_push [] (first_view book) P (λ j u e. absurd (some-ne-none u (sym e))) mine
+      one P own = each_push [] (first_view book) P (λ j u e. absurd (some-ne-none u (sym e))) own
 
       live : (row : ℕ) → (row == 0) ≡ is_some (version_at (Some first ∷ replicate (ROWS - 1) None) row)
       live zero = refl

@@ -49,7 +49,7 @@ module _ {I S : Type 0} where
 
   -- how often a position is said to be a seat's own
   abbrev pub claimed : ℕ → List (View I S) → ℕ
-  claimed n views = sum_by (λ (v : View I S). times n v.mine) views
+  claimed n views = sum_by (λ (v : View I S). times n v.own) views
 
   -- a version with this place's number is live in its row
   abbrev pub IsLive : Board I S → Place → Type 0
@@ -90,7 +90,7 @@ module _ {I S : Type 0} where
   -- what a seat has seen is a beginning of the one history; its own positions lie within it
   pub record SeenFits (b : Board I S) (v : View I S) : Type 0 where
     pub seen : IsPrefix v.seen b.history
-    pub mine : RisesWithin 0 (length v.seen) v.mine
+    pub own : RisesWithin 0 (length v.seen) v.own
     pub known : v.known ≤ b.current.n
     pub faults : NeverFalls (λ r. r.faults_found) (λ r. r.faults_left) 0 b.faults v.records
     pub removed : NeverFalls (λ r. r.removed_found) (λ r. r.removed_left) 0 b.removed v.records

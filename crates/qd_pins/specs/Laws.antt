@@ -1,5 +1,5 @@
 -- What holds after every run, and what follows for a reader, a writer and two seats.
-use Rattle.std.specs.Prelude.{◌≡◌, ℕ, ◌<◌, true, ◌⊎◌, List, Contains, Some, None}
+use Rattle.std.specs.Prelude.{◌≡◌, ℕ, ◌<◌, ◌≤◌, true, false, ◌⊎◌, List, Contains, Some, None}
 use mathlib.Core.Option.{some}
 use mathlib.Core.List.{IsPrefix}
 use lib.ListN.{get_elem?}
@@ -10,7 +10,7 @@ use Rattle.qd_pins.specs.declared.view.Phase.TheVariants.{Idle, Pinned}
 use Rattle.qd_pins.specs.declared.view.Version.{Version}
 use Rattle.qd_pins.specs.declared.view.View.{View}
 use Rattle.qd_pins.specs.Machine.{Book, State, Step, version_at, opening, after, IsRun, MayOpen}
-use Rattle.qd_pins.specs.Kept.{Kept}
+use Rattle.qd_pins.specs.Kept.{times, Kept}
 
 -- After every list of steps that may come where they stand, all nine parts hold.
 abbrev pub EveryRunIsKept : (I S : Type 0) → Type 0
@@ -42,9 +42,25 @@ HistoryOnlyGrows I S = (blocks : S → List ℕ) (s : State I S) (steps : List (
 abbrev pub SeatsSeeOneHistory : (I S : Type 0) → Type 0
 SeatsSeeOneHistory I S = (blocks : S → List ℕ) (book : Book I S) (s : State I S) → Reached I S blocks book s → (seat other : ℕ) (v w : View I S) → get_elem? s.views seat ≡ some v → get_elem? s.views other ≡ some w → IsPrefix v.seen w.seen ⊎ IsPrefix w.seen v.seen
 
+-- What a view shows is included in another: the items that were seen stand at the front of those seen there, the number
+-- that is known is no lower there, and the positions of its own are own ones there.
+pub record IsIncludedIn {I S : Type 0} (v w : View I S) : Type 0 where
+  pub seen : IsPrefix v.seen w.seen
+  pub known : v.known ≤ w.known
+  pub own : (n : ℕ) → times n v.own ≤ times n w.own
+
+-- Whatever steps come, a seat learns and forgets nothing, unless it goes into another.
+abbrev pub SeatsOnlyLearn : (I S : Type 0) → Type 0
+SeatsOnlyLearn I S = (blocks : S → List ℕ) (book : Book I S) (s : State I S) → Reached I S blocks book s → (steps : List (Step I S)) → IsRun blocks s steps → (seat : ℕ) (v w : View I S) → get_elem? s.views seat ≡ some v → get_elem? (after s steps).views seat ≡ some w → w.spent ≡ false → IsIncludedIn v w
+
+-- And what a seat knew is known to a seat that stands, also where the first one went into another.
+abbrev pub NothingIsForgotten : (I S : Type 0) → Type 0
+NothingIsForgotten I S = (blocks : S → List ℕ) (book : Book I S) (s : State I S) → Reached I S blocks book s → (steps : List (Step I S)) → IsRun blocks s steps → (seat : ℕ) (v : View I S) → get_elem? s.views seat ≡ some v → v.spent ≡ false
+    → (other : ℕ) × (w : View I S) × (get_elem? (after s steps).views other ≡ some w) × (w.spent ≡ false) × IsIncludedIn v w
+
 -- A position that a seat added is no other seat's, and the seat has seen it.
 abbrev pub PositionsAreOnesOwn : (I S : Type 0) → Type 0
-PositionsAreOnesOwn I S = (blocks : S → List ℕ) (book : Book I S) (s : State I S) → Reached I S blocks book s → (seat other n : ℕ) (v w : View I S) → get_elem? s.views seat ≡ some v → get_elem? s.views other ≡ some w → Contains v.mine n → Contains w.mine n → seat ≡ other
+PositionsAreOnesOwn I S = (blocks : S → List ℕ) (book : Book I S) (s : State I S) → Reached I S blocks book s → (seat other n : ℕ) (v w : View I S) → get_elem? s.views seat ≡ some v → get_elem? s.views other ≡ some w → Contains v.own n → Contains w.own n → seat ≡ other
 
 -- Pins stay below their limit, so a word has room for twice as many and for the bit that says whether the row is live.
 abbrev pub PinsStaySmall : (I S : Type 0) → Type 0

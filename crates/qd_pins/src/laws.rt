@@ -1,5 +1,5 @@
 //! What every run of the scoreboard keeps. Each function takes and returns nothing: its contract is the law.
-ghost use Rattle.qd_pins.specs.Laws.{EveryRunIsKept, PinnedRowsAreLive, PinnedBlocksArePresent, HistoryOnlyGrows, SeatsSeeOneHistory, PositionsAreOnesOwn, PinsStaySmall, SoleSeatRetires};
+ghost use Rattle.qd_pins.specs.Laws.{EveryRunIsKept, PinnedRowsAreLive, PinnedBlocksArePresent, HistoryOnlyGrows, SeatsSeeOneHistory, SeatsOnlyLearn, NothingIsForgotten, PositionsAreOnesOwn, PinsStaySmall, SoleSeatRetires};
 ghost use Rattle.qd_pins.specs.Examples.{WorkedExamples};
 
 /// After every list of steps, in whatever order seats take them, all nine parts of the rule hold.
@@ -25,6 +25,17 @@ pub fn history_only_grows<I, S>()
 /// Of what two seats have seen, one is a beginning of the other.
 pub fn seats_see_one_history<I, S>()
     ensures law { SeatsSeeOneHistory I S }
+{}
+
+/// Whatever steps come, a seat that doesn't go into another forgets nothing that it has seen and no position of its own, and
+/// the number that it knows never falls.
+pub fn seats_only_learn<I, S>()
+    ensures law { SeatsOnlyLearn I S }
+{}
+
+/// What a seat knew is known to a seat that stands, also where the first one went into another.
+pub fn nothing_is_forgotten<I, S>()
+    ensures law { NothingIsForgotten I S }
 {}
 
 /// A position of the history that a seat added is no other seat's.

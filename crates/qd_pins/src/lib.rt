@@ -12,9 +12,9 @@ mod tests;
 mod view;
 
 pub use laws::{
-    every_run, history_only_grows, pinned_blocks_are_present, pinned_rows_are_live,
-    pins_stay_small, positions_are_ones_own, seats_see_one_history, sole_seat_retires,
-    worked_examples,
+    every_run, history_only_grows, nothing_is_forgotten, pinned_blocks_are_present,
+    pinned_rows_are_live, pins_stay_small, positions_are_ones_own, seats_only_learn,
+    seats_see_one_history, sole_seat_retires, worked_examples,
 };
 pub use limits::{MAX_SPLITS, PINS_END, ROWS};
 pub use view::{Mode, Phase, Place, Record, Refusal, Sight, Version, View};

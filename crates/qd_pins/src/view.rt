@@ -80,7 +80,7 @@ pub struct View<I, S> {
     /// The items that it has seen.
     pub seen: LinkedList<I>,
     /// The positions that its own gives added, from 1 on, rising.
-    pub mine: LinkedList<u64>,
+    pub own: LinkedList<u64>,
     /// The greatest number of a current version that it has read.
     pub known: u64,
     pub phase: Phase,

@@ -8,7 +8,7 @@ use Rattle.qd_pins.specs.declared.view.View.{View}
 use Rattle.qd_pins.specs.Machine.{Book, MayOpen, version_at, IsGreatest, AllPresent}
 use Rattle.qd_pins.proofs.Lists.{prefix_refl}
 use Rattle.qd_pins.proofs.Seats.{no_version}
-use Rattle.qd_score.specs.Rule.{sight_of}
+use Rattle.qd_score.specs.Rule.{sight_of, IsInOrder}
 use Rattle.qd_score.specs.Calls.{MayGiveBack}
 use Rattle.qd_score.specs.Publishing.{MayMakeLive}
 use Rattle.qd_score.specs.Counted.{blocks_of, bare, IsFirst, IsSecond, IsThird, AreBare}
@@ -65,6 +65,19 @@ may_give v b are = record {
   current = refl;
   greatest = greatest b are;
   present = present b are;
+}
+
+-- a book that a take found may be given back as it is
+pub may_give_back : (v : View ℕ (List ℕ)) (b : Book ℕ (List ℕ)) → IsInOrder blocks_of (sight_of b) → MayGiveBack blocks_of v (sight_of b) b
+may_give_back v b found = record {
+  history = prefix_refl b.history;
+  keeper = λ m. refl;
+  faults = le_refl b.faults;
+  removed = le_refl b.removed;
+  versions = refl;
+  current = refl;
+  greatest = found.greatest;
+  present = found.present;
 }
 
 pub may_make_live : (b : Book ℕ (List ℕ)) → IsFirst b → 0 < length b.history → MayMakeLive (sight_of b) 1 (bare 1)

@@ -41,16 +41,16 @@ module _ {I S B F : Type 0} (book : B → Book I S) (sound : B → Type 0) (fixe
       right : Knows I S B
       right = with_view k (newcomer k.view mode)
 
-      mine : k.origin ≡ Some r.origin
-      mine = r.origins id k at spent
+      own : k.origin ≡ Some r.origin
+      own = r.origins id k at spent
 
       origins : (seat : ℕ) (j : Knows I S B) → get_elem? (set t.views id left ++ right ∷ []) seat ≡ some j → j.view.spent ≡ false → j.origin ≡ Some r.origin
       origins seat j there stands = ⊎_elim
           (λ (e : get_elem? (set t.views id left) seat ≡ some j). ⊎_elim
-          (λ (x : (seat ≡ id) × (left ≡ j)). ap (λ (z : Knows I S B). z.origin) (sym x.1) ∙ mine)
+          (λ (x : (seat ≡ id) × (left ≡ j)). ap (λ (z : Knows I S B). z.origin) (sym x.1) ∙ own)
           (λ (x : (seat ≢ id) × (get_elem? t.views seat ≡ some j)). r.origins seat j x.1 stands)
           (at_set t.views id seat left j e))
-          (λ (e : right ≡ j). ap (λ (z : Knows I S B). z.origin) (sym e) ∙ mine)
+          (λ (e : right ≡ j). ap (λ (z : Knows I S B). z.origin) (sym e) ∙ own)
           (at_snoc (set t.views id left) right j seat there)
 
   pub joins_seat : (id : ℕ) (k : Knows I S B) (other : ℕ) (w : Knows I S B) → k.view.spent ≡ false → w.view.spent ≡ false → IsLoose w.view

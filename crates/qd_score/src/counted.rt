@@ -64,7 +64,8 @@ fn bare_version(alloc: Global, n: u64) -> Listed
 
 /// Whether this version is there, and lists no block.
 fn is_bare(listed: &Option<Listed>, n: u64) -> bool
-    ensures { result ≡ true → version_of listed.now ≡ Some (bare n) }
+    ensures yes { result ≡ true → version_of listed.now ≡ Some (bare n) }
+    ensures no { version_of listed.now ≡ Some (bare n) → result ≡ true }
 {
     match listed {
         Some(listed) => listed.n == n && listed.blocks.is_empty(),
@@ -72,8 +73,10 @@ fn is_bare(listed: &Option<Listed>, n: u64) -> bool
     }
 }
 
+/// Whether no version is there.
 fn is_vacant(listed: &Option<Listed>) -> bool
-    ensures { result ≡ true → version_of listed.now ≡ None }
+    ensures yes { result ≡ true → version_of listed.now ≡ None }
+    ensures no { version_of listed.now ≡ None → result ≡ true }
 {
     listed.is_none()
 }
@@ -108,14 +111,16 @@ impl CountBook {
 
     /// Whether version 0 is its one version, is current and lists no block.
     pub fn is_first(&self) -> bool
-        ensures { result ≡ true → IsFirst (book_of self.now) }
+        ensures yes { result ≡ true → IsFirst (book_of self.now) }
+        ensures no { IsFirst (book_of self.now) → result ≡ true }
     {
         is_bare(&self.first, 0) && is_vacant(&self.second) && self.current == 0 && self.row == 0
     }
 
     /// Whether version 1 is current, and version 0 live beside it. Neither lists a block.
     pub fn is_second(&self) -> bool
-        ensures { result ≡ true → IsSecond (book_of self.now) }
+        ensures yes { result ≡ true → IsSecond (book_of self.now) }
+        ensures no { IsSecond (book_of self.now) → result ≡ true }
     {
         is_bare(&self.first, 0) && is_bare(&self.second, 1) && self.current == 1 && self.row == 1
     }

@@ -225,6 +225,75 @@ fn a_pinned_version_stays_live(rt: HostRuntime) -> Result<(), Fail> {
     Ok(())
 }
 
+/// How often each of two threads takes the lock.
+const TURNS_EACH: u64 = 20_000;
+
+/// Takes the lock, waiting while another has it, and gives the book back as it is.
+fn has_a_turn<R: Wait>(rt: &R, score: &Score<CountBook>, seat: &mut Seat<CountBook>)
+    requires seat { IsSeatOf blocks_of score.now.table.shared.table_id seat.old }
+    requires free { (view_of seat.old).hold ≡ None }
+    ensures seat { IsSeatOf blocks_of score.now.table.shared.table_id seat.new }
+    ensures free { (view_of seat.new).hold ≡ None }
+{
+    let hold = score.take(rt, seat);
+    score.give(seat, hold);
+}
+
+/// Has all of its turns.
+fn has_turns<R: Wait>(
+    rt: &R,
+    score: &Score<CountBook>,
+    mut seat: Seat<CountBook>,
+) -> Seat<CountBook>
+    requires seat { IsSeatOf blocks_of score.now.table.shared.table_id seat }
+    requires free { (view_of seat).hold ≡ None }
+    ensures seat { IsSeatOf blocks_of score.now.table.shared.table_id result }
+    ensures free { (view_of result).hold ≡ None }
+{
+    for _ in 0..TURNS_EACH {
+        has_a_turn(rt, score, &mut seat);
+    }
+    seat
+}
+
+/// Both threads have their turns, and then the first seat's has one more, which finds the book as it was.
+fn take_turns<R: Threads + Wait + Sync>(
+    rt: &R,
+    score: &Score<CountBook>,
+    one: Seat<CountBook>,
+    two: Seat<CountBook>,
+) -> bool
+    requires one { IsSeatOf blocks_of score.now.table.shared.table_id one }
+    requires free { (view_of one).hold ≡ None }
+    requires two { IsSeatOf blocks_of score.now.table.shared.table_id two }
+    requires other_free { (view_of two).hold ≡ None }
+{
+    let (mut one, _two) = thread::join(
+        rt,
+        || -> Seat<CountBook>
+            requires { IsSeatOf blocks_of score.now.table.shared.table_id one × ((view_of one).hold ≡ None) }
+            ensures { IsSeatOf blocks_of score.entry.now.table.shared.table_id result × ((view_of result).hold ≡ None) }
+        { has_turns(rt, score, one) },
+        || -> Seat<CountBook>
+            requires { IsSeatOf blocks_of score.now.table.shared.table_id two × ((view_of two).hold ≡ None) }
+            ensures { IsSeatOf blocks_of score.entry.now.table.shared.table_id result × ((view_of result).hold ≡ None) }
+        { has_turns(rt, score, two) },
+    );
+    let book = score.take(rt, &mut one).into_book();
+    book.is_first() && book.len() == 1
+}
+
+#[test]
+fn one_who_waits_for_the_lock_is_woken(rt: HostRuntime) -> Result<(), Fail> {
+    let book = CountBook::new(rt.alloc(), 5)?;
+    let Ok((score, mut seat)) = Score::start(rt.alloc(), book) else {
+        panic!(rt; "no memory")
+    };
+    let other = score.split(rt.alloc(), &mut seat, Mode::Keeper)?;
+    assert!(rt; take_turns(&rt, &score, seat, other));
+    Ok(())
+}
+
 #[test]
 fn the_holder_pins_the_current_version(rt: HostRuntime) -> Result<(), Fail> {
     let book = CountBook::new(rt.alloc(), 5)?;

@@ -242,9 +242,9 @@ module _ (cols : List Col) (time : ℕ) (u : IsUsable cols time) (items : List I
 pub stepped : (c : Columns) (items : List Item) (i : Item) (old new : Draft) → Draws c items old
     → ValuesSeen (items ++ i ∷ []) new.faults → NamesSeen (items ++ i ∷ []) new.faults.name
     → new.faults.clash ≡ (old.faults.clash || clashes_in c.cols.now (time_name c) i)
-    → length new.marks.items ≡ length c.cols.now + length new.added.items
-    → (length c.cols.now + length new.added.items ≤ MAX_COLUMNS → Marked c.cols.now (time_name c) (items ++ i ∷ []) new.added.items new.marks.items new.faults.twice)
-    → (MAX_COLUMNS < length c.cols.now + length new.added.items → MAX_COLUMNS < length (with_items c.cols.now (items ++ i ∷ [])))
+    → length new.marks.items ≡ length c.cols.now + length new.added
+    → (length c.cols.now + length new.added ≤ MAX_COLUMNS → Marked c.cols.now (time_name c) (items ++ i ∷ []) new.added new.marks.items new.faults.twice)
+    → (MAX_COLUMNS < length c.cols.now + length new.added → MAX_COLUMNS < length (with_items c.cols.now (items ++ i ∷ [])))
     → Draws c (items ++ i ∷ []) new
 stepped c items i old new h values names clash sized few many =
     record {
@@ -265,11 +265,11 @@ pub one_more : (items : List Item) (at : ℕ) (i : Item) → slice_get items at 
 one_more items at i got lt = take_more items at i lt ∙ ap (λ (x : Item). take at items ++ x ∷ []) (get_or_from_slice_get items at i i got)
 
 -- a draft before the first item
-pub begun : (c : Columns) (d : Draft) → IsUsable c.cols.now c.time → d.added.items ≡ [] → d.marks.items ≡ map (mark []) c.cols.now → ValuesSeen [] d.faults → NamesSeen [] d.faults.name → d.faults.clash ≡ false → d.faults.twice ≡ false → Draws c [] d
+pub begun : (c : Columns) (d : Draft) → IsUsable c.cols.now c.time → d.added ≡ [] → d.marks.items ≡ map (mark []) c.cols.now → ValuesSeen [] d.faults → NamesSeen [] d.faults.name → d.faults.clash ≡ false → d.faults.twice ≡ false → Draws c [] d
 begun c d u none marks values names clash twice =
-    let same : c.cols.now ++ d.added.items ≡ c.cols.now = ap (λ (cs : List Col). c.cols.now ++ cs) none ∙ append-nil c.cols.now in
-    let nothing : length d.added.items ≡ 0 = ap length none in
-    let unmarked : AllByRecursion (λ (i : Item). list_any (λ (x : Col). same_name x.name i.name) (c.cols.now ++ d.added.items) ≡ true) [] = tt in
+    let same : c.cols.now ++ d.added ≡ c.cols.now = ap (λ (cs : List Col). c.cols.now ++ cs) none ∙ append-nil c.cols.now in
+    let nothing : length d.added ≡ 0 = ap length none in
+    let unmarked : AllByRecursion (λ (i : Item). list_any (λ (x : Col). same_name x.name i.name) (c.cols.now ++ d.added) ≡ true) [] = tt in
     record {
       values = values;
       names = names;

@@ -69,11 +69,11 @@ module _ (schemas : List Schema) (cells now : ℕ) (row : Row) (p : Place) (d : 
   same_after : length (with_items p.columns.cols.now row.items) ≡ length (columns_after (schema_of schemas row.table) row)
   same_after = ap (λ (cs : List Col). length (with_items cs row.items)) h.cols
 
-  count : n ≡ length p.columns.cols.now + length d.added.items
+  count : n ≡ length p.columns.cols.now + length d.added
   count = size ∙ draws.sized
 
   known : n ≤ MAX_COLUMNS → n ≡ length (columns_after (schema_of schemas row.table) row)
-  known le = count ∙ sym (length-append p.columns.cols.now d.added.items) ∙ ap length (draws.few (omega (arith, count))).cols_after ∙ same_after
+  known le = count ∙ sym (length-append p.columns.cols.now d.added) ∙ ap length (draws.few (omega (arith, count))).cols_after ∙ same_after
 
   too_many : Decides (ltb MAX_COLUMNS n) (MAX_COLUMNS < length (columns_after (schema_of schemas row.table) row))
   too_many = (

@@ -1,7 +1,9 @@
 -- What an overlay shows, when a table is made and when a column is added.
-use Rattle.std.proofs.Common.{◌≡◌, ℕ, ◌+◌, Bool, true, false, cond, List, [], ◌∷◌, ◌++◌, Option, Some, None, IsNone, length-append, get_or, map, ltb, position, refl, sym, ap, ap₂, ◌∙◌, true≢false, arith, slice_get, IfSome, is_some}
+use Rattle.std.proofs.Common.{◌≡◌, ℕ, ◌+◌, Bool, true, false, cond, zero, suc, List, [], ◌∷◌, ◌++◌, All, Option, Some, None, IsNone, length, length-append, get_or, map, ltb, position, refl, sym, ap, ap₂, ◌∙◌, true≢false, arith, slice_get, IfSome, is_some, replicate}
 use Rattle.std.specs.Option.{option_map, option_or}
 use Rattle.std.proofs.lemmas.List.{length-map, map_push}
+use Rattle.std.specs.List.{AllByRecursion}
+use Rattle.std.proofs.lemmas.List.Elements.{All-replicate, recursion_from_All}
 use Rattle.std.proofs.lemmas.List.Folds.{find-append}
 use Rattle.std.proofs.lemmas.List.Quantifiers.{position-Some}
 use Rattle.std.proofs.lemmas.Option.{same_Some, slice_get-get_or}
@@ -14,7 +16,7 @@ use Rattle.qd_base.proofs.Lawful.{length-at_name}
 use Rattle.qd_base.proofs.Tables.{find-position, not_found}
 use Rattle.qd_base.proofs.Texts.{position-map}
 use Rattle.qd_lines.specs.declared.own.TableName.{TableName}
-use Rattle.qd_lines.specs.Overlays.{Overlays}
+use Rattle.qd_lines.specs.Overlays.{IsSpot, Overlays}
 use Rattle.qd_lines.specs.Owned.{AreNames}
 
 -- ---- the table of a name
@@ -170,6 +172,9 @@ found-own (x ∷ xs) name i other at =
     let f : schema_of (x ∷ xs) name ≡ Some (get_or (x ∷ xs) i x) = find-position (λ (t : Schema). same_name t.name name) (x ∷ xs) i x (sym at) in
     slice_get-get_or (x ∷ xs) i x h.0 ∙ ap (λ o. option_or o other) (sym f)
 
+pub found-base : (own base : List Schema) (name : List ℕ) (i : ℕ) → None ≡ table_at own name → Some i ≡ table_at base name → slice_get base i ≡ option_or (schema_of own name) (schema_of base name)
+found-base own base name i none at = found-own base name i None at ∙ or-none (schema_of base name) ∙ ap (λ p. option_or p (schema_of base name)) (sym (not-found own name (sym none)))
+
 -- what is found by a name is also found by its own
 pub recalls : (all : List Schema) (name : List ℕ) (found : Option Schema) → schema_of all name ≡ found → IfSome found (λ s. schema_of all s.name ≡ Some s)
 recalls all name None e = tt
@@ -179,3 +184,21 @@ recalls all name (Some s) e = found-alike all s.name name (found-named all name 
 pub one-value : {S T : Type 0} (r : Option S) (value : S → T) (a b : Option T) → is_some r ≡ true → IfSome r (λ s. a ≡ Some (value s)) → IfSome r (λ s. b ≡ Some (value s)) → a ≡ b
 one-value None value a b e h k = absurd (true≢false (sym e))
 one-value (Some s) value a b e h k = h ∙ sym k
+
+-- what holds of each and of the default holds of what stands at a place
+pub all_or : {X : Type 0} (P : X → Type 0) (xs : List X) (i : ℕ) (d : X) → P d → All P xs → P (get_or xs i d)
+all_or P xs i d there all = go xs i (recursion_from_All P xs all)
+  where
+    go : (ys : List _) (k : ℕ) → AllByRecursion P ys → P (get_or ys k d)
+    go [] zero h = there
+    go [] (suc k) h = there
+    go (y ∷ ys) zero h = h.0
+    go (y ∷ ys) (suc k) h = go ys k h.1
+
+-- before a table is made or changed
+pub begun : (base own : List Schema) (tables : ℕ) → own ≡ [] → tables ≡ length base → Overlays base own base tables
+begun base own tables none count = record { named = λ name. ap (λ (o : List Schema). option_or (schema_of o name) (schema_of base name)) (sym none); count = sym count }
+
+-- no table is recalled
+pub none_recalled : (n : ℕ) (own base all : List Schema) → All (IsSpot own base all) (replicate n None)
+none_recalled n own base all = All-replicate (IsSpot own base all) n None tt

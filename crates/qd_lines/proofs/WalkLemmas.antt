@@ -18,7 +18,7 @@ use Rattle.qd_base.specs.declared.code.Code.{Code}
 use Rattle.qd_base.specs.declared.code.Code.TheVariants as code
 use Rattle.qd_ilp.specs.Whole.{Reading, blanks, faulty_line}
 use Rattle.qd_ilp.specs.View.{behind_rows, rows_among}
-use Rattle.qd_ilp.specs.Transaction.{Work, LeastCode, Says, columns_after, columns_before, created, designated, joined, line_ops, stamp_column, with_items, work_in}
+use Rattle.qd_ilp.specs.Transaction.{Work, LeastCode, Says, columns_after, columns_before, designated, joined, line_ops, stamp_column, with_items, work_in}
 use Rattle.qd_lines.specs.declared.codes.Place.{Place}
 use Rattle.qd_lines.specs.declared.draft.Draft.{Draft}
 use Rattle.qd_lines.specs.declared.walk.Walk.{Walk}
@@ -33,20 +33,20 @@ use Rattle.qd_lines.proofs.SchemaLemmas.{schemas-line}
 
 -- what is drawn up of a line that keeps to the limits
 module _ (schemas : List Schema) (row : Row) (p : Place) (d : Draft) (n : ℕ) (h : IsPlaceOf schemas row p) (draws : Draws p.columns row.items d) (k : KeepsTo p d n) where
-  marked : Marked p.columns.cols.now (time_name p.columns) row.items d.added.items d.marks.items false
-  marked = subst (λ (b : Bool). Marked p.columns.cols.now (time_name p.columns) row.items d.added.items d.marks.items b) k.once (draws.few (omega (arith, k.few, draws.sized)))
+  marked : Marked p.columns.cols.now (time_name p.columns) row.items d.added d.marks.items false
+  marked = subst (λ (b : Bool). Marked p.columns.cols.now (time_name p.columns) row.items d.added d.marks.items b) k.once (draws.few (omega (arith, k.few, draws.sized)))
 
-  pub columns_drawn : columns_before (schema_of schemas row.table) ++ d.added.items ≡ columns_after (schema_of schemas row.table) row
-  columns_drawn = ap (λ (cs : List Col). cs ++ d.added.items) (sym h.cols) ∙ marked.cols_after ∙ ap (λ (cs : List Col). with_items cs row.items) h.cols
+  pub columns_drawn : columns_before (schema_of schemas row.table) ++ d.added ≡ columns_after (schema_of schemas row.table) row
+  columns_drawn = ap (λ (cs : List Col). cs ++ d.added) (sym h.cols) ∙ marked.cols_after ∙ ap (λ (cs : List Col). with_items cs row.items) h.cols
 
   pub count_drawn : length d.marks.items ≡ length (columns_after (schema_of schemas row.table) row)
-  count_drawn = draws.sized ∙ sym (length-append p.columns.cols.now d.added.items) ∙ ap length marked.cols_after ∙ ap (λ (cs : List Col). length (with_items cs row.items)) h.cols
+  count_drawn = draws.sized ∙ sym (length-append p.columns.cols.now d.added) ∙ ap length marked.cols_after ∙ ap (λ (cs : List Col). length (with_items cs row.items)) h.cols
 
-  pub alone_drawn : p.fresh ≡ true → d.added.items ≡ with_items [] row.items
+  pub alone_drawn : p.fresh ≡ true → d.added ≡ with_items [] row.items
   alone_drawn is = go (schema_of schemas row.table) h.cols h.name h.fresh
     where
-      go : (o : Option Schema) → p.columns.cols.now ≡ columns_before o → time_name p.columns ≡ designated o → p.fresh ≡ is_none o → d.added.items ≡ with_items [] row.items
-      go None cols name fresh = added_alone row d.added.items d.marks.items (subst (λ (cs : List Col). Marked cs stamp_column.name row.items d.added.items d.marks.items false) cols (subst (λ (t : List ℕ). Marked p.columns.cols.now t row.items d.added.items d.marks.items false) name marked))
+      go : (o : Option Schema) → p.columns.cols.now ≡ columns_before o → time_name p.columns ≡ designated o → p.fresh ≡ is_none o → d.added ≡ with_items [] row.items
+      go None cols name fresh = added_alone row d.added d.marks.items (subst (λ (cs : List Col). Marked cs stamp_column.name row.items d.added d.marks.items false) cols (subst (λ (t : List ℕ). Marked p.columns.cols.now t row.items d.added d.marks.items false) name marked))
       go (Some s) cols name fresh = absurd (true≢false (sym is ∙ fresh))
 
 -- what holds where a call succeeds
@@ -81,7 +81,7 @@ module _ (work : Work) (now : ℕ) (row : Row) (old new : Walk) (fresh : Bool) (
     schemas = schemas-line work.schemas work.cells now row h.schemas none;
   }
 
-  pub walks_fresh : (schema : Schema) → fresh ≡ true → schema ≡ schema_made row.table old.draft.added.items stamp_column → Covers new.overlay (schemas_step work.schemas (op.Create schema)) → Walks new (work_in now work (Gives row))
+  pub walks_fresh : (schema : Schema) → fresh ≡ true → schema ≡ schema_made row.table old.draft.added stamp_column → Covers new.overlay (schemas_step work.schemas (op.Create schema)) → Walks new (work_in now work (Gives row))
   walks_fresh schema is made covers = after (go (schema_of work.schemas row.table) (sym is ∙ d.fresh_is))
     where
       go : (o : Option Schema) → true ≡ is_none o → Covers new.overlay (fold schemas_step work.schemas (line_ops o now row))
@@ -89,23 +89,23 @@ module _ (work : Work) (now : ℕ) (row : Row) (old new : Walk) (fresh : Bool) (
       go (Some s) e = absurd (true≢false e)
 
   -- the columns that a line adds are those behind the others
-  behind : (s : Schema) → columns_before (Some s) ++ old.draft.added.items ≡ columns_after (Some s) row → old.draft.added.items ≡ drop (length s.cols) (with_items s.cols row.items)
-  behind s added = sym (drop-append_seam s.cols old.draft.added.items) ∙ ap (drop (length s.cols)) added
+  behind : (s : Schema) → columns_before (Some s) ++ old.draft.added ≡ columns_after (Some s) row → old.draft.added ≡ drop (length s.cols) (with_items s.cols row.items)
+  behind s added = sym (drop-append_seam s.cols old.draft.added) ∙ ap (drop (length s.cols)) added
 
-  pub walks_same : fresh ≡ false → old.draft.added.items ≡ [] → Covers new.overlay work.schemas → Walks new (work_in now work (Gives row))
+  pub walks_same : fresh ≡ false → old.draft.added ≡ [] → Covers new.overlay work.schemas → Walks new (work_in now work (Gives row))
   walks_same is nothing covers = after (go (schema_of work.schemas row.table) (sym is ∙ d.fresh_is) d.added)
     where
-      go : (o : Option Schema) → false ≡ is_none o → columns_before o ++ old.draft.added.items ≡ columns_after o row → Covers new.overlay (fold schemas_step work.schemas (line_ops o now row))
+      go : (o : Option Schema) → false ≡ is_none o → columns_before o ++ old.draft.added ≡ columns_after o row → Covers new.overlay (fold schemas_step work.schemas (line_ops o now row))
       go None e added = absurd (true≢false (sym e))
       go (Some s) e added = subst (λ (xs : List Col). Covers new.overlay (fold schemas_step work.schemas (map (λ c. op.AddColumn s.name c) xs ++ op.Insert s.name (row_of (Some s) now row ∷ []) ∷ []))) (sym nothing ∙ behind s added) covers
 
-  pub walks_wider : (name : List ℕ) → fresh ≡ false → ((s : Schema) → schema_of work.schemas row.table ≡ Some s → name ≡ s.name) → Covers new.overlay (fold schemas_step work.schemas (map (op.AddColumn name) old.draft.added.items)) → Walks new (work_in now work (Gives row))
+  pub walks_wider : (name : List ℕ) → fresh ≡ false → ((s : Schema) → schema_of work.schemas row.table ≡ Some s → name ≡ s.name) → Covers new.overlay (fold schemas_step work.schemas (map (op.AddColumn name) old.draft.added)) → Walks new (work_in now work (Gives row))
   walks_wider name is named covers = after (go (schema_of work.schemas row.table) refl (sym is ∙ d.fresh_is) d.added)
     where
-      go : (o : Option Schema) → schema_of work.schemas row.table ≡ o → false ≡ is_none o → columns_before o ++ old.draft.added.items ≡ columns_after o row → Covers new.overlay (fold schemas_step work.schemas (line_ops o now row))
+      go : (o : Option Schema) → schema_of work.schemas row.table ≡ o → false ≡ is_none o → columns_before o ++ old.draft.added ≡ columns_after o row → Covers new.overlay (fold schemas_step work.schemas (line_ops o now row))
       go None found e added = absurd (true≢false (sym e))
       go (Some s) found e added =
-          let adds : map (op.AddColumn name) old.draft.added.items ≡ map (λ c. op.AddColumn s.name c) (drop (length s.cols) (with_items s.cols row.items)) = ap₂ (λ (t : List ℕ) (xs : List Col). map (op.AddColumn t) xs) (named s found) (behind s added) in
+          let adds : map (op.AddColumn name) old.draft.added ≡ map (λ c. op.AddColumn s.name c) (drop (length s.cols) (with_items s.cols row.items)) = ap₂ (λ (t : List ℕ) (xs : List Col). map (op.AddColumn t) xs) (named s found) (behind s added) in
           subst (Covers new.overlay) (ap (fold schemas_step work.schemas) adds ∙ sym (fold-append schemas_step work.schemas (map (λ c. op.AddColumn s.name c) (drop (length s.cols) (with_items s.cols row.items))) (op.Insert s.name (row_of (Some s) now row ∷ []) ∷ []))) covers
 
 pub is_nothing : {X : Type 0} (o : Option X) → true ≡ is_none o → IsNone o

@@ -71,6 +71,6 @@ pub record Draws (c : Columns) (items : List Item) (d : Draft) : Type 0 where
   pub values : ValuesSeen items d.faults
   pub names : NamesSeen items d.faults.name
   pub clashes : d.faults.clash ≡ list_any (clashes_in c.cols.now (time_name c)) items
-  pub sized : length d.marks.items ≡ length c.cols.now + length d.added.items
-  pub few : length c.cols.now + length d.added.items ≤ MAX_COLUMNS → Marked c.cols.now (time_name c) items d.added.items d.marks.items d.faults.twice
-  pub many : MAX_COLUMNS < length c.cols.now + length d.added.items → MAX_COLUMNS < length (with_items c.cols.now items)
+  pub sized : length d.marks.items ≡ length c.cols.now + length d.added
+  pub few : length c.cols.now + length d.added ≤ MAX_COLUMNS → Marked c.cols.now (time_name c) items d.added d.marks.items d.faults.twice
+  pub many : MAX_COLUMNS < length c.cols.now + length d.added → MAX_COLUMNS < length (with_items c.cols.now items)

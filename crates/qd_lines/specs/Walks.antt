@@ -42,12 +42,12 @@ opened false table added stamp ops = fold joined ops (map (op.AddColumn table) a
 -- a line is drawn up: whether it makes its table, the columns that it adds, and that it keeps to the limits
 pub record IsDrawn (now : ℕ) (work : Work) (row : Row) (draft : Draft) (fresh : Bool) : Type 0 where
   pub fresh_is : fresh ≡ is_none (schema_of work.schemas row.table)
-  pub added : columns_before (schema_of work.schemas row.table) ++ draft.added.items ≡ columns_after (schema_of work.schemas row.table) row
+  pub added : columns_before (schema_of work.schemas row.table) ++ draft.added ≡ columns_after (schema_of work.schemas row.table) row
   pub count : length draft.marks.items ≡ length (columns_after (schema_of work.schemas row.table) row)
   pub few : length draft.marks.items ≤ MAX_COLUMNS
   pub room : fresh ≡ true → length work.schemas < MAX_TABLES
   pub fits : work.cells + length draft.marks.items ≤ MAX_BATCH_CELLS
-  pub alone : fresh ≡ true → draft.added.items ≡ with_items [] row.items
+  pub alone : fresh ≡ true → draft.added ≡ with_items [] row.items
 
 -- the row is refused with its least code
 abbrev pub IsRowFault : ℕ → Work → Row → RowFault → Type 0

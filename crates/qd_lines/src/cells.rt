@@ -34,14 +34,15 @@ pub(crate) fn push_row<T: OpSink>(
     ensures cells { (schemas : List Schema) (now : ℕ) → IsPlaceOf schemas row.now place.entry → micros ≡ line.micros_of (line.moment_of now row.now.moment) →
         (table : List ℕ) (ops : List Op) → T.taken sink.old (with_row table [] ops) → OnOk result (T.taken sink.new (with_row table (row_of (schema_of schemas row.now.table) now row.now) ops)) }
 {
-    let before = place.columns.cols.len();
+    let Columns { cols, time } = place.columns;
+    let cols = cols.as_slice();
+    let before = cols.len();
     let added = draft.added.as_slice();
     let marks = draft.marks.as_slice();
     if place.fresh {
         push_cells(sink, added, &marks[before..], row)?;
         return sink.push_cell(CellView::Time(micros));
     }
-    let Columns { cols, time } = place.columns;
     push_cells(sink, &cols[..time], &marks[..time], row)?;
     sink.push_cell(CellView::Time(micros))?;
     push_cells(sink, &cols[time + 1..], &marks[time + 1..before], row)?;

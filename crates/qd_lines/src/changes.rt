@@ -23,6 +23,9 @@ pub(crate) struct Changes {
     inserting: Option<Insertion>,
 }
 
+/// The most cells that a row of another table than the last one's is given room for at once.
+const MOST_ROOM: usize = 16;
+
 /// Rows that go into one table.
 #[derive(Drop)]
 struct Insertion {
@@ -94,6 +97,7 @@ impl Changes {
     fn begin(&mut self, table: &[u8]) -> Result<(), Memory>
         ensures ok { OnOk result (self.new ≡ self.old ++ op.Insert table.now ([] ∷ []) ∷ []) }
     {
+        let room = self.room();
         let done = self.take()?;
         let table = Txt::from_bytes(self.alloc, table)?;
         *self = Changes {
@@ -101,11 +105,19 @@ impl Changes {
             done,
             inserting: Some(Insertion {
                 table,
-                rows: RowList::new(self.alloc),
-                row: Row::new(self.alloc),
+                rows: RowList::with_capacity(self.alloc, 1)?,
+                row: Row::with_capacity(self.alloc, room)?,
             }),
         };
         Ok(())
+    }
+
+    /// Gives how many cells a row of another table is given room for: as many as the row that was begun last has, but few.
+    fn room(&self) -> usize {
+        match &self.inserting {
+            Some(last) => last.row.len().min(MOST_ROOM),
+            None => 0,
+        }
     }
 
     /// Adds a cell to the row that was begun last.
@@ -167,8 +179,11 @@ impl Insertion {
         ensures rows { OnOk result (self.new.rows ≡ self.old.rows ++ self.old.row ∷ []) }
         ensures row { self.new.row ≡ [] }
     {
+        let room = self.row.len();
         let row = mem::replace(&mut self.row, Row::new(alloc));
-        self.rows.push(row)
+        self.rows.push(row)?;
+        self.row = Row::with_capacity(alloc, room)?;
+        Ok(())
     }
 
     /// Adds a cell to the last row.

@@ -1,5 +1,5 @@
 //! What one line does to the columns of its table, and what is wrong with it.
-ghost use Rattle.std.specs.Prelude.{◌≡◌, ◌+◌, ◌<◌, ◌≤◌, ◌++◌, ◌∷◌, ◌||◌, false, [], List, Some, None, length, take, set, is_some, slice_index_or, OnOk, All, IsTrue, ◌↔◌, true};
+ghost use Rattle.std.specs.Prelude.{◌≡◌, ◌+◌, ◌^◌, ◌<◌, ◌≤◌, ◌++◌, ◌∷◌, ◌||◌, false, [], List, Some, None, length, take, set, is_some, slice_index_or, OnOk, All, IsTrue, ◌↔◌, true};
 ghost use Rattle.std.specs.Option.{option_or};
 ghost use Rattle.qd_base.specs.Names.{IsColumnName};
 ghost use Rattle.qd_base.specs.Schemas.{column_at};
@@ -10,14 +10,14 @@ ghost use Rattle.qd_lines.specs.Drafts.{AreNamed, Draws, ValuesSeen, NamesSeen, 
 
 use crate::names::is_name;
 use crate::values::{is_float, is_huge, is_long_text, kind_of, suits};
-use qd_base::{Col, MAX_COLUMNS, Memory, Txt, column_name_ok};
+use qd_base::{Col, ColList, MAX_COLUMNS, Memory, Txt, column_name_ok};
 use qd_ilp::{ItemView, RowView};
 use std::alloc::Global;
 
 /// The columns of a table, and which of them is the designated timestamp.
 #[derive(Clone, Copy)]
 pub(crate) struct Columns<'a> {
-    pub(crate) cols: &'a [Col],
+    pub(crate) cols: &'a ColList,
     pub(crate) time: usize,
 }
 
@@ -42,7 +42,7 @@ pub(crate) struct Faults {
 #[derive(Drop)]
 pub(crate) struct Draft {
     /// The columns that the line adds.
-    pub(crate) added: Vec<Col>,
+    pub(crate) added: ColList,
     /// For each column of the table, and then for each that is added: the first tag or field that names it.
     pub(crate) marks: Vec<Option<usize>>,
     /// What is wrong with the line.
@@ -57,7 +57,7 @@ impl Draft {
     /// Begins without vectors in use.
     pub(crate) fn new(alloc: Global) -> Draft {
         Draft {
-            added: Vec::new(alloc),
+            added: ColList::new(alloc),
             marks: Vec::new(alloc),
             faults: Faults::none(),
             next: 0,
@@ -65,8 +65,8 @@ impl Draft {
         }
     }
 
-    /// Goes over the tags and fields of a line. It costs time linear in them and in the columns of the table, where they
-    /// come in the order of the columns.
+    /// Goes over the tags and fields of a line. It costs time linear in them and in the columns of the table; and where they
+    /// don't come in the order of the columns, or add columns, for each time logarithmic in the number of columns.
     pub(crate) fn draw(
         &mut self,
         alloc: Global,
@@ -77,7 +77,7 @@ impl Draft {
         requires named { AreNamed columns }
         ensures draws { OnOk result (Draws columns.entry row.now.items self.new) }
     {
-        self.begin(columns)?;
+        self.begin(alloc, columns)?;
         for at in 0..row.len() {
             self.take(alloc, columns, row, at)?;
         }
@@ -85,13 +85,13 @@ impl Draft {
     }
 
     /// Begins with a line of a table.
-    fn begin(&mut self, columns: Columns<'_>) -> Result<(), Memory>
+    fn begin(&mut self, alloc: Global, columns: Columns<'_>) -> Result<(), Memory>
         requires usable { Usable columns }
         ensures draws { OnOk result (Draws columns.entry [] self.new) }
     {
-        self.added.clear();
+        self.added = ColList::new(alloc);
         self.marks.clear();
-        for _ in columns.cols {
+        for _ in columns.cols.as_slice() {
             self.marks.push(None)?;
         }
         self.faults = Faults::none();
@@ -114,11 +114,11 @@ impl Draft {
         ensures draws { OnOk result (Draws columns.entry (take (at + 1) row.now.items) self.new) }
     {
         let item = row.item(at);
-        let added = self.added.as_slice();
+        let drawn = self.marks.len();
         let before = place_before(self.places.as_slice(), at);
-        let Seat { place, fair } = seat_of(columns, added, item.name, before, self.next);
+        let Seat { place, fair } = seat_of(columns, &self.added, item.name, before, self.next);
         self.faults.note(item, fair, clashes(columns, place, item));
-        if MAX_COLUMNS < columns.cols.len() + self.added.len() {
+        if MAX_COLUMNS < drawn {
             return Ok(());
         }
         match place {
@@ -196,9 +196,10 @@ struct Seat {
 
 /// Finds the column of a name. Where it stands at the first of two probable places and is spelled so, as it mostly is,
 /// this costs little more than a comparison.
-fn seat_of(columns: Columns<'_>, added: &[Col], name: &[u8], before: usize, next: usize) -> Seat
+fn seat_of(columns: Columns<'_>, added: &ColList, name: &[u8], before: usize, next: usize) -> Seat
     requires usable { Usable columns }
     requires named { AreNamed columns }
+    requires few { length columns.cols.now + length added.now < 2 ^ 64 }
     ensures place { result.place ≡ column_at (columns.entry.cols.now ++ added.now) name.now }
     ensures fair { IsTrue result.fair ↔ IsColumnName name.now }
 {
@@ -223,21 +224,22 @@ fn is_spelled(columns: Columns<'_>, place: usize, name: &[u8]) -> bool
 {
     let cols = columns.cols;
     if place < cols.len() {
-        return cols[place].name.bytes() == name;
+        return cols.get(place).name.bytes() == name;
     }
     false
 }
 
 /// Gives the place of the column of a name among those of a table, and then those that are added. It costs constant time
-/// where that is one of two places, else time linear in the number of columns.
+/// where that is one of two places, else time logarithmic in the number of columns.
 fn place_of(
     columns: Columns<'_>,
-    added: &[Col],
+    added: &ColList,
     name: &[u8],
     before: usize,
     next: usize,
 ) -> Option<usize>
     requires usable { Usable columns }
+    requires few { length columns.cols.now + length added.now < 2 ^ 64 }
     ensures place { result ≡ column_at (columns.entry.cols.now ++ added.now) name.now }
 {
     if is_at(columns, before, name) {
@@ -246,9 +248,9 @@ fn place_of(
     if is_at(columns, next, name) {
         return Some(next);
     }
-    match find(columns.cols, name) {
+    match columns.cols.find(name) {
         Some(place) => Some(place),
-        None => match find(added, name) {
+        None => match added.find(name) {
             Some(place) => Some(columns.cols.len() + place),
             None => None,
         },
@@ -262,16 +264,9 @@ fn is_at(columns: Columns<'_>, place: usize, name: &[u8]) -> bool
 {
     let cols = columns.cols;
     if place < cols.len() {
-        return is_name(cols[place].name.bytes(), name);
+        return is_name(cols.get(place).name.bytes(), name);
     }
     false
-}
-
-/// Gives the place of the column of a name.
-fn find(cols: &[Col], name: &[u8]) -> Option<usize>
-    ensures place { result ≡ column_at cols.now name.now }
-{
-    cols.iter().position(|col| is_name(col.name.bytes(), name))
 }
 
 /// Says whether the value of a tag or a field doesn't fit its column, which has this place among those of the table and
@@ -283,7 +278,7 @@ fn clashes(columns: Columns<'_>, place: Option<usize>, item: ItemView<'_>) -> bo
 {
     match place {
         Some(place) if place < columns.cols.len() => {
-            place != columns.time && !suits(columns.cols[place].kind, item.value)
+            place != columns.time && !suits(columns.cols.get(place).kind, item.value)
         }
         _ => false,
     }
@@ -307,12 +302,12 @@ fn meet(marks: &mut Vec<Option<usize>>, place: usize, at: usize) -> bool
 /// Adds the column of a tag or a field.
 fn add(
     alloc: Global,
-    added: &mut Vec<Col>,
+    added: &mut ColList,
     marks: &mut Vec<Option<usize>>,
     item: ItemView<'_>,
     at: usize,
 ) -> Result<(), Memory>
-    ensures added { OnOk result (added.new.items ≡ added.old.items ++ column_made (item_of item.entry) ∷ []) }
+    ensures added { OnOk result (added.new ≡ added.old ++ column_made (item_of item.entry) ∷ []) }
     ensures marks { OnOk result (marks.new.items ≡ marks.old.items ++ Some at ∷ []) }
 {
     let name = Txt::from_bytes(alloc, item.name)?;

@@ -1,5 +1,5 @@
 //! Tables as the lines of a batch find them.
-ghost use Rattle.std.specs.Prelude.{◌≡◌, ◌<◌, ℕ, List, None, Some, length, option_map, IfSome, IsNone, OnOk};
+ghost use Rattle.std.specs.Prelude.{◌≡◌, ◌<◌, ℕ, List, None, Some, length, option_map, slice_get, IfSome, IsNone, OnOk};
 ghost use Rattle.std.specs.Option.{option_or};
 ghost use Rattle.qd_base.specs.declared.limits.TheConstants.{MAX_TABLES};
 ghost use Rattle.qd_base.specs.declared.op.Op.TheVariants as op;
@@ -21,16 +21,21 @@ pub(crate) struct Overlay<'a> {
     /// The number of tables: those of `base`, and those that lines have made.
     tables: usize,
     /// The table that was sought last, where none was made or changed since.
-    recent: Option<Spot<'a>>,
+    recent: Option<Spot>,
+    /// Tables that were sought, where none was made or changed since: each at the slot of the name that it was sought by.
+    spots: [Option<Spot>; SLOTS],
 }
+
+/// How many tables are recalled at most.
+const SLOTS: usize = 256;
 
 /// Where a table is kept.
 #[derive(Clone, Copy)]
-enum Spot<'a> {
+enum Spot {
     /// At a position among those that lines have made or changed.
     Own(usize),
-    /// Among those that were there before the batch.
-    Base(&'a Schema),
+    /// At a position among those that were there before the batch.
+    Base(usize),
 }
 
 impl<'a> Overlay<'a> {
@@ -43,6 +48,7 @@ impl<'a> Overlay<'a> {
             own: Own::new(alloc),
             tables: base.len(),
             recent: None,
+            spots: [None; SLOTS],
         }
     }
 
@@ -59,16 +65,19 @@ impl<'a> Overlay<'a> {
     pub(crate) fn seek(&mut self, name: &[u8])
         ensures all { (all : List Schema) → Covers self.old all → Covers self.new all }
         ensures recent { (all : List Schema) → Covers self.new all →
-            spotted self.new.own self.new.recent ≡ schema_of all name.now }
+            spotted self.new.own self.new.base.now self.new.recent ≡ schema_of all name.now }
     {
+        let slot = slot_of(name);
+        self.recent = self.spots[slot];
         if self.recalled(name).is_none() {
             self.recent = self.spot(name);
+            self.spots[slot] = self.recent;
         }
     }
 
     /// Lends the schema of the table that was sought last, in constant time.
     pub(crate) fn sought(&self) -> Option<&Schema>
-        ensures schema { option_map (λ s. s.now) result ≡ spotted self.now.own self.now.recent }
+        ensures schema { option_map (λ s. s.now) result ≡ spotted self.now.own self.now.base.now self.now.recent }
     {
         self.at(self.recent)
     }
@@ -90,6 +99,7 @@ impl<'a> Overlay<'a> {
             OnOk result (Covers self.new (schemas_step all (op.Create schema.now))) }
     {
         self.recent = None;
+        self.spots = [None; SLOTS];
         self.own.push(schema.copy()?)?;
         self.tables += 1;
         Ok(())
@@ -102,6 +112,7 @@ impl<'a> Overlay<'a> {
             OnOk result (Covers self.new (schemas_step all (op.AddColumn table.now col.now))) }
     {
         self.recent = None;
+        self.spots = [None; SLOTS];
         let col = col.copy()?;
         match self.own_position(table) {
             Some(i) => self.own.add_column(i, col),
@@ -111,7 +122,7 @@ impl<'a> Overlay<'a> {
 
     /// Lends the table that is recalled, where it is the one of this name.
     fn recalled(&self, name: &[u8]) -> Option<&Schema>
-        ensures recent { IfSome result (λ s. spotted self.now.own self.now.recent ≡ Some s.now) }
+        ensures recent { IfSome result (λ s. spotted self.now.own self.now.base.now self.now.recent ≡ Some s.now) }
         ensures schema { (all : List Schema) → Covers self.now all →
             IfSome result (λ s. schema_of all name.now ≡ Some s.now) }
     {
@@ -122,25 +133,25 @@ impl<'a> Overlay<'a> {
     }
 
     /// Lends the table of a spot.
-    fn at(&self, spot: Option<Spot<'a>>) -> Option<&Schema>
-        ensures schema { option_map (λ s. s.now) result ≡ spotted self.now.own spot.entry }
+    fn at(&self, spot: Option<Spot>) -> Option<&Schema>
+        ensures schema { option_map (λ s. s.now) result ≡ spotted self.now.own self.now.base.now spot }
     {
         match spot {
             None => None,
             Some(Spot::Own(i)) => self.own.get(i),
-            Some(Spot::Base(schema)) => Some(schema),
+            Some(Spot::Base(i)) => schema_at(self.base, i),
         }
     }
 
     /// Says where the table of a name is kept, where there is one.
-    fn spot(&self, name: &[u8]) -> Option<Spot<'a>>
-        ensures schema { spotted self.now.own result ≡
+    fn spot(&self, name: &[u8]) -> Option<Spot>
+        ensures schema { spotted self.now.own self.now.base.now result ≡
             option_or (schema_of self.now.own name.now) (schema_of self.now.base.now name.now) }
     {
         match self.own_position(name) {
             Some(i) => Some(Spot::Own(i)),
-            None => match table_of(self.base, name) {
-                Some(schema) => Some(Spot::Base(schema)),
+            None => match self.base.find(name) {
+                Some(i) => Some(Spot::Base(i)),
                 None => None,
             },
         }
@@ -166,6 +177,27 @@ fn widen(own: &mut Own, base: &Schemas, table: &[u8], col: Col) -> Result<(), Me
         own.push(schema)?;
     }
     Ok(())
+}
+
+/// Lends the schema at a position, where there is one.
+fn schema_at(schemas: &Schemas, i: usize) -> Option<&Schema>
+    ensures schema { option_map (λ s. s.now) result ≡ slice_get schemas.now i }
+{
+    if i < schemas.len() {
+        return Some(schemas.get(i));
+    }
+    None
+}
+
+/// Gives the slot of a name.
+fn slot_of(name: &[u8]) -> usize
+    ensures within { result < SLOTS }
+{
+    let mut sum: u8 = 0;
+    for byte in name {
+        sum = sum.wrapping_mul(17).wrapping_add(*byte);
+    }
+    usize::from(sum)
 }
 
 /// Lends the schema of the table of a name, where there is one.

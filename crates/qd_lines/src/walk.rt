@@ -276,7 +276,7 @@ fn micros_of(moment: Option<u64>) -> u64
 /// Finds what a line finds of its table, which was sought.
 fn place_of<'p>(overlay: &'p Overlay<'_>, stamp: &'p ColList, table: &'p [u8]) -> Place<'p>
     requires stamp { stamp.now ≡ stamp_column ∷ [] }
-    requires sought { (all : List Schema) → Covers overlay.now all → spotted overlay.now.own overlay.now.recent ≡ schema_of all table.now }
+    requires sought { (all : List Schema) → Covers overlay.now all → spotted overlay.now.own overlay.now.base.now overlay.now.recent ≡ schema_of all table.now }
     ensures place { (all : List Schema) (row : Row) → Covers overlay.now all → AreSchemas all → row.table ≡ table.now → IsPlaceOf all row result }
     ensures usable { (all : List Schema) → Covers overlay.now all → AreSchemas all → Usable result.columns }
     ensures named { (all : List Schema) → Covers overlay.now all → AreSchemas all → AreNamed result.columns }
@@ -284,7 +284,7 @@ fn place_of<'p>(overlay: &'p Overlay<'_>, stamp: &'p ColList, table: &'p [u8]) -
     match overlay.sought() {
         Some(schema) => Place {
             columns: Columns {
-                cols: schema.cols.as_slice(),
+                cols: &schema.cols,
                 time: schema.time_col as usize,
             },
             name: schema.name.bytes(),
@@ -293,7 +293,7 @@ fn place_of<'p>(overlay: &'p Overlay<'_>, stamp: &'p ColList, table: &'p [u8]) -
         },
         None => Place {
             columns: Columns {
-                cols: stamp.as_slice(),
+                cols: stamp,
                 time: 0,
             },
             name: table,

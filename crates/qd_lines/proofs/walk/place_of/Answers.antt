@@ -27,20 +27,20 @@ returns-in-Some c =
       place = λ all row covers lawful e.
           let is = ap (schema_of all) e ∙ sym (c.in-Some.ensures.schema ∙ c.requires.sought all covers) in
           record {
-            cols = c.as_slice.ensures.items ∙ ap columns_before (sym is);
-            name = ap (λ (cs : List Col). name_at cs s.time_col) c.as_slice.ensures.items ∙ ap designated (sym is);
+            cols = ap columns_before (sym is);
+            name = ap designated (sym is);
             fresh = ap is_none (sym is);
             spelled = c.bytes.ensures.same ∙ ap (λ (o : Option Schema). spelled_as o row.table) (sym is);
             lawful = λ _. subst IsTableName (sym c.bytes.ensures.same) (schema-there all row.table s lawful is).0.name;
             tables = c.len.ensures.count all covers;
           };
-      usable = λ all covers lawful. subst (λ (cs : List Col). IsUsable cs s.time_col) (sym c.as_slice.ensures.items) (usable-there all c.args.table.now s lawful (sym (c.in-Some.ensures.schema ∙ c.requires.sought all covers)));
-      named = λ all covers lawful. subst (All (λ (x : Col). IsColumnName x.name)) (sym c.as_slice.ensures.items) (schema-there all c.args.table.now s lawful (sym (c.in-Some.ensures.schema ∙ c.requires.sought all covers))).0.names;
+      usable = λ all covers lawful. usable-there all c.args.table.now s lawful (sym (c.in-Some.ensures.schema ∙ c.requires.sought all covers));
+      named = λ all covers lawful. (schema-there all c.args.table.now s lawful (sym (c.in-Some.ensures.schema ∙ c.requires.sought all covers))).0.names;
     }
 
 pub returns-in-None : goal.returns-in-None
 returns-in-None c =
-    let cols = c.as_slice-in-None.ensures.items ∙ c.requires.stamp in
+    let cols = c.requires.stamp in
     record {
       place = λ all row covers lawful e.
           let is = ap (schema_of all) e ∙ sym (c.in-None.ensures.schema ∙ c.requires.sought all covers) in

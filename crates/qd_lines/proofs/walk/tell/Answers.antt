@@ -17,7 +17,7 @@ returns g c =
           let o = schema_of schemas row.table in
           let name = place.name.now in
           let keeps = c.requires.keeps in
-          let added = c.as_slice.ensures.value in
+          let added = c.as_slice.ensures.items in
           let begun = opened place.fresh name c.as_slice.result.now c.args.stamp.now ops in
           let one = c.in_ok-open.ensures.opened ops h in
           let two = c.in_ok-begin_row.ensures.ok begun one in
@@ -25,6 +25,6 @@ returns g c =
           on_ok_weaker c.end_row.result
           (λ k. subst (g.T.OpSink.taken c.end_row.new.self)
           (ap (λ cs. with_row name (row_of o now row) (opened place.fresh name cs c.args.stamp.now ops)) added
-          ∙ told o now row place.fresh name draft.added.items c.args.stamp.now ops p.fresh p.spelled c.requires.stamp (alone_drawn schemas row place draft keeps.0 p c.requires.draws keeps.1) (columns_drawn schemas row place draft keeps.0 p c.requires.draws keeps.1)) k)
+          ∙ told o now row place.fresh name draft.added c.args.stamp.now ops p.fresh p.spelled c.requires.stamp (alone_drawn schemas row place draft keeps.0 p c.requires.draws keeps.1) (columns_drawn schemas row place draft keeps.0 p c.requires.draws keeps.1)) k)
           (c.end_row.ensures.ok (with_row name (row_of o now row) begun) three);
     }

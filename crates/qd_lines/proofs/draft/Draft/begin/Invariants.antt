@@ -4,4 +4,4 @@ use Rattle.qd_lines.proofs.draft.Draft.begin.Given as goal
 
 -- nothing is marked
 abbrev pub invariant-loop : goal.invariant-loop
-invariant-loop l = (l.self.added.items ≡ []) × (l.self.marks.items ≡ map (mark []) (take l.index l.columns.cols.now))
+invariant-loop l = (l.self.added ≡ []) × (l.self.marks.items ≡ map (mark []) (take l.index l.columns.cols.now))

@@ -1,6 +1,5 @@
 use Rattle.std.proofs.Common.{List, ◌++◌, ◌∷◌, [], ◌∙◌, sym, ap, subst₂}
 use Rattle.qd_base.specs.declared.schema.Schema.{Schema}
-use Rattle.qd_lines.specs.declared.own.TableName.{TableName}
 use Rattle.qd_lines.specs.Owned.{AreNames}
 use Rattle.qd_lines.proofs.OverlayLemmas.{named-pushed}
 use Rattle.qd_lines.proofs.own.Own.push.Goals as goal

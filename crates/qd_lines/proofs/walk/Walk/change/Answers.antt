@@ -24,8 +24,8 @@ returns-then-fresh c = record {
       let size : c.len.result ≡ length old.draft.marks.items = omega (arith, c.len.ensures) in
       let schema : Schema = c.in_ok-schema.schema in
       let stamp : c.get.result.now ≡ stamp_column = only_one old.stamp c.get.result.now stamp_column h.stamp c.get.ensures.item in
-      let made : schema ≡ schema_made row.table old.draft.added.items stamp_column =
-      c.in_ok-schema.ensures.schema ∙ ap₂ (λ (t : List ℕ) (cs : List Col). schema_made t cs c.get.result.now) c.table.ensures.table c.as_slice-added.ensures.value ∙ ap (schema_made row.table old.draft.added.items) stamp in
+      let made : schema ≡ schema_made row.table old.draft.added stamp_column =
+      c.in_ok-schema.ensures.schema ∙ ap₂ (λ (t : List ℕ) (cs : List Col). schema_made t cs c.get.result.now) c.table.ensures.table c.as_slice-added.ensures.items ∙ ap (schema_made row.table old.draft.added) stamp in
       let new_name : IsNone (schema_of work.schemas schema.name) = subst (λ (t : List ℕ). IsNone (schema_of work.schemas t)) (ap (λ (s : Schema). s.name) (sym made)) (is_nothing (schema_of work.schemas row.table) (sym c.if-fresh.true ∙ d.fresh_is)) in
       on_ok_weaker c.create.result (walks_fresh work now row old new c.args.fresh h none d (ap (λ (n : ℕ). old.cells + n) size) refl schema c.if-fresh.true made) (c.create.ensures.ok work.schemas h.covers new_name);
 }
@@ -37,7 +37,7 @@ returns-then-is_empty c = record {
       let old : Walk = c.args.self.now in
       let new : Walk = record { alloc = old.alloc; overlay = old.overlay; cells = old.cells + c.len.result; draft = old.draft; stamp = old.stamp } in
       let size : c.len.result ≡ length old.draft.marks.items = omega (arith, c.len.ensures) in
-      walks_same work now row old new c.args.fresh h none d (ap (λ (n : ℕ). old.cells + n) size) refl c.if-fresh.false (sym c.as_slice-added.ensures.value ∙ nil_from_length c.as_slice-added.result.now ((Decides-eqb (length c.as_slice-added.result.now) 0).0 (sym c.is_empty.ensures ∙ c.if-is_empty.true))) h.covers;
+      walks_same work now row old new c.args.fresh h none d (ap (λ (n : ℕ). old.cells + n) size) refl c.if-fresh.false (sym c.as_slice-added.ensures.items ∙ nil_from_length c.as_slice-added.result.now ((Decides-eqb (length c.as_slice-added.result.now) 0).0 (sym c.is_empty.ensures ∙ c.if-is_empty.true))) h.covers;
 }
 
 pub returns : goal.returns
@@ -51,6 +51,6 @@ returns c = record {
       on_ok_weaker c.widen.result
       (λ covers. walks_wider work now row old new c.args.fresh h none d (ap (λ (n : ℕ). old.cells + n) size) refl name c.if-fresh.false
       (λ s found. c.in_ok-name.ensures.name work.schemas s h.covers (ap (schema_of work.schemas) c.table-2.ensures.table ∙ found))
-      (subst (Covers c.widen.new.overlay) (ap₂ (λ (t : List ℕ) (cs : List Col). fold schemas_step work.schemas (map (op.AddColumn t) cs)) c.bytes.ensures.same c.as_slice-added.ensures.value) covers))
+      (subst (Covers c.widen.new.overlay) (ap₂ (λ (t : List ℕ) (cs : List Col). fold schemas_step work.schemas (map (op.AddColumn t) cs)) c.bytes.ensures.same c.as_slice-added.ensures.items) covers))
       (c.widen.ensures.overlay work.schemas h.covers);
 }

@@ -36,7 +36,7 @@ repeats_at [] k lt = absurd (omega arith)
 repeats_at (c ∷ cs) zero lt = refl
 repeats_at (c ∷ cs) (suc k) lt = let e : suc k + 1 ≡ suc (k + 1) = omega arith in rw e (repeats_at cs k (omega arith))
 
-length-repeats : (cs : List ℕ) → length (repeats cs) ≡ length cs
+pub length-repeats : (cs : List ℕ) → length (repeats cs) ≡ length cs
 length-repeats [] = refl
 length-repeats (c ∷ cs) = ap suc (length-repeats cs)
 
@@ -77,15 +77,18 @@ kept_lasts keys (b ∷ bs) (r ∷ rs) e tell =
     let rest : kept bs rs ≡ lasts keys rs = kept_lasts keys bs rs (omega arith) (λ k lt. let shift : suc k + 1 ≡ suc (k + 1) = omega arith in tell (suc k) (omega arith) ∙ ap (λ n. list_any (same_on keys (get_or rs k [])) (drop n (r ∷ rs))) shift) in
     ap (λ d. cond d (kept bs rs) (r ∷ kept bs rs)) first ∙ ap (λ l. cond (list_any (same_on keys r) rs) l (r ∷ l)) rest
 
-pub classes_keep : (keys : List ℕ) (rows : List Row) (classes : List ℕ) → AreClasses keys rows classes → kept (repeats classes) rows ≡ lasts keys rows
-classes_keep keys rows classes are =
-    kept_lasts keys (repeats classes) rows (length-repeats classes ∙ are.count) (λ k lt.
+-- the flag of a row's class says whether an equal stands behind the row
+pub repeats_tell : (keys : List ℕ) (rows : List Row) (classes : List ℕ) → AreClasses keys rows classes → (k : ℕ) → k < length rows → get_or (repeats classes) k false ≡ list_any (same_on keys (get_or rows k [])) (drop (k + 1) rows)
+repeats_tell keys rows classes are k lt =
     let left = length-drop (k + 1) rows in
     let left_classes = length-drop (k + 1) classes in
     let count = are.count in
     repeats_at classes k (omega arith)
     ∙ any_same (λ c. eqb (get_or classes k 0) c) (same_on keys (get_or rows k [])) (drop (k + 1) classes) (drop (k + 1) rows) (omega arith) (λ m low.
-    ap (λ c. eqb (get_or classes k 0) c) (get_or-drop (k + 1) classes m 0) ∙ are.tell k (k + 1 + m) lt (omega arith) ∙ ap (same_on keys (get_or rows k [])) (sym (get_or-drop (k + 1) rows m []))))
+    ap (λ c. eqb (get_or classes k 0) c) (get_or-drop (k + 1) classes m 0) ∙ are.tell k (k + 1 + m) lt (omega arith) ∙ ap (same_on keys (get_or rows k [])) (sym (get_or-drop (k + 1) rows m [])))
+
+pub classes_keep : (keys : List ℕ) (rows : List Row) (classes : List ℕ) → AreClasses keys rows classes → kept (repeats classes) rows ≡ lasts keys rows
+classes_keep keys rows classes are = kept_lasts keys (repeats classes) rows (length-repeats classes ∙ are.count) (repeats_tell keys rows classes are)
 
 -- keys one by one
 pub same_on-more : (keys : List ℕ) (k : ℕ) (a b : Row) → same_on (keys ++ k ∷ []) a b ≡ (same_on keys a b && same_on (k ∷ []) a b)

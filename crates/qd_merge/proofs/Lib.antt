@@ -16,3 +16,6 @@ pub mod Grown
 pub mod Merges
 pub mod Splices
 pub mod Batched
+pub mod Plans
+pub mod Outdating
+pub mod Tables

@@ -4,3 +4,6 @@ pub mod Order
 pub mod Merged
 pub mod Replaced
 pub mod Laws
+pub mod Acts
+pub mod TestTables
+pub mod Outdated

@@ -4,15 +4,19 @@
 
 mod batch;
 mod classes;
+mod dedup;
 mod laws;
 mod merge;
 mod order;
+mod plan;
 mod replaced;
 #[cfg(test)]
 mod tests;
 
 pub use batch::{dedup_batch, sort_batch};
+pub use dedup::dedup_block;
 pub use laws::{
     batches_are_batches, batches_join, keeps_every_row, merged_in_order, merges_one_by_one,
 };
 pub use merge::{Block, merge_block, merge_blocks};
+pub use plan::{Act, ActList, BlockList, plan_merge};

@@ -80,7 +80,12 @@ pub fn merge_blocks(
 }
 
 /// Copies rows of two blocks, in the order of the runs. A column that the first lacks is missing in its rows.
-fn spliced_block(alloc: Global, old: &Block, batch: &Block, runs: &[Run]) -> Result<Block, Memory>
+pub(crate) fn spliced_block(
+    alloc: Global,
+    old: &Block,
+    batch: &Block,
+    runs: &[Run],
+) -> Result<Block, Memory>
     requires kinds { take (length old.now.kinds) batch.now.kinds ≡ old.now.kinds }
     requires time_col { old.now.time_col ≡ batch.now.time_col }
     requires runs { AreRunsOf (length old.now.rows) (length batch.now.rows) runs.now }

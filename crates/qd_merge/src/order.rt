@@ -68,7 +68,12 @@ pub(crate) fn first_from(times: &[u64], from: usize, time: u64) -> usize
 }
 
 /// Adds the rows of the first block from one place up to another that aren't gone.
-fn push_kept(runs: &mut Vec<Run>, gone: &[bool], from: usize, to: usize) -> Result<(), Memory>
+pub(crate) fn push_kept(
+    runs: &mut Vec<Run>,
+    gone: &[bool],
+    from: usize,
+    to: usize,
+) -> Result<(), Memory>
     requires ordered { from ≤ to }
     requires within { to ≤ length gone.now }
     requires runs { All (λ r. r.from ≤ r.to) runs.old.items }

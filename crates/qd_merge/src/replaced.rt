@@ -1,7 +1,6 @@
 //! Which rows of a block the rows of a batch replace.
 ghost use Rattle.std.specs.Prelude.{◌≡◌, ◌==◌, ℕ, ◌<◌, ◌≤◌, ◌++◌, [], false, All, IfOk, OnOk, Contains, length, map, replicate, slice_index_or};
 ghost use Rattle.std.specs.List.{list_any};
-ghost use Rattle.qd_base.specs.Database.{missing};
 ghost use Rattle.qd_merge.specs.Laws.{AreKeys};
 ghost use Rattle.qd_merge.specs.Merged.{with_missing};
 ghost use Rattle.qd_merge.specs.Replaced.{flags_of, group_of, stand_behind, FlagsSoFar};
@@ -9,7 +8,7 @@ ghost use Rattle.qd_merge.specs.Replaced.{flags_of, group_of, stand_behind, Flag
 use crate::classes::classes_of_rows;
 use crate::merge::Block;
 use crate::order::{first_from, first_later};
-use qd_base::{Cell, ColType, KeyList, Memory, Row, RowList};
+use qd_base::{KeyList, Memory, Row, RowList};
 use std::alloc::Global;
 
 /// For each row of a block whether a row of the batch is equal to it on all of the keys, a column that the block lacks
@@ -131,7 +130,7 @@ fn push_marks(gone: &mut Vec<bool>, marks: &[bool], numbers: &[usize]) -> Result
 }
 
 /// Copies some rows of a block, as wide as those of the batch, and behind them some of the batch.
-fn group_rows(
+pub(crate) fn group_rows(
     alloc: Global,
     old: &Block,
     from: usize,
@@ -166,17 +165,7 @@ fn wide_row(alloc: Global, old: &Block, place: usize, batch: &Block) -> Result<R
     old.is_whole();
     let mut row = old.with_cells(place as u64, Row::new(alloc))?;
     for col in old.cols()..batch.cols() {
-        row.push(missing_cell(batch.column(col).kind()))?;
+        row.push(batch.column(col).kind().missing())?;
     }
     Ok(row)
-}
-
-/// What a row holds in a column that it lacks.
-fn missing_cell(kind: ColType) -> Cell
-    ensures cell { result ≡ missing kind }
-{
-    match kind {
-        ColType::Bool => Cell::Bool(false),
-        _ => Cell::Null,
-    }
 }

@@ -1,125 +1,225 @@
 //! Tests of what no clause says: that calls succeed where memory is found. Their answers are compared with rows worked
 //! out by hand, from QuestDB's rules of designated timestamps and deduplication, and with the plain program of `put` on
-//! many small batches with few times and few keys.
-ghost use Rattle.std.specs.Prelude.{◌<◌};
+//! many small tables and batches with few times and few names.
+ghost use Rattle.std.specs.Prelude.{◌≤◌, All, IfOk, length};
+ghost use Rattle.qd_merge.specs.Laws.{AreKeys, IsBatch};
+ghost use Rattle.qd_merge.specs.TestTables.{IsOfTable, IsTable, IsTableRow};
 
-use crate::{dedup_batch, sort_batch};
-use qd_base::{Cell, KeyList, Memory, Row, RowList, Txt};
+mod plans;
+mod samples;
+mod shown;
+
+use crate::{Block, dedup_batch, merge_block, merge_blocks, sort_batch};
+use qd_base::{Cell, KeyList, Memory, RowList, Schema};
 use qd_plain::put_all;
+use samples::{Dice, block, older_block, rows, table};
+use shown::{rows_of, shown};
 use std::alloc::Global;
 use std::process::Abort;
 use std::test::Fail;
 
-/// A row of a moment, a name or NULL, and a number that tells it from others.
-fn row(alloc: Global, time: u64, name: Option<u8>, number: i64) -> Result<Row, Memory> {
-    let name = match name {
-        Some(letter) => Cell::Text(Txt::from_bytes(alloc, &[letter])?),
-        None => Cell::Null,
-    };
-    let mut row = Row::new(alloc);
-    row.push(Cell::Time(time))?;
-    row.push(name)?;
-    row.push(Cell::Long(number))?;
-    Ok(row)
+/// Sorts rows as they came, and takes out those that a later one replaces.
+fn batch_of(alloc: Global, came: RowList, schema: &Schema) -> Result<RowList, Memory>
+    requires table { IsTable schema.now }
+    requires rows { All IsTableRow came }
+    ensures batch { IfOk result (IsBatch 0 schema.now.keys) }
+    ensures rows { IfOk result (All IsTableRow) }
+{
+    let sorted = sort_batch(alloc, came, schema.time_col)?;
+    dedup_batch(alloc, sorted, &schema.keys)
 }
 
-/// The moment and the name as keys, or none.
-fn key_columns(alloc: Global, keyed: bool) -> Result<KeyList, Memory> {
-    let mut keys = KeyList::new(alloc);
-    if keyed {
-        keys.push(0)?;
-        keys.push(1)?;
+/// Merges a batch into a block's rows from `skip` on.
+fn merged(
+    alloc: Global,
+    old: &Block,
+    skip: u64,
+    batch: &RowList,
+    schema: &Schema,
+) -> Result<Block, Memory>
+    requires table { IsTable schema.now }
+    requires old { IsOfTable old.now }
+    requires skip { skip ≤ length old.now.rows }
+    requires rows { All IsTableRow batch.now }
+    requires batch { IsBatch 0 schema.now.keys batch.now }
+    ensures table { IfOk result IsOfTable }
+{
+    merge_block(alloc, old, skip, batch, schema)
+}
+
+/// The same from a block of the batch.
+fn merged_blocks(
+    alloc: Global,
+    old: &Block,
+    skip: u64,
+    batch: &RowList,
+    keys: &KeyList,
+) -> Result<Block, Memory>
+    requires keys { AreKeys 0 keys.now }
+    requires old { IsOfTable old.now }
+    requires skip { skip ≤ length old.now.rows }
+    requires rows { All IsTableRow batch.now }
+    requires batch { IsBatch 0 keys.now batch.now }
+{
+    let batch = block(alloc, batch)?;
+    merge_blocks(alloc, old, skip, &batch, keys)
+}
+
+/// Compares merges of rows into a block, whose rows are these in order of time, with the plain program.
+fn merge_as_put(
+    rt: &impl Abort,
+    alloc: Global,
+    dice: &mut Dice,
+    old: &Block,
+    rows: &RowList,
+    schema: &Schema,
+) -> Result<(), Memory>
+    requires table { IsTable schema.now }
+    requires old { IsOfTable old.now }
+{
+    let skip = dice.below(4).min(old.rows());
+    let came = dice.rows(alloc, 100)?;
+    let left = rows_from(alloc, rows, skip as usize)?;
+    let put = put_all(alloc, &left, came.as_slice(), 0, &schema.keys)?;
+    let put_alone = put_all(
+        alloc,
+        &RowList::new(alloc),
+        came.as_slice(),
+        0,
+        &schema.keys,
+    )?;
+    let batch = batch_of(alloc, came, schema)?;
+    assert_eq!(rt;
+        shown(alloc, &batch)?.as_slice(),
+        shown(alloc, &put_alone)?.as_slice()
+    );
+    let by_rows = merged(alloc, old, skip, &batch, schema)?;
+    let by_blocks = merged_blocks(alloc, old, skip, &batch, &schema.keys)?;
+    let put = shown(alloc, &put)?;
+    assert_eq!(rt;
+        shown(alloc, &rows_of(alloc, &by_rows)?)?.as_slice(),
+        put.as_slice()
+    );
+    assert_eq!(rt;
+        shown(alloc, &rows_of(alloc, &by_blocks)?)?.as_slice(),
+        put.as_slice()
+    );
+    Ok(())
+}
+
+/// Copies rows from a place on.
+fn rows_from(alloc: Global, rows: &RowList, place: usize) -> Result<RowList, Memory> {
+    let mut left = RowList::new(alloc);
+    for i in place..rows.len() {
+        left.push(rows.get(i).copy()?)?;
     }
-    Ok(keys)
+    Ok(left)
 }
 
-/// The numbers of rows, in order.
-fn numbers(alloc: Global, rows: &RowList) -> Result<Vec<i64>, Memory> {
-    let mut numbers = Vec::new(alloc);
+/// Gives rows the columns that they lack: no name, and false.
+fn widened(alloc: Global, rows: &RowList) -> Result<RowList, Memory> {
+    let mut wide = RowList::new(alloc);
     for row in rows.as_slice() {
-        for cell in row.as_slice() {
-            if let Cell::Long(number) = cell {
-                numbers.push(*number)?;
-            }
-        }
+        let mut row = row.copy()?;
+        row.push(Cell::Null)?;
+        row.push(Cell::Bool(false))?;
+        wide.push(row)?;
     }
-    Ok(numbers)
+    Ok(wide)
 }
 
-/// Numbers that look random, the same in each run.
-#[derive(Drop)]
-struct Dice {
-    state: u64,
-}
-
-impl Dice {
-    /// The next number below another.
-    fn below(&mut self, most: u64) -> u64
-        requires { 0 < most }
-        ensures { result < most }
-    {
-        self.state = self
-            .state
-            .wrapping_mul(6_364_136_223_846_793_005)
-            .wrapping_add(1);
-        (self.state >> 33) % most
-    }
-
-    /// Some rows of few times and few names, numbered from 0 on.
-    fn rows(&mut self, alloc: Global) -> Result<RowList, Memory> {
-        let mut rows = RowList::new(alloc);
-        for number in 0..self.below(9) {
-            let time = self.below(3);
-            let name = match self.below(3) {
-                0 => None,
-                letter => Some(letter as u8),
-            };
-            rows.push(row(alloc, time, name, number as i64)?)?;
-        }
-        Ok(rows)
-    }
+/// Rows in order of time.
+fn in_order(alloc: Global, rows: &RowList) -> Result<RowList, Memory> {
+    let none = RowList::new(alloc);
+    put_all(alloc, &none, rows.as_slice(), 0, &KeyList::new(alloc))
 }
 
 #[test]
 fn the_last_of_equal_keys_stays(rt: HostRuntime) -> Result<(), Fail> {
     let alloc = rt.alloc();
-    let mut rows = RowList::new(alloc);
-    rows.push(row(alloc, 1_000_000, Some(b'a'), 1)?)?;
-    rows.push(row(alloc, 1_000_000, Some(b'b'), 2)?)?;
-    rows.push(row(alloc, 1_000_000, Some(b'a'), 3)?)?;
-    let sorted = sort_batch(alloc, rows, 0)?;
-    let batch = dedup_batch(alloc, sorted, &key_columns(alloc, true)?)?;
-    assert_eq!(rt; numbers(alloc, &batch)?.as_slice(), [2, 3].as_slice());
+    let schema = table(alloc, true)?;
+    let came = rows(alloc, &[(1, 1, b'a'), (1, 2, b'b'), (1, 3, b'a')])?;
+    let batch = batch_of(alloc, came, &schema)?;
+    assert_eq!(rt;
+        shown(alloc, &batch)?.as_slice(),
+        [(1, 2, b'b', false), (1, 3, b'a', true)].as_slice()
+    );
+    let old = rows(alloc, &[(0, 9, b'a'), (1, 7, b'b'), (2, 8, b'a')])?;
+    let merged = merged(alloc, &block(alloc, &old)?, 0, &batch, &schema)?;
+    assert_eq!(rt;
+        shown(alloc, &rows_of(alloc, &merged)?)?.as_slice(),
+        [
+            (0, 9, b'a', true),
+            (1, 2, b'b', false),
+            (1, 3, b'a', true),
+            (2, 8, b'a', false)
+        ]
+        .as_slice()
+    );
     Ok(())
 }
 
 #[test]
 fn rows_of_one_time_keep_the_order_in_which_they_came(rt: HostRuntime) -> Result<(), Fail> {
     let alloc = rt.alloc();
-    let mut rows = RowList::new(alloc);
-    rows.push(row(alloc, 10_000_000, Some(b'a'), 1)?)?;
-    rows.push(row(alloc, 10_000_000, Some(b'a'), 2)?)?;
-    rows.push(row(alloc, 9_000_000, Some(b'a'), 3)?)?;
-    let sorted = sort_batch(alloc, rows, 0)?;
-    let batch = dedup_batch(alloc, sorted, &key_columns(alloc, false)?)?;
-    assert_eq!(rt; numbers(alloc, &batch)?.as_slice(), [3, 1, 2].as_slice());
+    let schema = table(alloc, false)?;
+    let came = rows(alloc, &[(10, 1, b'a'), (10, 2, b'a'), (9, 3, b'a')])?;
+    let batch = batch_of(alloc, came, &schema)?;
+    assert_eq!(rt;
+        shown(alloc, &batch)?.as_slice(),
+        [
+            (9, 3, b'a', true),
+            (10, 1, b'a', true),
+            (10, 2, b'a', false)
+        ]
+        .as_slice()
+    );
+    let old = rows(alloc, &[(10, 4, b'a'), (11, 5, b'a')])?;
+    let merged = merged(alloc, &block(alloc, &old)?, 0, &batch, &schema)?;
+    assert_eq!(rt;
+        shown(alloc, &rows_of(alloc, &merged)?)?.as_slice(),
+        [
+            (9, 3, b'a', true),
+            (10, 4, b'a', false),
+            (10, 1, b'a', true),
+            (10, 2, b'a', false),
+            (11, 5, b'a', true)
+        ]
+        .as_slice()
+    );
     Ok(())
 }
 
 #[test]
-fn batches_are_those_of_the_plain_program(rt: HostRuntime) -> Result<(), Fail> {
+fn batches_and_merges_are_those_of_the_plain_program(rt: HostRuntime) -> Result<(), Fail> {
     let alloc = rt.alloc();
-    let mut dice = Dice { state: 1 };
+    let mut dice = Dice::new();
     for case in 0..1000 {
-        let keys = key_columns(alloc, case % 2 == 0)?;
-        let rows = dice.rows(alloc)?;
-        let put = put_all(alloc, &RowList::new(alloc), rows.as_slice(), 0, &keys)?;
-        let sorted = sort_batch(alloc, rows, 0)?;
-        let batch = dedup_batch(alloc, sorted, &keys)?;
-        assert_eq!(rt;
-            numbers(alloc, &batch)?.as_slice(),
-            numbers(alloc, &put)?.as_slice()
-        );
+        let schema = table(alloc, case % 2 == 0)?;
+        let rows = dice.rows(alloc, 0)?;
+        let old = block(alloc, &rows)?;
+        merge_as_put(
+            &rt,
+            alloc,
+            &mut dice,
+            &old,
+            &in_order(alloc, &rows)?,
+            &schema,
+        )?;
+    }
+    Ok(())
+}
+
+#[test]
+fn rows_that_lack_columns_are_merged_as_wider_ones(rt: HostRuntime) -> Result<(), Fail> {
+    let alloc = rt.alloc();
+    let mut dice = Dice::new();
+    for case in 0..200 {
+        let schema = table(alloc, case % 2 == 0)?;
+        let rows = dice.older_rows(alloc)?;
+        let old = older_block(alloc, &rows)?;
+        let rows = widened(alloc, &in_order(alloc, &rows)?)?;
+        merge_as_put(&rt, alloc, &mut dice, &old, &rows, &schema)?;
     }
     Ok(())
 }

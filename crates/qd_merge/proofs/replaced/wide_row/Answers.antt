@@ -17,7 +17,7 @@ loop-col-preserved c =
     let col : ℕ = c.loop-col.col in
     let from : ℕ = length c.args.old.now.kinds in
     let kind_is : c.kind.result ≡ get_or kinds col kind.Time = c.kind.ensures.kind ∙ ap (λ (x : CellsOf). x.kind) c.column.ensures.column in
-    wide_next kinds row c.loop-col.row _ from col c.kind.result kind.Time c.missing_cell.result (omega (arith, c.cols-col.ensures.count)) (omega (arith, c.cols-col-end.ensures.count)) c.loop-col.invariant kind_is c.missing_cell.ensures.cell c.in_ok-push.ensures.ok
+    wide_next kinds row c.loop-col.row _ from col c.kind.result kind.Time c.missing.result (omega (arith, c.cols-col.ensures.count)) (omega (arith, c.cols-col-end.ensures.count)) c.loop-col.invariant kind_is c.missing.ensures.cell c.in_ok-push.ensures.ok
 
 pub returns : goal.returns
 returns c =

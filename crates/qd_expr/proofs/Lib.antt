@@ -1,0 +1,5 @@
+pub mod CellLemmas
+pub mod ListLemmas
+pub mod RunLemmas
+pub mod FilterLemmas
+pub mod IdLemmas

@@ -1,0 +1,336 @@
+//! Tests over the neighbouring rows of a block: one level of a test at a time, each as a loop over the whole run.
+ghost use Rattle.std.specs.Prelude.{◌≡◌, ◌-◌, ◌&&◌, None, IfOk, IfSome, length, map};
+ghost use Rattle.std.specs.List.{zip};
+ghost use Rattle.qd_base.specs.Rows.{cell_at as cell_of_col};
+ghost use Rattle.qd_expr.specs.Passing.{all_in_run, any_in_run, passes_at, passes_in_run};
+ghost use Rattle.qd_rows.specs.Runs.{places_of_run};
+ghost use Rattle.qd_rows.specs.Sets.{row_of_place, IsPlaced, IsRunOf};
+ghost use Rattle.qd_value.specs.Cells as spec;
+ghost use Rattle.qd_value.specs.Scalars.{cell_of};
+ghost use Rattle.qd_value.specs.Value as meaning;
+
+use crate::cells::Joined;
+use crate::columns::{both, compared, compared_by_row, either, nulls, opposite, within};
+use crate::on_set::test_at;
+use qd_base::{Dictionary, Memory};
+use qd_rows::{RowSet, Run};
+use qd_value::{Bound, Comparison, Scalar};
+use std::alloc::Global;
+
+/// Whether each row of a run passes a test, in order.
+///
+/// AND, OR and NOT go over lists of truths, a byte a row. A comparison of a column with a literal, and a time in an
+/// interval, go over the numbers that the column is kept as; a SYMBOL column is compared by the id of the text, which is
+/// looked up once. Any other test is done row by row, in the time of `test`. It takes a byte of memory a row for each
+/// level of the test's depth, and calls itself once for each.
+#[cycle(truths)]
+pub fn truths<D: Dictionary>(
+    alloc: Global,
+    expr: &Bound,
+    rows: &RowSet<D>,
+    run: Run,
+) -> Result<Vec<bool>, Memory>
+    requires { IsRunOf rows.now run }
+    ensures truths { IfOk result (λ v. v.items ≡ passes_in_run expr.now rows.now run) }
+{
+    match expr {
+        Bound::Not(x) => {
+            let found = truths(alloc, x.get(), rows, run)?;
+            opposite(alloc, found.as_slice())
+        }
+        Bound::All(xs) => all(alloc, xs.as_slice(), rows, run),
+        Bound::Any(xs) => any(alloc, xs.as_slice(), rows, run),
+        _ => leaf(alloc, expr, rows, run),
+    }
+}
+
+/// Whether each row of a run passes all of some tests.
+#[cycle(truths)]
+fn all<D: Dictionary>(
+    alloc: Global,
+    tests: &[Bound],
+    rows: &RowSet<D>,
+    run: Run,
+) -> Result<Vec<bool>, Memory>
+    requires { IsRunOf rows.now run }
+    ensures truths { IfOk result (λ v. v.items ≡ all_in_run tests.now rows.now run) }
+{
+    let mut found = Vec::from_elem(alloc, true, (run.to - run.from) as usize)?;
+    for test in tests {
+        if has_tests(test) {
+            let more = truths(alloc, test, rows, run)?;
+            found = both(alloc, found.as_slice(), more.as_slice())?;
+        } else {
+            found = also(alloc, found.as_slice(), test, rows, run)?;
+        }
+    }
+    Ok(found)
+}
+
+/// Whether each row of a run passes one of some tests.
+#[cycle(truths)]
+fn any<D: Dictionary>(
+    alloc: Global,
+    tests: &[Bound],
+    rows: &RowSet<D>,
+    run: Run,
+) -> Result<Vec<bool>, Memory>
+    requires { IsRunOf rows.now run }
+    ensures truths { IfOk result (λ v. v.items ≡ any_in_run tests.now rows.now run) }
+{
+    let mut found = Vec::from_elem(alloc, false, (run.to - run.from) as usize)?;
+    for test in tests {
+        let more = truths(alloc, test, rows, run)?;
+        found = either(alloc, found.as_slice(), more.as_slice())?;
+    }
+    Ok(found)
+}
+
+/// Whether there are tests in a test.
+fn has_tests(test: &Bound) -> bool {
+    matches!(test, Bound::Not(_) | Bound::All(_) | Bound::Any(_))
+}
+
+/// Whether a truth is true and the row of a run passes a test without further tests in it, for each row. Where the test
+/// is done row by row, it is left out at rows whose truth is false.
+fn also<D: Dictionary>(
+    alloc: Global,
+    found: &[bool],
+    test: &Bound,
+    rows: &RowSet<D>,
+    run: Run,
+) -> Result<Vec<bool>, Memory>
+    requires there { IsRunOf rows.now run }
+    requires size { length found.now ≡ run.to - run.from }
+    ensures truths { IfOk result (λ v. v.items ≡ map (λ p. p.0 && p.1) (zip found.now (passes_in_run test.now rows.now run))) }
+{
+    match by_column(alloc, test, rows, run)? {
+        Some(more) => both(alloc, found, more.as_slice()),
+        None => also_by_row(alloc, found, test, rows, run),
+    }
+}
+
+/// Tests the rows of a run whose truth is true.
+fn also_by_row<D: Dictionary>(
+    alloc: Global,
+    found: &[bool],
+    test: &Bound,
+    rows: &RowSet<D>,
+    run: Run,
+) -> Result<Vec<bool>, Memory>
+    requires there { IsRunOf rows.now run }
+    requires size { length found.now ≡ run.to - run.from }
+    ensures truths { IfOk result (λ v. v.items ≡ map (λ p. p.0 && p.1) (zip found.now (passes_in_run test.now rows.now run))) }
+{
+    let mut kept = Vec::with_capacity(alloc, found.len())?;
+    for (k, so_far) in found.iter().enumerate() {
+        let place = (run.block, run.from + k as u64);
+        kept.push(also_at(*so_far, test, rows, (place, None)))?;
+    }
+    Ok(kept)
+}
+
+/// Whether a truth is true and the row of a place passes a test.
+fn also_at<D: Dictionary>(so_far: bool, test: &Bound, rows: &RowSet<D>, place: Joined) -> bool
+    requires { IsPlaced rows.now place }
+    ensures { result ≡ (so_far && passes_at test.now rows.now place) }
+{
+    so_far && test_at(test, rows, place)
+}
+
+/// Whether each row of a run passes a test without further tests in it.
+fn leaf<D: Dictionary>(
+    alloc: Global,
+    expr: &Bound,
+    rows: &RowSet<D>,
+    run: Run,
+) -> Result<Vec<bool>, Memory>
+    requires { IsRunOf rows.now run }
+    ensures truths { IfOk result (λ v. v.items ≡ passes_in_run expr.now rows.now run) }
+{
+    match by_column(alloc, expr, rows, run)? {
+        Some(found) => Ok(found),
+        None => row_by_row(alloc, expr, rows, run),
+    }
+}
+
+/// Tests the rows of a run one after another.
+fn row_by_row<D: Dictionary>(
+    alloc: Global,
+    expr: &Bound,
+    rows: &RowSet<D>,
+    run: Run,
+) -> Result<Vec<bool>, Memory>
+    requires { IsRunOf rows.now run }
+    ensures truths { IfOk result (λ v. v.items ≡ passes_in_run expr.now rows.now run) }
+{
+    let mut found = Vec::with_capacity(alloc, (run.to - run.from) as usize)?;
+    for i in run.from..run.to {
+        found.push(test_at(expr, rows, ((run.block, i), None)))?;
+    }
+    Ok(found)
+}
+
+/// Whether each row of a run passes a test of one column; `None` where the test has no loop of its own.
+fn by_column<D: Dictionary>(
+    alloc: Global,
+    expr: &Bound,
+    rows: &RowSet<D>,
+    run: Run,
+) -> Result<Option<Vec<bool>>, Memory>
+    requires { IsRunOf rows.now run }
+    ensures truths { IfOk result (λ found. IfSome found (λ v. v.items ≡ passes_in_run expr.now rows.now run)) }
+{
+    match expr {
+        Bound::Compare(op, x, y) => comparison(alloc, *op, x.get(), y.get(), rows, run),
+        Bound::InInterval(x, lo, hi) => interval(alloc, x.get(), *lo, *hi, rows, run),
+        Bound::IsNull(x) => null(alloc, x.get(), rows, run),
+        _ => Ok(None),
+    }
+}
+
+/// A comparison: of a column with a literal, or with a column.
+fn comparison<D: Dictionary>(
+    alloc: Global,
+    op: Comparison,
+    x: &Bound,
+    y: &Bound,
+    rows: &RowSet<D>,
+    run: Run,
+) -> Result<Option<Vec<bool>>, Memory>
+    requires { IsRunOf rows.now run }
+    ensures truths { IfOk result (λ found. IfSome found (λ v. v.items ≡ map (λ p. spec.compares op (meaning.value x.now (row_of_place rows.now (p, None))) (meaning.value y.now (row_of_place rows.now (p, None)))) (places_of_run run))) }
+{
+    match x {
+        Bound::Column(at) => match y {
+            Bound::Literal(cell) => column_compared(alloc, rows, run, *at, op, Scalar::of(cell)),
+            Bound::Column(other) => columns_compared(alloc, rows, run, *at, *other, op),
+            _ => Ok(None),
+        },
+        _ => Ok(None),
+    }
+}
+
+/// A time in an interval: that of a column.
+fn interval<D: Dictionary>(
+    alloc: Global,
+    x: &Bound,
+    lo: u64,
+    hi: u64,
+    rows: &RowSet<D>,
+    run: Run,
+) -> Result<Option<Vec<bool>>, Memory>
+    requires { IsRunOf rows.now run }
+    ensures truths { IfOk result (λ found. IfSome found (λ v. v.items ≡ map (λ p. spec.is_within lo hi (meaning.value x.now (row_of_place rows.now (p, None)))) (places_of_run run))) }
+{
+    match x {
+        Bound::Column(at) => column_within(alloc, rows, run, *at, lo, hi),
+        _ => Ok(None),
+    }
+}
+
+/// Whether there is no value: in a column.
+fn null<D: Dictionary>(
+    alloc: Global,
+    x: &Bound,
+    rows: &RowSet<D>,
+    run: Run,
+) -> Result<Option<Vec<bool>>, Memory>
+    requires { IsRunOf rows.now run }
+    ensures truths { IfOk result (λ found. IfSome found (λ v. v.items ≡ map (λ p. spec.is_null (meaning.value x.now (row_of_place rows.now (p, None)))) (places_of_run run))) }
+{
+    match x {
+        Bound::Column(at) => column_null(alloc, rows, run, *at),
+        _ => Ok(None),
+    }
+}
+
+/// The column of a run's block against a literal; `None` where the block lacks the column.
+fn column_compared<D: Dictionary>(
+    alloc: Global,
+    rows: &RowSet<D>,
+    run: Run,
+    at: usize,
+    op: Comparison,
+    literal: Scalar<'_>,
+) -> Result<Option<Vec<bool>>, Memory>
+    requires { IsRunOf rows.now run }
+    ensures truths { IfOk result (λ found. IfSome found (λ v. v.items ≡ map (λ p. spec.compares op (cell_of_col (row_of_place rows.now (p, None)) at) (cell_of literal.entry)) (places_of_run run))) }
+{
+    let block = rows.block(run.block);
+    block.is_whole();
+    if block.cols() as usize <= at {
+        return Ok(None);
+    }
+    let column = block.column(at as u32);
+    compared(
+        alloc,
+        column,
+        run.from as usize,
+        run.to as usize,
+        op,
+        literal,
+    )
+}
+
+/// The column of a run's block in an interval; `None` where the block lacks the column.
+fn column_within<D: Dictionary>(
+    alloc: Global,
+    rows: &RowSet<D>,
+    run: Run,
+    at: usize,
+    lo: u64,
+    hi: u64,
+) -> Result<Option<Vec<bool>>, Memory>
+    requires { IsRunOf rows.now run }
+    ensures truths { IfOk result (λ found. IfSome found (λ v. v.items ≡ map (λ p. spec.is_within lo hi (cell_of_col (row_of_place rows.now (p, None)) at)) (places_of_run run))) }
+{
+    let block = rows.block(run.block);
+    block.is_whole();
+    if block.cols() as usize <= at {
+        return Ok(None);
+    }
+    let column = block.column(at as u32);
+    within(alloc, column, run.from as usize, run.to as usize, lo, hi)
+}
+
+/// Where the column of a run's block is NULL; `None` where the block lacks the column.
+fn column_null<D: Dictionary>(
+    alloc: Global,
+    rows: &RowSet<D>,
+    run: Run,
+    at: usize,
+) -> Result<Option<Vec<bool>>, Memory>
+    requires { IsRunOf rows.now run }
+    ensures truths { IfOk result (λ found. IfSome found (λ v. v.items ≡ map (λ p. spec.is_null (cell_of_col (row_of_place rows.now (p, None)) at)) (places_of_run run))) }
+{
+    let block = rows.block(run.block);
+    block.is_whole();
+    if block.cols() as usize <= at {
+        return Ok(None);
+    }
+    let column = block.column(at as u32);
+    nulls(alloc, column, run.from as usize, run.to as usize)
+}
+
+/// Two columns of a run's block against one another; `None` where the block lacks one of them.
+fn columns_compared<D: Dictionary>(
+    alloc: Global,
+    rows: &RowSet<D>,
+    run: Run,
+    at: usize,
+    other: usize,
+    op: Comparison,
+) -> Result<Option<Vec<bool>>, Memory>
+    requires { IsRunOf rows.now run }
+    ensures truths { IfOk result (λ found. IfSome found (λ v. v.items ≡ map (λ p. spec.compares op (cell_of_col (row_of_place rows.now (p, None)) at) (cell_of_col (row_of_place rows.now (p, None)) other)) (places_of_run run))) }
+{
+    let block = rows.block(run.block);
+    block.is_whole();
+    if block.cols() as usize <= at || block.cols() as usize <= other {
+        return Ok(None);
+    }
+    let x = block.column(at as u32);
+    let y = block.column(other as u32);
+    compared_by_row(alloc, x, y, run.from as usize, run.to as usize, op)
+}

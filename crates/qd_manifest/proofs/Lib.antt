@@ -1,0 +1,6 @@
+pub mod Steps
+pub mod NameLemmas
+pub mod SchemaLaws
+pub mod PartLaws
+pub mod ManifestLaws
+pub mod WriteLaws

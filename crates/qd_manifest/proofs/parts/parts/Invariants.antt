@@ -1,0 +1,12 @@
+use Rattle.std.proofs.Common.{◌≡◌, ◌-◌, [], ◌++◌}
+use Rattle.indexmap.specs.IndexSet.{keys}
+use Rattle.qd_manifest.specs.Spelling.{blocks_in}
+use Rattle.qd_manifest.specs.Layout.{items, part_in}
+use Rattle.qd_manifest.proofs.parts.parts.Given as goal
+
+-- what is read so far, and then what is left, is all; and the blocks of what is read are named
+abbrev pub invariant-loop : goal.invariant-loop
+invariant-loop l = record {
+  read : items (part_in l.next (keys l.fn.named) l.schema) (l.count - l.counter) l.parts l.rest ≡ items (part_in l.next (keys l.fn.named) l.schema) l.count [] l.bytes;
+  named : keys l.named ≡ keys l.fn.named ++ blocks_in l.parts;
+}

@@ -1,0 +1,93 @@
+//! The parts of tables read from bytes.
+ghost use Rattle.std.specs.Prelude.{◌≡◌, [], ◌++◌, IfOk};
+ghost use Rattle.indexmap.specs.IndexSet.{keys};
+ghost use Rattle.qd_manifest.specs.Spelling.{blocks_in};
+ghost use Rattle.qd_manifest.specs.Layout.{items, part_from, part_in, parts_from};
+ghost use Rattle.qd_manifest.specs.Reading.{Gives};
+
+use crate::checks::{may_be_block, may_be_width, may_begin, may_end};
+use crate::fault::Stop;
+use crate::fields::{damage, half_at, word_at};
+use indexmap::IndexSet;
+use qd_base::{Part, PartList, Schema};
+use std::alloc::Global;
+
+/// The parts of a table. Their blocks are put to those that tables before it name.
+#[tactic(auto, unfolding(crate::specs::Layout::parts_from))]
+pub(crate) fn parts_from<'a>(
+    alloc: Global,
+    next: u64,
+    named: &mut IndexSet<u64>,
+    schema: &Schema,
+    bytes: &'a [u8],
+) -> Result<(PartList, &'a [u8]), Stop>
+    ensures read { Gives (λ x. (x.0, x.1.now)) result (parts_from next (keys named.old) schema.now bytes.now) }
+    ensures named { IfOk result (λ x. keys named.new ≡ keys named.old ++ blocks_in x.0) }
+{
+    let (count, rest) = word_at(bytes)?;
+    parts(alloc, count, next, named, schema, rest)
+}
+
+/// So many parts.
+fn parts<'a>(
+    alloc: Global,
+    count: u64,
+    next: u64,
+    named: &mut IndexSet<u64>,
+    schema: &Schema,
+    bytes: &'a [u8],
+) -> Result<(PartList, &'a [u8]), Stop>
+    ensures read { Gives (λ x. (x.0, x.1.now)) result (items (part_in next (keys named.old) schema.now) count [] bytes.now) }
+    ensures named { IfOk result (λ x. keys named.new ≡ keys named.old ++ blocks_in x.0) }
+{
+    let mut parts = PartList::new(alloc);
+    let mut rest = bytes;
+    for _ in 0..count {
+        let (part, after) = part_from(next, named, schema, parts.as_slice(), rest)?;
+        named.insert(part.block)?;
+        parts.push(part)?;
+        rest = after;
+    }
+    Ok((parts, rest))
+}
+
+/// A part, by the blocks that are taken and by the parts before.
+#[tactic(auto, unfolding(crate::specs::Layout::part_from))]
+fn part_from<'a>(
+    next: u64,
+    taken: &IndexSet<u64>,
+    schema: &Schema,
+    before: &[Part],
+    bytes: &'a [u8],
+) -> Result<(Part, &'a [u8]), Stop>
+    ensures read { Gives (λ x. (x.0, x.1.now)) result (part_from next (keys taken.now) schema.now before.now bytes.now) }
+{
+    let (block, after_block) = word_at(bytes)?;
+    if !may_be_block(next, taken, block) {
+        return Err(damage(bytes));
+    }
+    let (rows, after_rows) = word_at(after_block)?;
+    if rows == 0 {
+        return Err(damage(after_block));
+    }
+    let (cols, after_cols) = half_at(after_rows)?;
+    if !may_be_width(schema, cols) {
+        return Err(damage(after_rows));
+    }
+    let (lo, after_lo) = word_at(after_cols)?;
+    if !may_begin(before, lo) {
+        return Err(damage(after_cols));
+    }
+    let (hi, rest) = word_at(after_lo)?;
+    if !may_end(schema.unit, lo, hi) {
+        return Err(damage(after_lo));
+    }
+    let part = Part {
+        block,
+        rows,
+        cols: cols as u32,
+        lo,
+        hi,
+    };
+    Ok((part, rest))
+}

@@ -1,0 +1,17 @@
+//! The catalogue of versions: which versions are live, which blocks they list, and which blocks no live version lists any
+//! more.
+//!
+//! The definitions stand in `specs/Versions`.
+#![tactic(auto)]
+
+mod blocks;
+mod catalog;
+mod rows;
+mod tables;
+#[cfg(test)]
+mod tests;
+mod version;
+
+pub use catalog::{Catalog, ROWS};
+pub use qd_manifest::{ManifestFault as CatFault, manifest_of};
+pub use version::Version;

@@ -1,0 +1,5 @@
+-- Lemmas that the proofs of this crate share, and those of the crates above it.
+pub mod Standing
+pub mod Named
+pub mod Moved
+pub mod Writes

@@ -1,0 +1,7 @@
+-- Lemmas that the proofs of this crate share.
+pub mod Ranges
+pub mod Decimals
+pub mod Lines
+pub mod Batches
+pub mod Inputs
+pub mod Framing

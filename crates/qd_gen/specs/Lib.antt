@@ -1,0 +1,5 @@
+-- The definitions that the contracts of this crate cite.
+pub mod Generated
+pub mod Stretches
+pub mod Examples
+pub mod Framed

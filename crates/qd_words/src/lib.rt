@@ -1,0 +1,15 @@
+//! The words of a command line, and the command that they ask for.
+//!
+//! `specs/Words` says which words ask for which command.
+#![tactic(auto)]
+
+mod command;
+mod laws;
+mod number;
+mod reading;
+#[cfg(test)]
+mod tests;
+
+pub use command::{Command, MAX_GEN_LINES};
+pub use laws::words_ask_for_one;
+pub use reading::read_words;

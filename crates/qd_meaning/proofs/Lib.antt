@@ -1,0 +1,17 @@
+mod RefusalLemmas
+mod AnswerLemmas
+mod LimitLemmas
+mod NameLemmas
+mod ColumnLemmas
+mod TimeLemmas
+mod NameRuleLemmas
+mod PlanLemmas
+mod BindingLemmas
+mod OperatorChecks
+mod WriteChecks
+mod TreeLemmas
+mod QueryChecks
+mod AnswerChecks
+mod SoonLemmas
+mod TypeChecks
+mod ListLemmas

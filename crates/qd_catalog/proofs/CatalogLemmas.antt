@@ -40,6 +40,11 @@ room_seen c shape left e =
     let inside : length (new_in (get nat_eq c.kept) (blocks_of shape)) ≤ min (spare c.kept) (deque_capacity c.retired - index_map_len c.kept) = omega arith in
     subst (λ (bs : List ℕ). length bs ≤ min (spare c.kept) (deque_capacity c.retired - index_map_len c.kept)) (sym (new_in_entries c.kept.entries (blocks_of shape))) inside
 
+pub room_needed : (c : Inside) (shape : List TableParts) → length (new_blocks (versions_of c) shape) ≤ (versions_of c).spare → length (new_in (get nat_eq c.kept) (blocks_of shape)) ≤ min (index_map_len c.kept + spare c.kept) (deque_capacity c.retired) - index_map_len c.kept
+room_needed c shape few =
+    let inside : length (new_in (get nat_eq c.kept) (blocks_of shape)) ≤ min (spare c.kept) (deque_capacity c.retired - index_map_len c.kept) = subst (λ (bs : List ℕ). length bs ≤ min (spare c.kept) (deque_capacity c.retired - index_map_len c.kept)) (new_in_entries c.kept.entries (blocks_of shape)) few in
+    omega (arith, inside)
+
 -- ---- a version that is added
 
 module _ (c d : Inside) (n row : ℕ) (shape : List TableParts) (good : IsCatalog c) (may : MayAdd (versions_of c) n shape) (within : row < length c.versions.items) (free : get_or c.versions.items row None ≡ None) (listed : ListsAll (get nat_eq c.kept) (get nat_eq d.kept) row (parts_of shape)) (rows : d.versions.items ≡ set c.versions.items row (Some (record { n = n; shape = shape }))) (newest : d.current ≡ row) (queue : d.retired ≡ c.retired) where

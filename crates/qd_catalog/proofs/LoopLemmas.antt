@@ -1,8 +1,8 @@
 -- Steps of loops over parts and over tables.
 use Rattle.std.proofs.Common.{◌≡◌, ℕ, zero, suc, ◌+◌, ◌^◌, ◌<◌, ◌≤◌, max, Bool, true, false, cond, not, nat_eq, List, [], ◌∷◌, ◌++◌, length, map, get_or, take, drop, fold, All, Contains, Option, Some, None, is_some, refl, sym, ap, subst, ◌∙◌, inl, inr, append-nil, append_assoc, arith}
 use Rattle.std.specs.List.{list_any, flat_map}
-use Rattle.std.proofs.lemmas.List.{take_more, drop_more, map-append, length-append, length-map}
-use Rattle.std.proofs.lemmas.List.Elements.{All-nil, All-cons, All-head, All-tail, Contains-push_cases, Contains-append_cases}
+use Rattle.std.proofs.lemmas.List.{take_more, drop_more, take-append-drop, map-append, length-append, length-map}
+use Rattle.std.proofs.lemmas.List.Elements.{All-nil, All-cons, All-head, All-tail, Contains-push_cases, Contains-append_cases, Contains-append_left, Contains-append_right}
 use Rattle.qd_base.specs.declared.part.Part.{Part}
 use Rattle.qd_manifest.specs.declared.shape.TableParts.{TableParts}
 use Rattle.qd_manifest.specs.Spelling.{blocks_in, blocks_of}
@@ -110,3 +110,33 @@ pub small_table : (tables : List TableParts) (i : ℕ) (t : TableParts) → i < 
 small_table [] i t lt at h = absurd (omega (arith, lt))
 small_table (x ∷ tables) zero t lt at h = subst (λ (y : TableParts). All (λ b. b + 1 < 2 ^ 64) (blocks_in y.parts)) (sym at) (all_left (λ b. b + 1 < 2 ^ 64) (blocks_in x.parts) (blocks_of tables) h)
 small_table (x ∷ tables) (suc i) t lt at h = small_table tables i t (omega (arith, lt)) at (all_right (λ b. b + 1 < 2 ^ 64) (blocks_in x.parts) (blocks_of tables) h)
+
+-- what all blocks need, the blocks at one place need
+module _ (parts : List Part) (i : ℕ) (d : Part) (lt : i < length parts) where
+  abbrev block : ℕ
+  block = (get_or parts i d).block
+
+  parts_split : blocks_in parts ≡ blocks_in (take (i + 1) parts) ++ blocks_in (drop (i + 1) parts)
+  parts_split = ap blocks_in (sym (take-append-drop (i + 1) parts)) ∙ map-append (λ (x : Part). x.block) (take (i + 1) parts) (drop (i + 1) parts)
+
+  pub room_at : (kept : ℕ → Option Kept) → length (new_in kept (blocks_in (take i parts))) + cond (is_some (kept block)) 0 1 ≤ length (new_in kept (blocks_in parts))
+  room_at kept =
+      let all = ap (λ (bs : List ℕ). length (new_in kept bs)) parts_split ∙ new_in-append kept (blocks_in (take (i + 1) parts)) (blocks_in (drop (i + 1) parts)) in
+      let one = ap (λ (bs : List ℕ). length (new_in kept bs)) (blocks_more parts i d lt) ∙ new_in_push kept (blocks_in (take i parts)) block in
+      omega (arith, all, one)
+
+  pub listed_at : (kept : ℕ → Option Kept) → AreListed kept (blocks_in parts) → AreListed kept (block ∷ [])
+  listed_at kept h = λ b k c e. h b k (subst (λ (bs : List ℕ). Contains bs b) (sym parts_split) (Contains-append_left (blocks_in (take (i + 1) parts)) (blocks_in (drop (i + 1) parts)) b (subst (λ (bs : List ℕ). Contains bs b) (sym (blocks_more parts i d lt)) (Contains-append_right (blocks_in (take i parts)) (block ∷ []) b c)))) e
+
+module _ (tables : List TableParts) (i : ℕ) (t : TableParts) (lt : i < length tables) (at : t ≡ get_or tables i t) where
+  tables_split : blocks_of tables ≡ blocks_of (take (i + 1) tables) ++ blocks_of (drop (i + 1) tables)
+  tables_split = ap blocks_of (sym (take-append-drop (i + 1) tables)) ∙ blocks_of-append (take (i + 1) tables) (drop (i + 1) tables)
+
+  pub table_room_at : (kept : ℕ → Option Kept) → length (new_in kept (blocks_of (take i tables))) + length (new_in kept (blocks_in t.parts)) ≤ length (new_in kept (blocks_of tables))
+  table_room_at kept =
+      let all = ap (λ (bs : List ℕ). length (new_in kept bs)) tables_split ∙ new_in-append kept (blocks_of (take (i + 1) tables)) (blocks_of (drop (i + 1) tables)) in
+      let one = ap (λ (bs : List ℕ). length (new_in kept bs)) (table_blocks_more tables i t lt at) ∙ new_in-append kept (blocks_of (take i tables)) (blocks_in t.parts) in
+      omega (arith, all, one)
+
+  pub table_listed_at : (kept : ℕ → Option Kept) → AreListed kept (blocks_of tables) → AreListed kept (blocks_in t.parts)
+  table_listed_at kept h = λ b k c e. h b k (subst (λ (bs : List ℕ). Contains bs b) (sym tables_split) (Contains-append_left (blocks_of (take (i + 1) tables)) (blocks_of (drop (i + 1) tables)) b (subst (λ (bs : List ℕ). Contains bs b) (sym (table_blocks_more tables i t lt at)) (Contains-append_right (blocks_of (take i tables)) (blocks_in t.parts) b c)))) e

@@ -41,6 +41,14 @@ waits_of kept versions retired tracks queues = record {
   free = λ b c. waits_at kept versions retired tracks queues b c (kept b) refl;
 }
 
+-- a block that is kept and doesn't wait is listed by some row
+pub listed_of : (kept : ℕ → Option Kept) (versions : List (Option Version)) (retired : List ℕ) → Tracks kept (listing versions) → Queues kept (listing versions) retired → (b : ℕ) → (Contains retired b → ⊥) → (k : Kept) → kept b ≡ Some k → list_any (λ row. row) k.rows ≡ true
+listed_of kept versions retired tracks queues b free k e =
+    elim (cases_Bool (list_any (λ row. row) k.rows)) [
+      | inl holds ↦ holds
+      | inr none ↦ absurd (free (queues.all b k e (λ row lt. sym (tracks.there b k e row lt) ∙ all_false k.rows none row)))
+    ]
+
 -- the queue, once blocks are listed no more
 module _ (old new : ℕ → Option Kept) (row : ℕ) (blocks before after : List ℕ) (waits : Waits old before) (unlisted : Unlists old new row blocks before after) where
   abbrev here : ℕ → Bool

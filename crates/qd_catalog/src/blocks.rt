@@ -127,6 +127,7 @@ fn room_after_block(kept: &IndexMap<u64, Kept>, room: usize, block: u64) -> Opti
     ensures room { IfSome result (λ left. left + (if is_some (get nat_eq kept.now block) then 0 else 1) ≡ room) }
     ensures listed { IfSome result (λ left. (k : Kept) → get nat_eq kept.now block ≡ Some k → list_any (λ row. row) k.rows ≡ true) }
     ensures small { IfSome result (λ left. block + 1 < 2 ^ 64) }
+    ensures enough { (if is_some (get nat_eq kept.now block) then 0 else 1) ≤ room → AreListed (get nat_eq kept.now) (block ∷ []) → block + 1 < 2 ^ 64 → is_some result ≡ true }
 {
     if block == u64::MAX {
         return None;
@@ -143,6 +144,7 @@ pub(crate) fn room_after(kept: &IndexMap<u64, Kept>, room: usize, parts: &[Part]
     ensures room { IfSome result (λ left. left + length (new_in (get nat_eq kept.now) (blocks_in parts.now)) ≡ room) }
     ensures listed { IfSome result (λ left. AreListed (get nat_eq kept.now) (blocks_in parts.now)) }
     ensures small { IfSome result (λ left. All (λ b. b + 1 < 2 ^ 64) (blocks_in parts.now)) }
+    ensures enough { length (new_in (get nat_eq kept.now) (blocks_in parts.now)) ≤ room → AreListed (get nat_eq kept.now) (blocks_in parts.now) → All (λ b. b + 1 < 2 ^ 64) (blocks_in parts.now) → is_some result ≡ true }
 {
     let mut left = room;
     for part in parts {

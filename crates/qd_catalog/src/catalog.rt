@@ -106,7 +106,7 @@ impl Catalog {
 
     /// Says whether a version may be added. It costs time linear in the size of the shape, on average.
     pub fn may_add(&self, n: u64, shape: &Shape) -> bool
-        ensures may { IsTrue result → MayAdd self.now n shape.now }
+        ensures may { IsTrue result ↔ MayAdd self.now n shape.now }
     {
         match self.n_of(self.current) {
             Some(newest) => newest < n && self.has_room(shape),
@@ -230,6 +230,7 @@ impl Catalog {
         ensures room { IsTrue result → length (new_blocks self.now shape.now) ≤ self.now.spare }
         ensures unretired { IsTrue result → (b : ℕ) → Contains (blocks_of shape.now) b → Contains self.now.retired b → ⊥ }
         ensures small { IsTrue result → All (λ b. b + 1 < 2 ^ 64) (blocks_of shape.now) }
+        ensures enough { length (new_blocks self.now shape.now) ≤ self.now.spare → ((b : ℕ) → Contains (blocks_of shape.now) b → Contains self.now.retired b → ⊥) → All (λ b. b + 1 < 2 ^ 64) (blocks_of shape.now) → IsTrue result }
     {
         let places = self.kept.capacity().min(self.retired.capacity());
         let room = places.saturating_sub(self.kept.len());

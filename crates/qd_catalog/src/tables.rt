@@ -1,5 +1,5 @@
 //! The blocks of all tables of a version, table by table.
-ghost use Rattle.std.specs.Prelude.{◌≡◌, ◌+◌, ◌^◌, ◌<◌, ◌≤◌, IfSome, OnOk, All, nat_eq, length};
+ghost use Rattle.std.specs.Prelude.{◌≡◌, ◌+◌, ◌^◌, ◌<◌, ◌≤◌, IfSome, OnOk, All, is_some, true, nat_eq, length};
 ghost use Rattle.std.specs.VecDeque.{deque_capacity};
 ghost use Rattle.indexmap.specs.IndexMap.{get, spare, index_map_len};
 ghost use Rattle.qd_manifest.specs.Spelling.{blocks_in, blocks_of};
@@ -69,6 +69,7 @@ pub(crate) fn room_after_tables(
     ensures room { IfSome result (λ left. left + length (new_in (get nat_eq kept.now) (blocks_of tables.now)) ≡ room) }
     ensures listed { IfSome result (λ left. AreListed (get nat_eq kept.now) (blocks_of tables.now)) }
     ensures small { IfSome result (λ left. All (λ b. b + 1 < 2 ^ 64) (blocks_of tables.now)) }
+    ensures enough { length (new_in (get nat_eq kept.now) (blocks_of tables.now)) ≤ room → AreListed (get nat_eq kept.now) (blocks_of tables.now) → All (λ b. b + 1 < 2 ^ 64) (blocks_of tables.now) → is_some result ≡ true }
 {
     let mut left = room;
     for table in tables {

@@ -16,9 +16,9 @@ use Rattle.qd_base.specs.declared.cell.Cell.TheVariants as cell
 use Rattle.qd_base.specs.Rows.{Row, cell_eq, cell_at, same_on}
 use Rattle.qd_merge.specs.Batch.{lasts, last_of_equals}
 use Rattle.qd_merge.specs.Classes.{kept}
-use Rattle.qd_merge.specs.declared.classes.Lent.{Lent}
-use Rattle.qd_merge.specs.declared.classes.Lent.TheVariants as lent
-use Rattle.qd_merge.specs.contracts.classes.LentOrd.TheImpl as lent_ord
+use Rattle.qd_merge.specs.declared.cells.Lent.{Lent}
+use Rattle.qd_merge.specs.declared.cells.Lent.TheVariants as lent
+use Rattle.qd_merge.specs.contracts.cells.LentOrd.TheImpl as lent_ord
 use Rattle.qd_merge.specs.Classes.{AreClasses, AreNumbered, AreRefined, cell_of, repeats}
 use Rattle.qd_merge.proofs.Filters.{and_parts}
 use Rattle.qd_merge.proofs.Batches.{cell_decides, cell_same}

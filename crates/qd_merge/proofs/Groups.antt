@@ -7,15 +7,14 @@ use Rattle.std.proofs.lemmas.List.{get_or-map, length-map, ext_get_or, get_or-ta
 use Rattle.std.proofs.lemmas.List.Folds.{list_any-append, list_any_none}
 use Rattle.qd_base.specs.declared.schema.ColType.{ColType}
 use Rattle.qd_base.specs.Rows.{Row, same_on, time_in, time_of}
-use Rattle.qd_merge.specs.Classes.{AreClasses}
+use Rattle.qd_merge.specs.Equals.{taken}
 use Rattle.qd_merge.specs.Merged.{with_missing}
-use Rattle.qd_merge.specs.Replaced.{is_replaced, flags_of, stand_behind, group_of, FlagsSoFar}
+use Rattle.qd_merge.specs.Replaced.{is_replaced, flags_of, FlagsSoFar}
 use Rattle.qd_merge.proofs.Batches.{same_on-time}
-use Rattle.qd_merge.proofs.ClassLemmas.{any_same}
 use Rattle.qd_merge.proofs.Parts.{part_joined, all-part, whole_part, got_any}
 use Rattle.qd_merge.proofs.Orders.{time_at}
 use Rattle.qd_merge.specs.Laws.{AreKeys}
-use Rattle.qd_merge.proofs.Wide.{wide_cell, map-const}
+use Rattle.qd_merge.proofs.Wide.{wide_cell, map-map, map-all, map-const}
 use Rattle.qd_column.proofs.RunLemmas.{map-append}
 
 -- a front with a part behind it is a longer front
@@ -66,44 +65,17 @@ module _ (col k : ℕ) (ks : List ℕ) (there : Contains (k ∷ ks) col) (kinds 
       or_false true = refl
       or_false false = refl
 
-  -- the flags of rows of one time, by the classes of those rows and the batch's
-  pub group_flags : (from to start end : ℕ) (classes : List ℕ) → from ≤ to → to ≤ length rows → start ≤ end → end ≤ length batch → AreClasses (k ∷ ks) (group_of kinds rows from to batch start end) classes
+  -- the flags of rows of one time: their equals are among the batch's of that time
+  pub group_flags : (from to start end : ℕ) → to ≤ length rows → start ≤ end → end ≤ length batch
       → ((i : ℕ) (d : Row) → from ≤ i → i < to → ((m : ℕ) (e : Row) → m < start → time_of col (with_missing kinds (get_or rows i d)) ≢ time_of col (get_or batch m e)) × ((m : ℕ) (e : Row) → end ≤ m → m < length batch → time_of col (with_missing kinds (get_or rows i d)) ≢ time_of col (get_or batch m e)))
-      → stand_behind (to - from) classes ≡ map (λ r. is_replaced (k ∷ ks) batch (with_missing kinds r)) (slice_range rows from to)
-  group_flags from to start end classes low high start_low end_high are apart =
-      let f : Row → Bool = λ r. is_replaced (k ∷ ks) batch (with_missing kinds r) in
-      let count : ℕ = to - from in
-      let part : List Row = slice_range rows from to in
-      let firsts : List Row = map (with_missing kinds) part in
-      let seconds : List Row = slice_range batch start end in
-      let group : List Row = firsts ++ seconds in
-      let part_size : length part ≡ count = length-take-le count (drop from rows) (omega (arith, length-drop from rows)) in
-      let first_size : length firsts ≡ count = length-map part (with_missing kinds) ∙ part_size in
-      let size : length group ≡ count + length seconds = length-append firsts seconds ∙ ap (λ n. n + length seconds) first_size in
-      let total : length classes ≡ count + length seconds = are.count ∙ size in
-      let front_size : length (take count classes) ≡ count = length-take-le count classes (omega arith) in
-      let g : ℕ → Bool = λ n. list_any (λ m. eqb n m) (drop count classes) in
-      let behind : drop count group ≡ seconds = ap (λ n. drop n group) (sym first_size) ∙ drop_front firsts seconds in
-      ext_get_or false (stand_behind count classes) (map f part) (length-map (take count classes) g ∙ front_size ∙ sym (length-map part f ∙ part_size)) (λ i lt.
-      let i_low : i < count = omega (arith, length-map (take count classes) g) in
-      let row : Row = with_missing kinds (get_or rows (from + i) []) in
-      let at : get_or part i [] ≡ get_or rows (from + i) [] = get_or-take count (drop from rows) i [] i_low ∙ get_or-drop from rows i [] in
-      let here : get_or group i [] ≡ row = get_front firsts seconds i [] (omega arith) ∙ get_or-map (with_missing kinds) part i [] [] (omega arith) ∙ ap (with_missing kinds) at in
-      let far = apart (from + i) [] (omega arith) (omega arith) in
-      get_or-map g (take count classes) i 0 false (omega arith) ∙ ap g (get_or-take count classes i 0 i_low)
-      ∙ any_same (λ m. eqb (get_or classes i 0) m) (same_on (k ∷ ks) row) (drop count classes) seconds (omega (arith, length-drop count classes)) (λ m less.
-      let second : get_or group (count + m) [] ≡ get_or seconds m [] = sym (get_or-drop count group m []) ∙ ap (λ (l : List Row). get_or l m []) behind in
-      ap (λ n. eqb (get_or classes i 0) n) (get_or-drop count classes m 0) ∙ are.tell i (count + m) (omega arith) (omega arith) ∙ ap₂ (same_on (k ∷ ks)) here second)
-      ∙ sym (among_equals row start end start_low end_high far.0 far.1) ∙ sym (get_or-map f part i [] false (omega arith) ∙ ap f at))
-    where
-      drop_front : (xs ys : List Row) → drop (length xs) (xs ++ ys) ≡ ys
-      drop_front [] ys = refl
-      drop_front (x ∷ xs) ys = drop_front xs ys
-
-      get_front : (xs ys : List Row) (i : ℕ) (d : Row) → i < length xs → get_or (xs ++ ys) i d ≡ get_or xs i d
-      get_front [] ys i d h = absurd (omega arith)
-      get_front (x ∷ xs) ys zero d h = refl
-      get_front (x ∷ xs) ys (suc i) d h = get_front xs ys i d (omega arith)
+      → taken (k ∷ ks) (map (with_missing kinds) (slice_range rows from to)) (slice_range batch start end) ≡ map (λ r. is_replaced (k ∷ ks) batch (with_missing kinds r)) (slice_range rows from to)
+  group_flags from to start end high start_low end_high apart =
+      let f : Row → Bool = λ r. list_any (same_on (k ∷ ks) r) (slice_range batch start end) in
+      let is : Row → Type 0 = λ r. list_any (same_on (k ∷ ks) (with_missing kinds r)) (slice_range batch start end) ≡ is_replaced (k ∷ ks) batch (with_missing kinds r) in
+      map-map f (with_missing kinds) (slice_range rows from to)
+      ∙ map-all is (λ r. f (with_missing kinds r)) (λ r. is_replaced (k ∷ ks) batch (with_missing kinds r)) (λ r e. e) (slice_range rows from to) (all-part is rows from to high (λ i d a b.
+      let far = apart i d a b in
+      sym (among_equals (with_missing kinds (get_or rows i d)) start end start_low end_high far.0 far.1)))
 
 -- the facts of one group: the batch's rows of one time from a place up to an end, and the block's rows before that time
 -- and of it
@@ -171,12 +143,12 @@ module _ (col k : ℕ) (ks : List ℕ) (there : Contains (k ∷ ks) col) (kinds 
           | inr after ↦ (let le = new_rise place m 0 after (omega arith) in absurd (omega arith))
         ])
 
-    -- the rows of the group's time, by their classes
-    pub near_flags : (classes : List ℕ) → AreClasses (k ∷ ks) (group_of kinds rows from to batch place end) classes → stand_behind (to - from) classes ≡ flags_of (k ∷ ks) kinds batch (slice_range rows from to)
-    near_flags classes are =
+    -- the rows of the group's time
+    pub near_flags : taken (k ∷ ks) (map (with_missing kinds) (slice_range rows from to)) (slice_range batch place end) ≡ flags_of (k ∷ ks) kinds batch (slice_range rows from to)
+    near_flags =
         let s = rows_size in
         let bs = batch_size in
-        group_flags col k ks there kinds batch rows from to place end classes is.high (let w = is.to_within in omega arith) (let f = is.further in omega arith) (let w = is.within in omega arith) are (λ i d a b.
+        group_flags col k ks there kinds batch rows from to place end (let w = is.to_within in omega arith) (let f = is.further in omega arith) (let w = is.within in omega arith) (λ i d a b.
         let w = is.to_within in
         let at : time_of col (with_missing kinds (get_or rows i d)) ≡ get_or old i 0 = wide_time i d (omega arith) in
         let most = is.upto i a b in
@@ -220,18 +192,11 @@ module _ (col k : ℕ) (ks : List ℕ) (there : Contains (k ∷ ks) col) (kinds 
         far_size : length (flags ++ replicate (from - length flags) false) ≡ from
         far_size = let low = is.low in omega (arith, length-append flags (replicate (from - length flags) false), length-replicate (from - length flags) false)
 
-    pub near_done : (classes : List ℕ) → AreClasses (k ∷ ks) (group_of kinds rows from to batch place end) classes → (done : List Bool) → done ≡ (flags ++ replicate (from - length flags) false) ++ stand_behind (to - from) classes → FlagsSoFar col (k ∷ ks) kinds batch rows end done
-    near_done classes are done added =
+    pub near_done : (done : List Bool) → done ≡ (flags ++ replicate (from - length flags) false) ++ taken (k ∷ ks) (map (with_missing kinds) (slice_range rows from to)) (slice_range batch place end) → FlagsSoFar col (k ∷ ks) kinds batch rows end done
+    near_done done added =
         let f : Row → Bool = λ r. is_replaced (k ∷ ks) batch (with_missing kinds r) in
-        let all : done ≡ flags_of (k ∷ ks) kinds batch (take to rows) = added ∙ ap₂ (λ a b. a ++ b) far_flags (near_flags classes are) ∙ sym (map-append f (take from rows) (slice_range rows from to)) ∙ ap (map f) (sym (front_joined rows from to is.high)) in
+        let all : done ≡ flags_of (k ∷ ks) kinds batch (take to rows) = added ∙ ap₂ (λ a b. a ++ b) far_flags near_flags ∙ sym (map-append f (take from rows) (slice_range rows from to)) ∙ ap (map f) (sym (front_joined rows from to is.high)) in
         group_done done (ap length all ∙ length-map (take to rows) f ∙ length-take-le to rows (let w = is.to_within in let s = rows_size in omega arith)) all
-
--- how many rows a group has
-pub group_size : (kinds : List ColType) (rows : List Row) (from to : ℕ) (batch : List Row) (start end : ℕ) → from ≤ to → to ≤ length rows → length (group_of kinds rows from to batch start end) ≡ (to - from) + length (slice_range batch start end)
-group_size kinds rows from to batch start end low high =
-    let part : List Row = slice_range rows from to in
-    let size : length part ≡ to - from = length-take-le (to - from) (drop from rows) (omega (arith, length-drop from rows)) in
-    length-append (map (with_missing kinds) part) (slice_range batch start end) ∙ ap (λ n. n + length (slice_range batch start end)) (length-map part (with_missing kinds) ∙ size)
 
 -- Contains of no key
 no_key : (col : ℕ) → Contains [] col → ⊥
@@ -242,9 +207,9 @@ pub far_group : (col : ℕ) (keys : List ℕ) (kinds : List ColType) (batch rows
 far_group col [] kinds batch rows old new flags place end from to done there old_is new_is old_rise new_rise wide so_far is none added = absurd (no_key col there)
 far_group col (k ∷ ks) kinds batch rows old new flags place end from to done there old_is new_is old_rise new_rise wide so_far is none added = far_done col k ks there kinds batch rows old new old_is new_is old_rise new_rise wide flags place end from to so_far is none done added
 
-pub near_group : (col : ℕ) (keys : List ℕ) (kinds : List ColType) (batch rows : List Row) (old new : List ℕ) (flags : List Bool) (place end from to : ℕ) (classes : List ℕ) (done : List Bool) → Contains keys col → map (time_of col) rows ≡ old → map (time_of col) batch ≡ new → IsNonDecreasing old → IsNonDecreasing new → All (λ r. col < length r) rows → FlagsSoFar col keys kinds batch rows place flags → IsGroup old new (length flags) place end from to → AreClasses keys (group_of kinds rows from to batch place end) classes → done ≡ (flags ++ replicate (from - length flags) false) ++ stand_behind (to - from) classes → FlagsSoFar col keys kinds batch rows end done
-near_group col [] kinds batch rows old new flags place end from to classes done there old_is new_is old_rise new_rise wide so_far is are added = absurd (no_key col there)
-near_group col (k ∷ ks) kinds batch rows old new flags place end from to classes done there old_is new_is old_rise new_rise wide so_far is are added = near_done col k ks there kinds batch rows old new old_is new_is old_rise new_rise wide flags place end from to so_far is classes are done added
+pub near_group : (col : ℕ) (keys : List ℕ) (kinds : List ColType) (batch rows : List Row) (old new : List ℕ) (flags : List Bool) (place end from to : ℕ) (done : List Bool) → Contains keys col → map (time_of col) rows ≡ old → map (time_of col) batch ≡ new → IsNonDecreasing old → IsNonDecreasing new → All (λ r. col < length r) rows → FlagsSoFar col keys kinds batch rows place flags → IsGroup old new (length flags) place end from to → done ≡ (flags ++ replicate (from - length flags) false) ++ taken keys (map (with_missing kinds) (slice_range rows from to)) (slice_range batch place end) → FlagsSoFar col keys kinds batch rows end done
+near_group col [] kinds batch rows old new flags place end from to done there old_is new_is old_rise new_rise wide so_far is added = absurd (no_key col there)
+near_group col (k ∷ ks) kinds batch rows old new flags place end from to done there old_is new_is old_rise new_rise wide so_far is added = near_done col k ks there kinds batch rows old new old_is new_is old_rise new_rise wide flags place end from to so_far is done added
 
 -- rows that are left behind all groups aren't replaced
 pub all_flags : (col : ℕ) (keys : List ℕ) (kinds : List ColType) (batch rows : List Row) (flags done : List Bool) → Contains keys col → All (λ r. col < length r) rows → FlagsSoFar col keys kinds batch rows (length batch) flags → done ≡ flags ++ replicate (length rows - length flags) false → done ≡ flags_of keys kinds batch rows

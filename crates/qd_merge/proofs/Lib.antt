@@ -19,3 +19,4 @@ pub mod Batched
 pub mod Plans
 pub mod Outdating
 pub mod Tables
+pub mod Among

@@ -12,6 +12,7 @@ use Rattle.qd_column.specs.declared.runs.Run.{Run}
 use Rattle.qd_column.specs.Runs.{laid}
 use Rattle.qd_column.specs.Runs.{IsRunOf}
 use Rattle.qd_block.specs.Blocks.{Block, IsWhole}
+use Rattle.qd_column.proofs.ListLemmas.{part_none}
 use Rattle.qd_merge.specs.Batch.{lasts}
 use Rattle.qd_merge.specs.Classes.{AreClasses, kept, repeats}
 use Rattle.qd_merge.specs.Merged.{with_missing, laid_rows}
@@ -44,11 +45,16 @@ classes_outdated keys rows classes are =
     let low : k < length rows = omega (arith, length-repeats classes, are.count) in
     repeats_tell keys rows classes are k low ∙ sym (outdated_at keys rows k low))
 
--- a row alone is not outdated
-pub one_outdated : (keys : List ℕ) (rows : List Row) (from to : ℕ) → to - from ≡ 1 → to ≤ length rows → outdated keys (slice_range rows from to) ≡ false ∷ []
-one_outdated keys rows from to one high =
-    let next : to ≡ from + 1 = omega arith in
-    ap (λ n. outdated keys (slice_range rows from n)) next ∙ ap (outdated keys) (one_part rows from [] (omega arith))
+-- the flags of a part, row by row
+pub compared_next : (keys : List ℕ) (rows : List Row) (i to : ℕ) (now next : List Bool) (flag : Bool) → i < to → i < length rows → flag ≡ list_any (same_on keys (get_or rows i [])) (slice_range rows (i + 1) to) → next ≡ now ++ flag ∷ [] → next ++ outdated keys (slice_range rows (i + 1) to) ≡ now ++ outdated keys (slice_range rows i to)
+compared_next keys rows i to now next flag lt high is added =
+    let row : Row = get_or rows i [] in
+    let behind : List Row = slice_range rows (i + 1) to in
+    let part : slice_range rows i to ≡ row ∷ behind = part_joined rows i (i + 1) to (omega arith) (omega arith) ∙ ap (λ l. l ++ behind) (one_part rows i [] high) in
+    ap (λ l. l ++ outdated keys behind) added ∙ append_assoc now (flag ∷ []) (outdated keys behind) ∙ ap (λ b. now ++ b ∷ outdated keys behind) is ∙ ap (λ l. now ++ outdated keys l) (sym part)
+
+pub compared_done : (keys : List ℕ) (rows : List Row) (i to : ℕ) (now : List Bool) → i ≡ to → now ≡ now ++ outdated keys (slice_range rows i to)
+compared_done keys rows i to now done = sym (append-nil now) ∙ ap (λ l. now ++ outdated keys l) (sym (part_none rows i) ∙ ap (slice_range rows i) done)
 
 -- rows and others behind them, of which none equals one of them
 or_false : (b : Bool) → (b || false) ≡ b
@@ -89,11 +95,14 @@ pub all_outdated : (keys : List ℕ) (rows : List Row) (gone : List Bool) (place
 all_outdated keys rows gone place past so_far = sym (append-nil gone) ∙ ap (λ l. gone ++ outdated keys l) (sym (drop_all place rows past)) ∙ so_far
 
 -- rows that lack no column
+pub wide_row : (kinds : List ColType) (row : Row) → length row ≡ length kinds → with_missing kinds row ≡ row
+wide_row kinds row e =
+    let none : drop (length row) kinds ≡ [] = drop_all (length row) kinds (omega arith) in
+    ap (λ l. row ++ map missing l) none ∙ append-nil row
+
 wide_same : (kinds : List ColType) (rows : List Row) → All (λ r. length r ≡ length kinds) rows → map (with_missing kinds) rows ≡ rows
 wide_same kinds [] h = refl
-wide_same kinds (row ∷ rows) h =
-    let none : drop (length row) kinds ≡ [] = drop_all (length row) kinds (let e = h zero row (omega arith) in omega arith) in
-    ap₂ (λ (r : Row) (l : List Row). r ∷ l) (ap (λ l. row ++ map missing l) none ∙ append-nil row) (wide_same kinds rows (λ k d lt. h (suc k) d (omega arith)))
+wide_same kinds (row ∷ rows) h = ap₂ (λ (r : Row) (l : List Row). r ∷ l) (wide_row kinds row (h zero row (omega arith))) (wide_same kinds rows (λ k d lt. h (suc k) d (omega arith)))
 
 -- runs of the rows of a block whose flag isn't set
 module _ (block : Block) (gone : List Bool) (none runs : List Run) (n : ℕ) (empty : none ≡ []) (all : n ≡ length gone) (size : length gone ≡ length block.rows) (added : AddsKept none gone 0 n runs) where

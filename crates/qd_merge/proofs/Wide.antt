@@ -1,6 +1,6 @@
 -- Rows made as wide as columns are.
 use Rattle.std.proofs.Common.{◌≡◌, ℕ, zero, suc, ◌+◌, ◌-◌, ◌<◌, ◌≤◌, List, [], ◌∷◌, ◌++◌, length, map, drop, get_or, refl, sym, ap, ap₂, ◌∙◌, arith, All, subst, replicate, length-append, length-drop, slice_range, append_assoc, append-nil}
-use Rattle.std.proofs.lemmas.List.{get_or-map, length-map, get_or-drop, take_all}
+use Rattle.std.proofs.lemmas.List.{get_or-map, length-map, get_or-drop, get_or_past, take_all}
 use Rattle.qd_base.specs.declared.cell.Cell.{Cell}
 use Rattle.qd_base.specs.declared.cell.Cell.TheVariants as cell
 use Rattle.qd_base.specs.declared.schema.ColType.{ColType}
@@ -33,6 +33,10 @@ lacking_cell kinds row col d low high =
     let at : get_or (drop (length row) kinds) (col - length row) d ≡ get_or kinds col d = get_or-drop (length row) kinds (col - length row) d ∙ ap (λ n. get_or kinds n d) place in
     ap (λ n. get_or (with_missing kinds row) n cell.Null) (sym place) ∙ get-append-right row (map missing (drop (length row) kinds)) (col - length row) cell.Null
     ∙ get_or-map missing (drop (length row) kinds) (col - length row) d cell.Null (omega (arith, length-drop (length row) kinds)) ∙ ap missing at
+
+-- nor behind the columns
+pub cell_behind : (row : Row) (col : ℕ) → length row ≤ col → cell_at row col ≡ cell.Null
+cell_behind row col past = get_or_past row col cell.Null past
 
 pub wide_size : (kinds : List ColType) (row : Row) → length row ≤ length kinds → length (with_missing kinds row) ≡ length kinds
 wide_size kinds row h = omega (arith, length-append row (map missing (drop (length row) kinds)), length-map (drop (length row) kinds) missing, length-drop (length row) kinds)

@@ -7,8 +7,8 @@ use Rattle.std.specs.declared.cmp.Ordering.TheVariants.{Equal}
 use Rattle.qd_base.specs.declared.cell.Cell.{Cell}
 use Rattle.qd_base.specs.declared.cell.Cell.TheVariants as cell
 use Rattle.qd_base.specs.Rows.{Row, same_on}
-use Rattle.qd_merge.specs.declared.classes.Lent.{Lent}
-use Rattle.qd_merge.specs.declared.classes.Lent.TheVariants as lent
+use Rattle.qd_merge.specs.declared.cells.Lent.{Lent}
+use Rattle.qd_merge.specs.declared.cells.Lent.TheVariants as lent
 
 -- numbers of keys, below their count, of which no two keys that differ have the same
 pub record AreNumbers {K : Type 0} (cmp : K → K → Ordering) (numbers : BTreeMap K ℕ) : Type 0 where

@@ -7,3 +7,4 @@ pub mod Laws
 pub mod Acts
 pub mod TestTables
 pub mod Outdated
+pub mod Equals

@@ -1,5 +1,5 @@
 -- Which rows of a block the rows of a batch replace.
-use Rattle.std.specs.Prelude.{◌≡◌, ℕ, ◌<◌, ◌≤◌, Bool, false, List, [], ◌∷◌, ◌==◌, ◌++◌, take, drop, map, length, slice_index_or, slice_range}
+use Rattle.std.specs.Prelude.{◌≡◌, ℕ, ◌<◌, ◌≤◌, Bool, false, List, [], ◌∷◌, ◌==◌, take, drop, map, length, slice_index_or}
 use Rattle.std.specs.List.{list_any}
 use Rattle.qd_base.specs.declared.schema.ColType.{ColType}
 use Rattle.qd_base.specs.Rows.{Row, same_on, time_of}
@@ -23,7 +23,3 @@ pub record FlagsSoFar (col : ℕ) (keys : List ℕ) (kinds : List ColType) (batc
 -- for each of the first numbers whether it stands among the others
 abbrev pub stand_behind : ℕ → List ℕ → List Bool
 stand_behind count numbers = map (λ n. list_any (λ m. n == m) (drop count numbers)) (take count numbers)
-
--- rows of one time: some of a block, as wide as columns of these kinds, and some of a batch behind them
-abbrev pub group_of : List ColType → List Row → ℕ → ℕ → List Row → ℕ → ℕ → List Row
-group_of kinds rows from to batch start end = map (with_missing kinds) (slice_range rows from to) ++ slice_range batch start end

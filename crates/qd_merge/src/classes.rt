@@ -1,27 +1,13 @@
 //! Classes of rows that are equal on keys.
-ghost use Rattle.std.specs.Prelude.{◌≡◌, ◌+◌, ◌<◌, ◌≤◌, Some, All, IfOk, OnOk, length, map};
+ghost use Rattle.std.specs.Prelude.{◌≡◌, ℕ, ◌+◌, ◌<◌, ◌≤◌, List, [], ◌∷◌, ◌++◌, Some, All, IfOk, OnOk, length, map};
 ghost use Rattle.std.specs.BTreeMap.{get, btree_map_len};
-ghost use Rattle.qd_base.specs.Rows.{cell_at};
+ghost use Rattle.qd_base.specs.Rows.{Row, cell_at};
 ghost use Rattle.qd_merge.specs.Classes.{AreClasses, AreNumbered, AreNumbers, AreRefined, KeepsNumbers, cell_of, repeats};
 
-use qd_base::{Cell, KeyList, Memory, Row};
+use crate::cells::{Lent, lent_cells};
+use qd_base::{KeyList, Memory, Row};
 use std::alloc::Global;
 use std::collections::BTreeMap;
-
-/// A cell that is lent, and can be ordered.
-#[derive(Clone, Copy, PartialEq, Eq, PartialOrd, Ord)]
-pub(crate) enum Lent<'a> {
-    /// NULL.
-    Null,
-    /// A number.
-    Long(i64),
-    /// A truth value.
-    Truth(bool),
-    /// A text.
-    Text(&'a [u8]),
-    /// A moment.
-    Time(u64),
-}
 
 /// Numbers the classes of rows that are equal on all of the keys. It costs n log n for each key.
 pub(crate) fn classes_of_rows(
@@ -34,10 +20,22 @@ pub(crate) fn classes_of_rows(
     let mut classes = Vec::from_elem(alloc, 0, rows.len())?;
     for key in keys.as_slice() {
         let cells = lent_cells(alloc, rows, *key as usize)?;
-        let cells = numbered(alloc, cells.as_slice())?;
-        classes = refined(alloc, classes.as_slice(), cells.as_slice())?;
+        classes = classes_apart(alloc, classes.as_slice(), cells.as_slice())?;
     }
     Ok(classes)
+}
+
+/// Tells classes of rows apart further, by the cells that the rows have in one column more. It costs n log n.
+pub(crate) fn classes_apart(
+    alloc: Global,
+    classes: &[usize],
+    cells: &[Lent<'_>],
+) -> Result<Vec<usize>, Memory>
+    requires { length cells.now ≡ length classes.now }
+    ensures apart { (keys : List ℕ) (key : ℕ) (rows : List Row) → AreClasses keys rows classes.now → map cell_of cells.now ≡ map (λ r. cell_at r key) rows → IfOk result (λ v. AreClasses (keys ++ key ∷ []) rows v.items) }
+{
+    let numbers = numbered(alloc, cells)?;
+    refined(alloc, classes, numbers.as_slice())
 }
 
 /// Tells classes apart further: two places are of one class then where they were before and have one number.
@@ -80,33 +78,6 @@ fn number_of<K: Ord + Copy>(numbers: &mut BTreeMap<K, usize>, key: K) -> Result<
             numbers.insert(key, number)?;
             Ok(number)
         }
-    }
-}
-
-/// Lends the cells that rows have in a column; one that a row lacks is NULL.
-fn lent_cells(alloc: Global, rows: &[Row], col: usize) -> Result<Vec<Lent<'_>>, Memory>
-    ensures cells { IfOk result (λ v. map cell_of v.items ≡ map (λ r. cell_at r col) rows.now) }
-{
-    let mut cells = Vec::with_capacity(alloc, rows.len())?;
-    for row in rows {
-        cells.push(lent_cell(row, col))?;
-    }
-    Ok(cells)
-}
-
-/// Lends the cell that a row has in a column.
-fn lent_cell(row: &Row, col: usize) -> Lent<'_>
-    ensures cell { cell_of result ≡ cell_at row.now col }
-{
-    if row.len() <= col {
-        return Lent::Null;
-    }
-    match row.get(col) {
-        Cell::Null => Lent::Null,
-        Cell::Long(value) => Lent::Long(*value),
-        Cell::Bool(value) => Lent::Truth(*value),
-        Cell::Text(text) => Lent::Text(text.bytes()),
-        Cell::Time(value) => Lent::Time(*value),
     }
 }
 

@@ -6,10 +6,10 @@ ghost use Rattle.qd_merge.specs.Batch.{batch, last_of_equals};
 ghost use Rattle.qd_merge.specs.Laws.{AreKeys};
 ghost use Rattle.qd_merge.specs.Outdated.{outdated};
 
-use crate::classes::{classes_of_rows, repeated};
+use crate::classes::repeated;
+use crate::group::{FEW, Group, classes_of_group, has_equal};
 use crate::merge::{Block, spliced_block};
 use crate::order::{first_later, push_kept};
-use crate::replaced::group_rows;
 use qd_base::{KeyList, Memory};
 use std::alloc::Global;
 
@@ -63,13 +63,47 @@ fn push_outdated(
     requires within { to ≤ length block.now.rows }
     ensures added { OnOk result (gone.new.items ≡ gone.old.items ++ outdated keys.now (slice_range block.now.rows from to)) }
 {
-    if to - from == 1 {
-        return push_flags(gone, &[false]);
+    if to - from <= FEW {
+        return push_compared(gone, block, from, to, keys);
     }
-    let rows = group_rows(alloc, block, from, from, block, from, to)?;
-    let classes = classes_of_rows(alloc, rows.as_slice(), keys)?;
+    let group = Group {
+        block,
+        from,
+        to: from,
+        batch: block,
+        start: from,
+        end: to,
+    };
+    let classes = classes_of_group(alloc, &group, keys)?;
     let flags = repeated(alloc, classes.as_slice())?;
     push_flags(gone, flags.as_slice())
+}
+
+/// The same, each row compared with each behind it.
+fn push_compared(
+    gone: &mut Vec<bool>,
+    block: &Block,
+    from: usize,
+    to: usize,
+    keys: &KeyList,
+) -> Result<(), Memory>
+    requires ordered { from ≤ to }
+    requires within { to ≤ length block.now.rows }
+    ensures added { OnOk result (gone.new.items ≡ gone.old.items ++ outdated keys.now (slice_range block.now.rows from to)) }
+{
+    block.is_whole();
+    for place in from..to {
+        let behind = Group {
+            block,
+            from: place,
+            to: place,
+            batch: block,
+            start: place + 1,
+            end: to,
+        };
+        gone.push(has_equal(&behind, place, keys))?;
+    }
+    Ok(())
 }
 
 /// Adds flags.

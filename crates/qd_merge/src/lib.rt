@@ -3,13 +3,16 @@
 #![tactic(auto)]
 
 mod batch;
+mod cells;
 mod classes;
 mod dedup;
+mod group;
 mod laws;
 mod merge;
 mod order;
 mod plan;
 mod replaced;
+mod taken;
 #[cfg(test)]
 mod tests;
 

@@ -1,14 +1,12 @@
 //! Which rows of a block the rows of a batch replace.
-ghost use Rattle.std.specs.Prelude.{◌≡◌, ◌==◌, ℕ, ◌<◌, ◌≤◌, ◌++◌, [], false, All, IfOk, OnOk, Contains, length, map, replicate, slice_index_or};
-ghost use Rattle.std.specs.List.{list_any};
+ghost use Rattle.std.specs.Prelude.{◌≡◌, ◌<◌, ◌≤◌, ◌++◌, false, IfOk, OnOk, Contains, length, replicate};
 ghost use Rattle.qd_merge.specs.Laws.{AreKeys};
-ghost use Rattle.qd_merge.specs.Merged.{with_missing};
-ghost use Rattle.qd_merge.specs.Replaced.{flags_of, group_of, stand_behind, FlagsSoFar};
+ghost use Rattle.qd_merge.specs.Replaced.{flags_of, FlagsSoFar};
 
-use crate::classes::classes_of_rows;
+use crate::group::{Group, push_equals};
 use crate::merge::Block;
 use crate::order::{first_from, first_later};
-use qd_base::{KeyList, Memory, Row, RowList};
+use qd_base::{KeyList, Memory};
 use std::alloc::Global;
 
 /// For each row of a block whether a row of the batch is equal to it on all of the keys, a column that the block lacks
@@ -73,9 +71,15 @@ fn push_group(
     let left = from - gone.len();
     push_false(gone, left)?;
     if from < to {
-        let rows = group_rows(alloc, old, from, to, batch, place, end)?;
-        let classes = classes_of_rows(alloc, rows.as_slice(), keys)?;
-        push_taken(alloc, gone, classes.as_slice(), to - from)?;
+        let group = Group {
+            block: old,
+            from,
+            to,
+            batch,
+            start: place,
+            end,
+        };
+        push_equals(alloc, gone, &group, keys)?;
     }
     Ok(end)
 }
@@ -88,84 +92,4 @@ fn push_false(gone: &mut Vec<bool>, count: usize) -> Result<(), Memory>
         gone.push(false)?;
     }
     Ok(())
-}
-
-/// Adds for each of the first classes whether it stands among the others.
-fn push_taken(
-    alloc: Global,
-    gone: &mut Vec<bool>,
-    classes: &[usize],
-    count: usize,
-) -> Result<(), Memory>
-    requires count { count ≤ length classes.now }
-    requires below { All (λ c. c < length classes.now) classes.now }
-    ensures added { OnOk result (gone.new.items ≡ gone.old.items ++ stand_behind count classes.now) }
-{
-    let taken = marks_of(alloc, classes.len(), &classes[count..])?;
-    push_marks(gone, taken.as_slice(), &classes[..count])
-}
-
-/// Marks those of the numbers below another that stand among some.
-fn marks_of(alloc: Global, count: usize, numbers: &[usize]) -> Result<Vec<bool>, Memory>
-    requires below { All (λ n. n < count) numbers.now }
-    ensures size { IfOk result (λ v. length v.items ≡ count) }
-    ensures marks { IfOk result (λ v. (n : ℕ) → n < count → slice_index_or v.items n false ≡ list_any (λ m. n == m) numbers.now) }
-{
-    let mut marks = Vec::from_elem(alloc, false, count)?;
-    for number in numbers {
-        marks[*number] = true;
-    }
-    Ok(marks)
-}
-
-/// Adds the mark of each number.
-fn push_marks(gone: &mut Vec<bool>, marks: &[bool], numbers: &[usize]) -> Result<(), Memory>
-    requires below { All (λ n. n < length marks.now) numbers.now }
-    ensures added { OnOk result (gone.new.items ≡ gone.old.items ++ map (λ n. slice_index_or marks.now n false) numbers.now) }
-{
-    for number in numbers {
-        gone.push(marks[*number])?;
-    }
-    Ok(())
-}
-
-/// Copies some rows of a block, as wide as those of the batch, and behind them some of the batch.
-pub(crate) fn group_rows(
-    alloc: Global,
-    old: &Block,
-    from: usize,
-    to: usize,
-    batch: &Block,
-    start: usize,
-    end: usize,
-) -> Result<RowList, Memory>
-    requires old_ordered { from ≤ to }
-    requires old_within { to ≤ length old.now.rows }
-    requires ordered { start ≤ end }
-    requires within { end ≤ length batch.now.rows }
-    requires narrow { length old.now.kinds ≤ length batch.now.kinds }
-    ensures rows { IfOk result (λ out. out ≡ group_of batch.now.kinds old.now.rows from to batch.now.rows start end) }
-{
-    let mut rows = RowList::new(alloc);
-    for place in from..to {
-        rows.push(wide_row(alloc, old, place, batch)?)?;
-    }
-    for place in start..end {
-        rows.push(batch.with_cells(place as u64, Row::new(alloc))?)?;
-    }
-    Ok(rows)
-}
-
-/// Copies a row of a block, as wide as those of the batch.
-fn wide_row(alloc: Global, old: &Block, place: usize, batch: &Block) -> Result<Row, Memory>
-    requires there { place < length old.now.rows }
-    requires narrow { length old.now.kinds ≤ length batch.now.kinds }
-    ensures row { IfOk result (λ r. r ≡ with_missing batch.now.kinds (slice_index_or old.now.rows place [])) }
-{
-    old.is_whole();
-    let mut row = old.with_cells(place as u64, Row::new(alloc))?;
-    for col in old.cols()..batch.cols() {
-        row.push(batch.column(col).kind().missing())?;
-    }
-    Ok(row)
 }

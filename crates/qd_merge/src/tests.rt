@@ -9,7 +9,7 @@ mod plans;
 mod samples;
 mod shown;
 
-use crate::{Block, dedup_batch, merge_block, merge_blocks, sort_batch};
+use crate::{Block, dedup_batch, dedup_block, merge_block, merge_blocks, sort_batch};
 use qd_base::{Cell, KeyList, Memory, RowList, Schema};
 use qd_plain::put_all;
 use samples::{Dice, block, older_block, rows, table};
@@ -27,6 +27,14 @@ fn batch_of(alloc: Global, came: RowList, schema: &Schema) -> Result<RowList, Me
 {
     let sorted = sort_batch(alloc, came, schema.time_col)?;
     dedup_batch(alloc, sorted, &schema.keys)
+}
+
+/// The block of rows as they came, without those that a later one replaces.
+fn batch_block(alloc: Global, came: &RowList, schema: &Schema) -> Result<Block, Memory>
+    requires table { IsTable schema.now }
+    requires rows { All IsTableRow came.now }
+{
+    dedup_block(alloc, &block(alloc, came)?, &schema.keys)
 }
 
 /// Merges a batch into a block's rows from `skip` on.
@@ -88,11 +96,14 @@ fn merge_as_put(
         0,
         &schema.keys,
     )?;
-    let batch = batch_of(alloc, came, schema)?;
+    let put_alone = shown(alloc, &put_alone)?;
+    let block = batch_block(alloc, &came, schema)?;
     assert_eq!(rt;
-        shown(alloc, &batch)?.as_slice(),
-        shown(alloc, &put_alone)?.as_slice()
+        shown(alloc, &rows_of(alloc, &block)?)?.as_slice(),
+        put_alone.as_slice()
     );
+    let batch = batch_of(alloc, came, schema)?;
+    assert_eq!(rt; shown(alloc, &batch)?.as_slice(), put_alone.as_slice());
     let by_rows = merged(alloc, old, skip, &batch, schema)?;
     let by_blocks = merged_blocks(alloc, old, skip, &batch, &schema.keys)?;
     let put = shown(alloc, &put)?;
@@ -104,6 +115,19 @@ fn merge_as_put(
         shown(alloc, &rows_of(alloc, &by_blocks)?)?.as_slice(),
         put.as_slice()
     );
+    Ok(())
+}
+
+/// Compares batches and merges of tables, with keys and without, with the plain program.
+fn tables_as_put(rt: &impl Abort, alloc: Global, dice: Dice, tables: u32) -> Result<(), Memory> {
+    let mut dice = dice;
+    for table_number in 0..tables {
+        let schema = table(alloc, table_number % 2 == 0)?;
+        let rows = dice.rows(alloc, 0)?;
+        let old = block(alloc, &rows)?;
+        let rows = in_order(alloc, &rows)?;
+        merge_as_put(rt, alloc, &mut dice, &old, &rows, &schema)?;
+    }
     Ok(())
 }
 
@@ -192,28 +216,20 @@ fn rows_of_one_time_keep_the_order_in_which_they_came(rt: HostRuntime) -> Result
 
 #[test]
 fn batches_and_merges_are_those_of_the_plain_program(rt: HostRuntime) -> Result<(), Fail> {
-    let alloc = rt.alloc();
-    let mut dice = Dice::new();
-    for case in 0..1000 {
-        let schema = table(alloc, case % 2 == 0)?;
-        let rows = dice.rows(alloc, 0)?;
-        let old = block(alloc, &rows)?;
-        merge_as_put(
-            &rt,
-            alloc,
-            &mut dice,
-            &old,
-            &in_order(alloc, &rows)?,
-            &schema,
-        )?;
-    }
+    tables_as_put(&rt, rt.alloc(), Dice::few(), 1000)?;
+    Ok(())
+}
+
+#[test]
+fn so_are_those_of_many_rows_of_one_time(rt: HostRuntime) -> Result<(), Fail> {
+    tables_as_put(&rt, rt.alloc(), Dice::crowded(), 20)?;
     Ok(())
 }
 
 #[test]
 fn rows_that_lack_columns_are_merged_as_wider_ones(rt: HostRuntime) -> Result<(), Fail> {
     let alloc = rt.alloc();
-    let mut dice = Dice::new();
+    let mut dice = Dice::few();
     for case in 0..200 {
         let schema = table(alloc, case % 2 == 0)?;
         let rows = dice.older_rows(alloc)?;

@@ -330,7 +330,7 @@ fn table_as_put(alloc: Global, dice: &mut Dice, schema: &Schema) -> Result<bool,
 #[test]
 fn tables_in_parts_are_those_of_the_plain_program(rt: HostRuntime) -> Result<(), Fail> {
     let alloc = rt.alloc();
-    let mut dice = Dice::new();
+    let mut dice = Dice::few();
     for case in 0..100 {
         let schema = table(alloc, case % 2 == 0)?;
         assert!(rt; table_as_put(alloc, &mut dice, &schema)?);

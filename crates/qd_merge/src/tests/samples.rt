@@ -158,12 +158,33 @@ pub(super) fn rows(alloc: Global, given: &[(u32, u32, u8)]) -> Result<RowList, M
 #[derive(Drop)]
 pub(super) struct Dice {
     state: u64,
+    /// The number of the last moment; the first is 0.
+    last_moment: u8,
+    /// How many names there are.
+    names: u8,
+    /// How many rows come together at most.
+    most: u8,
 }
 
 impl Dice {
-    /// The first of the numbers.
-    pub(super) fn new() -> Dice {
-        Dice { state: 1 }
+    /// Up to eight rows of six moments, in two hours, and two names.
+    pub(super) fn few() -> Dice {
+        Dice {
+            state: 1,
+            last_moment: 5,
+            names: 2,
+            most: 8,
+        }
+    }
+
+    /// Up to 80 rows of two moments and 40 names, so that each moment has many rows.
+    pub(super) fn crowded() -> Dice {
+        Dice {
+            state: 1,
+            last_moment: 1,
+            names: 40,
+            most: 80,
+        }
     }
 
     /// The next number below another.
@@ -178,28 +199,36 @@ impl Dice {
         (self.state >> 33) % most
     }
 
-    /// One of six moments, in two hours.
+    /// One of the moments.
     fn time(&mut self) -> u64
         ensures moment { result ≤ greatest }
     {
-        self.below(6) * STEP
+        let last = u64::from(self.last_moment);
+        self.below(last + 1) * STEP
     }
 
     /// A name, or none.
     fn name(&mut self) -> Option<u8> {
-        match self.below(3) {
+        let names = u64::from(self.names);
+        match self.below(names + 1) {
             0 => None,
             letter => Some(letter as u8),
         }
     }
 
-    /// Up to eight rows, numbered from a number on.
+    /// How many rows come together.
+    fn count(&mut self) -> u8 {
+        let most = u64::from(self.most);
+        self.below(most + 1) as u8
+    }
+
+    /// Some rows, numbered from a number on.
     pub(super) fn rows(&mut self, alloc: Global, from: u32) -> Result<RowList, Memory>
         requires { from ≤ 1000 }
         ensures rows { IfOk result (All IsTableRow) }
     {
         let mut rows = no_rows(alloc);
-        for number in 0..self.below(9) as u32 {
+        for number in 0..u32::from(self.count()) {
             let time = self.time();
             let name = self.name();
             let row = row(alloc, time, from + number, name)?;
@@ -208,12 +237,12 @@ impl Dice {
         Ok(rows)
     }
 
-    /// Up to eight rows of the table before it got names and truth values.
+    /// Some rows of the table before it got names and truth values.
     pub(super) fn older_rows(&mut self, alloc: Global) -> Result<RowList, Memory>
         ensures rows { IfOk result (All IsOlderRow) }
     {
         let mut rows = RowList::new(alloc);
-        for number in 0..self.below(9) as u32 {
+        for number in 0..u32::from(self.count()) {
             rows.push(older_row(alloc, self.time(), number)?)?;
         }
         Ok(rows)

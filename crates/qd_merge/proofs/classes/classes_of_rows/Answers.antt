@@ -1,17 +1,26 @@
-use Rattle.std.proofs.Common.{◌∙◌, List, ℕ, subst, take, get_or}
-use Rattle.std.proofs.lemmas.List.{take_more, take_all}
-use Rattle.qd_merge.specs.Classes.{AreClasses}
-use Rattle.qd_merge.proofs.ClassLemmas.{no_classes, classes_next, lent_exact}
+use Rattle.std.proofs.Common.{◌≡◌, ◌∙◌, List, ℕ, ap, length, map, subst, sym, take, get_or, arith}
+use Rattle.std.proofs.lemmas.List.{length-map, take_more, take_all}
+use Rattle.qd_base.specs.Rows.{cell_at}
+use Rattle.qd_merge.specs.Classes.{AreClasses, cell_of}
+use Rattle.qd_merge.proofs.ClassLemmas.{no_classes}
 use Rattle.qd_merge.proofs.classes.classes_of_rows.Goals as goal
 
 pub loop-key-init : goal.loop-key-init
 loop-key-init c = no_classes c.args.rows.now c.in_ok-classes.classes.items (c.in_ok-classes.ensures.items_if_clones_equal (λ y e. e))
 
+pub classes_apart-requires : goal.classes_apart-requires
+classes_apart-requires c =
+    let rows = c.args.rows.now in
+    omega (arith, ap length c.as_slice.ensures.value, ap length c.as_slice-in-loop-key.ensures.value, ap length c.in_ok-cells.ensures.cells, length-map c.in_ok-cells.cells.items cell_of, length-map rows (λ r. cell_at r (get_or c.as_slice-key-items.result.now c.loop-key.key-index 0)), c.loop-key.invariant.count)
+
 pub loop-key-preserved : goal.loop-key-preserved
 loop-key-preserved c =
     let i = c.loop-key.key-index in
     let keys = c.as_slice-key-items.result.now in
-    classes_next _ (take i keys) (get_or keys i 0) c.args.rows.now c.loop-key.classes.items c.as_slice-in-loop-key.result.now _ c.in_ok-cells.cells.items c.as_slice.result.now c.in_ok-cells-2.cells.items c.as_slice-in-loop-key-2.result.now _ (take_more keys i 0 c.loop-key-test.true) lent_exact c.loop-key.invariant c.in_ok-cells.ensures.cells c.as_slice.ensures.value c.in_ok-cells-2.ensures.numbers c.as_slice-in-loop-key.ensures.value c.as_slice-in-loop-key-2.ensures.value c.in_ok-classes-2.ensures.refined
+    let rows = c.args.rows.now in
+    let before = subst (AreClasses (take i keys) rows) (sym c.as_slice.ensures.value) c.loop-key.invariant in
+    let cells = ap (map cell_of) c.as_slice-in-loop-key.ensures.value ∙ c.in_ok-cells.ensures.cells in
+    subst (λ (ks : List ℕ). AreClasses ks rows c.in_ok-classes-2.classes.items) (sym (take_more keys i 0 c.loop-key-test.true)) (c.in_ok-classes-2.ensures.apart (take i keys) (get_or keys i 0) rows before cells)
 
 pub returns : goal.returns
 returns c =

@@ -1,7 +1,7 @@
-use Rattle.std.proofs.Common.{◌≡◌, ◌∙◌, ◌++◌, ◌-◌, ◌<◌, ◌≤◌, ℕ, List, Bool, false, ap, ap₂, subst, length, arith, All, map, replicate}
-use Rattle.qd_base.specs.Rows.{Row, time_of}
-use Rattle.qd_merge.specs.Classes.{AreClasses}
-use Rattle.qd_merge.specs.Replaced.{group_of, stand_behind}
+use Rattle.std.proofs.Common.{◌≡◌, ◌∙◌, ◌++◌, ◌-◌, ◌<◌, ◌≤◌, ℕ, List, Bool, false, ap, subst, length, arith, All, map, replicate, slice_range}
+use Rattle.qd_base.specs.Rows.{time_of}
+use Rattle.qd_merge.specs.Equals.{taken}
+use Rattle.qd_merge.specs.Merged.{with_missing}
 use Rattle.qd_merge.proofs.Lent.{lent_times, at_col, timed_within}
 use Rattle.qd_merge.proofs.Groups.{IsGroup, group_found, far_group, near_group}
 use Rattle.qd_merge.proofs.replaced.push_group.Goals as goal
@@ -16,8 +16,8 @@ first_from-from-requires c =
     let old = lent_times c.args.old.now c.times-moments.result.now c.is_whole.ensures.whole c.times-moments.ensures.times in
     omega (arith, old.size, c.requires.so_far.few)
 
-pub returns-in_ok-push_taken-clause-so_far : goal.returns-in_ok-push_taken-clause-so_far
-returns-in_ok-push_taken-clause-so_far c =
+pub returns-in_ok-push_equals-clause-so_far : goal.returns-in_ok-push_equals-clause-so_far
+returns-in_ok-push_equals-clause-so_far c =
     let b = c.args.batch.now in
     let o = c.args.old.now in
     let keys = c.args.keys.now in
@@ -40,10 +40,9 @@ returns-in_ok-push_taken-clause-so_far c =
     c.first_later-to.ensures.from c.first_later-to.ensures.within c.first_later-to.ensures.upto c.first_later-to.ensures.later in
     let count : from - c.len-2.result ≡ from - length flags = omega (arith, c.len-2.ensures, c.args.gone.now.ok.0) in
     let padded : c.push_false.new.gone.items ≡ flags ++ replicate (from - length flags) false = c.in_ok-push_false.ensures.added ∙ ap (λ n. flags ++ replicate n false) count in
-    let classes : List ℕ = c.in_ok-classes.classes.items in
-    let are : AreClasses keys (group_of b.kinds o.rows from to b.rows c.args.place end) classes = subst (λ (rs : List Row). AreClasses keys rs classes) (c.as_slice.ensures.items ∙ c.in_ok-rows.ensures.rows) c.in_ok-classes.ensures.classes in
-    let added : c.push_taken.new.gone.items ≡ (flags ++ replicate (from - length flags) false) ++ stand_behind (to - from) classes = c.in_ok-push_taken.ensures.added ∙ ap₂ (λ (u : List Bool) (cs : List ℕ). u ++ stand_behind (to - from) cs) padded c.as_slice-then-from-to.ensures.value in
-    near_group col keys b.kinds b.rows o.rows moments coming flags c.args.place end from to classes c.push_taken.new.gone.items c.requires.keys rows_are new.same old.rise new.rise wide c.requires.so_far group are added
+    let equals : List Bool = taken keys (map (with_missing b.kinds) (slice_range o.rows from to)) (slice_range b.rows c.args.place end) in
+    let added : c.push_equals.new.gone.items ≡ (flags ++ replicate (from - length flags) false) ++ equals = c.in_ok-push_equals.ensures.added ∙ ap (λ (u : List Bool). u ++ equals) padded in
+    near_group col keys b.kinds b.rows o.rows moments coming flags c.args.place end from to c.push_equals.new.gone.items c.requires.keys rows_are new.same old.rise new.rise wide c.requires.so_far group added
 
 pub returns-else-from-to-clause-so_far : goal.returns-else-from-to-clause-so_far
 returns-else-from-to-clause-so_far c =
@@ -71,3 +70,17 @@ returns-else-from-to-clause-so_far c =
     let padded : c.push_false.new.gone.items ≡ flags ++ replicate (from - length flags) false = c.in_ok-push_false.ensures.added ∙ ap (λ n. flags ++ replicate n false) count in
     let none : from ≡ to = omega (arith, c.if-from-to.false, c.first_later-to.ensures.from) in
     far_group col keys b.kinds b.rows o.rows moments coming flags c.args.place end from to c.push_false.new.gone.items c.requires.keys rows_are new.same old.rise new.rise wide c.requires.so_far group none padded
+
+pub push_equals-requires : goal.push_equals-requires
+push_equals-requires c =
+    let old = lent_times c.args.old.now c.times-moments.result.now c.is_whole.ensures.whole c.times-moments.ensures.times in
+    let new = lent_times c.args.batch.now c.times-coming.result.now c.is_whole-2.ensures.whole c.times-coming.ensures.times in
+    record {
+      within = record {
+        ordered = c.first_later-to.ensures.from;
+        block = omega (arith, old.size, c.first_later-to.ensures.within);
+        ascending = c.first_later-end.ensures.from;
+        batch = omega (arith, new.size, c.first_later-end.ensures.within);
+        narrow = c.requires.narrow;
+      };
+    }

@@ -1,7 +1,7 @@
 use Rattle.std.proofs.Common.{◌∙◌, ◌<◌, ap, sym, subst, ℕ, false, true, length, get_or}
 use Rattle.std.proofs.lemmas.List.{length-replicate, length-set}
 use Rattle.qd_merge.proofs.Marks.{none_marked, marks_more}
-use Rattle.qd_merge.proofs.replaced.marks_of.Goals as goal
+use Rattle.qd_merge.proofs.taken.marks_of.Goals as goal
 
 pub loop-number-init : goal.loop-number-init
 loop-number-init c =

@@ -3,7 +3,7 @@ use Rattle.std.specs.List.{list_any}
 use Rattle.std.proofs.lemmas.List.{take_all}
 use Rattle.std.proofs.lemmas.Result.{IfOk-weaker}
 use Rattle.qd_merge.proofs.Marks.{marks_tell}
-use Rattle.qd_merge.proofs.replaced.push_taken.Goals as goal
+use Rattle.qd_merge.proofs.taken.push_taken.Goals as goal
 
 pub returns : goal.returns
 returns c =

@@ -1,6 +1,6 @@
 use Rattle.std.proofs.Common.{◌≡◌, ◌<◌, ℕ, false, eqb, get_or, length, take}
 use Rattle.std.specs.List.{list_any}
-use Rattle.qd_merge.proofs.replaced.marks_of.Given as goal
+use Rattle.qd_merge.proofs.taken.marks_of.Given as goal
 
 -- the numbers so far are marked
 abbrev pub invariant-loop-number : goal.invariant-loop-number

@@ -1,5 +1,5 @@
 use Rattle.std.proofs.Common.{◌≡◌, ◌++◌, false, get_or, map, take}
-use Rattle.qd_merge.proofs.replaced.push_marks.Given as goal
+use Rattle.qd_merge.proofs.taken.push_marks.Given as goal
 
 -- the marks of the numbers so far are added
 abbrev pub invariant-loop-number : goal.invariant-loop-number

@@ -1,0 +1,6 @@
+pub mod Spelling
+pub mod Cursor
+pub mod Layout
+pub mod Reading
+pub mod Writing
+pub mod Laws

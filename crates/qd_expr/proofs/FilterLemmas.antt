@@ -1,8 +1,9 @@
 -- Rows that pass, and the runs that they come from.
-use Rattle.std.proofs.Common.{◌≡◌, ℕ, zero, suc, ◌+◌, ◌-◌, ◌<◌, ◌≤◌, List, [], ◌∷◌, ◌++◌, Option, Some, None, length, map, take, drop, get_or, refl, sym, ap, ◌∙◌, arith, subst, append_assoc, slice_get}
+use Rattle.std.proofs.Common.{◌≡◌, ℕ, zero, suc, ◌+◌, ◌-◌, ◌<◌, ◌≤◌, ◌⊎◌, inl, inr, List, [], ◌∷◌, ◌++◌, Option, Some, None, length, map, take, drop, get_or, refl, sym, ap, ◌∙◌, arith, subst, append_assoc, slice_get}
 use Rattle.std.specs.Prelude.{Bool, true, false, cond, filter}
 use Rattle.std.specs.List.{range_with_len}
 use Rattle.std.proofs.Math.Seq.{drop-cons}
+use Rattle.std.proofs.lemmas.Bool.{cases_order}
 use Rattle.std.proofs.lemmas.List.{map-append, get_or-map, length-map, append-nil, drop_all, take_more}
 use Rattle.std.proofs.lemmas.Option.{get_or_from_slice_get}
 use Rattle.std.proofs.lemmas.List.FromFn.{length-map-range_with_len, get_or-map-range_with_len}
@@ -76,25 +77,6 @@ chosen_next (t ∷ ts) (x ∷ xs) (suc k) d h j = chosen_next ts xs k d (omega a
 
 one_more : (k : ℕ) → k + 1 ≡ suc k
 one_more k = omega arith
-
-pub chosen_taken : {X : Type 0} (kept whole : List X) (found : List Bool) (xs : List X) (k : ℕ) (x : X) → k < length found → k < length xs → get_or found k false ≡ true → get_or xs k x ≡ x
-    → kept ++ chosen (drop k found) (drop k xs) ≡ whole → (kept ++ x ∷ []) ++ chosen (drop (k + 1) found) (drop (k + 1) xs) ≡ whole
-chosen_taken kept whole found xs k x h j held at e =
-    let rest = chosen (drop (suc k) found) (drop (suc k) xs) in
-    ap (λ n. (kept ++ x ∷ []) ++ chosen (drop n found) (drop n xs)) (one_more k)
-    ∙ append_assoc kept (x ∷ []) (chosen (drop (suc k) found) (drop (suc k) xs))
-    ∙ ap (λ y. kept ++ y ∷ chosen (drop (suc k) found) (drop (suc k) xs)) (sym at)
-    ∙ ap (λ t. kept ++ cond t (get_or xs k x ∷ chosen (drop (suc k) found) (drop (suc k) xs)) (chosen (drop (suc k) found) (drop (suc k) xs))) (sym held)
-    ∙ ap (λ l. kept ++ l) (sym (chosen_next found xs k x h j))
-    ∙ e
-
-pub chosen_passed : {X : Type 0} (kept whole : List X) (found : List Bool) (xs : List X) (k : ℕ) (d : X) → k < length found → k < length xs → get_or found k false ≡ false
-    → kept ++ chosen (drop k found) (drop k xs) ≡ whole → kept ++ chosen (drop (k + 1) found) (drop (k + 1) xs) ≡ whole
-chosen_passed kept whole found xs k d h j failed e =
-    ap (λ n. kept ++ chosen (drop n found) (drop n xs)) (one_more k)
-    ∙ ap (λ t. kept ++ cond t (get_or xs k d ∷ chosen (drop (suc k) found) (drop (suc k) xs)) (chosen (drop (suc k) found) (drop (suc k) xs))) (sym failed)
-    ∙ ap (λ l. kept ++ l) (sym (chosen_next found xs k d h j))
-    ∙ e
 
 -- a row of a run
 pub run_row : (r : Run) (k : ℕ) (d : Joined) → k < r.to - r.from → get_or (alone (places_of_run r)) k d ≡ ((r.block, r.from + k), None)
@@ -218,26 +200,119 @@ IsKept first kept part found k =
     (kept ≡ with_places first kept.places)
     × (kept.places ++ chosen (drop k found) (drop k (alone (places_of_run part))) ≡ first.places ++ chosen found (alone (places_of_run part)))
 
-pub part_taken : (first kept new : ResultRows) (part : Run) (found : List Bool) (k : ℕ) → k < length found → length found ≡ part.to - part.from → get_or found k false ≡ true
-    → new ≡ with_place kept ((part.block, part.from + k), None) → IsKept first kept part found k → IsKept first new part found (k + 1)
-part_taken first kept new part found k low size held e inv =
+-- truths that are the same as one, from that one on
+abbrev pub AreSame : List Bool → ℕ → ℕ → Type 0
+AreSame found from to = (i : ℕ) → from ≤ i → i < to → get_or found i false ≡ get_or found from false
+
+same_step : (found : List Bool) (from to i : ℕ) → AreSame found from to → get_or found to false ≡ get_or found from false → from ≤ i → i < to + 1 → get_or found i false ≡ get_or found from false
+same_step found from to i h e low high = by (cases_order i to)
+  where
+    by : (i ≡ to) ⊎ ((i < to) ⊎ (to < i)) → get_or found i false ≡ get_or found from false
+    by (inl same) = ap (λ (n : ℕ). get_or found n false) same ∙ e
+    by (inr (inl less)) = h i low less
+    by (inr (inr more)) = absurd (omega arith)
+
+pub same_more : (found : List Bool) (from to : ℕ) → AreSame found from to → get_or found to false ≡ get_or found from false → AreSame found from (to + 1)
+same_more found from to h e = λ i low high. same_step found from to i h e low high
+
+only_one : (found : List Bool) (from i : ℕ) → from ≤ i → i < from + 1 → get_or found i false ≡ get_or found from false
+only_one found from i low high = ap (λ (n : ℕ). get_or found n false) same
+  where
+    same : i ≡ from
+    same = omega arith
+
+pub same_one : (found : List Bool) (from : ℕ) → AreSame found from (from + 1)
+same_one found from = λ i low high. only_one found from i low high
+
+-- so many rows of a block, from one on
+abbrev pub rows_from : ℕ → ℕ → ℕ → List Joined
+rows_from block a n = alone (map (λ i. (block, i)) (range_with_len a n))
+
+suc_one : (a k : ℕ) → a + suc k ≡ a + k + 1
+suc_one a k = omega arith
+
+suc_left : (k n : ℕ) → suc k + n ≡ k + suc n
+suc_left k n = omega arith
+
+-- rows whose truths are all true are chosen
+chosen_all : (r : Run) (found : List Bool) (k n : ℕ) → k + n ≤ length found → length found ≡ r.to - r.from → ((i : ℕ) → k ≤ i → i < k + n → get_or found i false ≡ true)
+    → chosen (drop k found) (drop k (alone (places_of_run r))) ≡ rows_from r.block (r.from + k) n ++ chosen (drop (k + n) found) (drop (k + n) (alone (places_of_run r)))
+chosen_all r found k zero low size held = ap (λ m. chosen (drop m found) (drop m (alone (places_of_run r)))) (add_zero k)
+chosen_all r found k (suc n) low size held =
+    let xs : List Joined = alone (places_of_run r) in
+    let d : Joined = ((0, 0), None) in
+    let inside : k < length (alone (places_of_run r)) = omega (arith, length-run_rows r) in
+    let rest : List Joined = chosen (drop (suc k) found) (drop (suc k) xs) in
+    chosen_next found xs k d (omega arith) inside
+    ∙ ap (λ t. cond t (get_or xs k d ∷ rest) rest) (held k (omega arith) (omega arith))
+    ∙ ap (λ (x : Joined). x ∷ rest) (run_row r k d (omega arith))
+    ∙ ap (λ (l : List Joined). ((r.block, r.from + k), None) ∷ l)
+    (chosen_all r found (suc k) n (omega arith) size (λ i from to. held i (omega arith) (omega arith))
+    ∙ ap (λ m. rows_from r.block m n ++ chosen (drop (suc k + n) found) (drop (suc k + n) xs)) (suc_one r.from k)
+    ∙ ap (λ m. rows_from r.block (r.from + k + 1) n ++ chosen (drop m found) (drop m xs)) (suc_left k n))
+
+-- and those whose truths are all false are passed over
+chosen_none : (r : Run) (found : List Bool) (k n : ℕ) → k + n ≤ length found → length found ≡ r.to - r.from → ((i : ℕ) → k ≤ i → i < k + n → get_or found i false ≡ false)
+    → chosen (drop k found) (drop k (alone (places_of_run r))) ≡ chosen (drop (k + n) found) (drop (k + n) (alone (places_of_run r)))
+chosen_none r found k zero low size failed = ap (λ m. chosen (drop m found) (drop m (alone (places_of_run r)))) (add_zero k)
+chosen_none r found k (suc n) low size failed =
+    let xs : List Joined = alone (places_of_run r) in
+    let d : Joined = ((0, 0), None) in
+    let inside : k < length (alone (places_of_run r)) = omega (arith, length-run_rows r) in
+    let rest : List Joined = chosen (drop (suc k) found) (drop (suc k) xs) in
+    chosen_next found xs k d (omega arith) inside
+    ∙ ap (λ t. cond t (get_or xs k d ∷ rest) rest) (failed k (omega arith) (omega arith))
+    ∙ chosen_none r found (suc k) n (omega arith) size (λ i from to. failed i (omega arith) (omega arith))
+    ∙ ap (λ m. chosen (drop m found) (drop m xs)) (suc_left k n)
+
+-- the part of a run from one of its rows up to another
+abbrev pub cut_of : Run → ℕ → ℕ → Run
+cut_of r from to = record { block = r.block; from = r.from + from; to = r.from + to; before = 0 }
+
+pub cut_there : (s kept : ResultRows) (r : Run) (from to : ℕ) → kept ≡ with_places s kept.places → IsRunOf s r → from < to → to ≤ r.to - r.from → IsRunOf kept (cut_of r from to)
+cut_there s kept r from to same there some within =
+    let more : r.from + from < r.from + to = omega arith in
+    let inside : r.from + to ≤ r.to = omega (arith, there.some) in
+    run_too s kept (cut_of r from to) same (part_there s r (cut_of r from to) there refl more inside)
+
+cut_rows : (r : Run) (from to : ℕ) → from ≤ to → rows_from r.block (r.from + from) (to - from) ≡ alone (places_of_run (cut_of r from to))
+cut_rows r from to h = ap (rows_from r.block (r.from + from)) count
+  where
+    count : to - from ≡ (r.from + to) - (r.from + from)
+    count = omega arith
+
+back : (from to : ℕ) → from ≤ to → from + (to - from) ≡ to
+back from to h = omega arith
+
+pub cut_taken : (first kept new : ResultRows) (part : Run) (found : List Bool) (from to : ℕ) → from < to → to ≤ length found → length found ≡ part.to - part.from → AreSame found from to → get_or found from false ≡ true
+    → new ≡ record kept { places = kept.places ++ alone (places_of_run (cut_of part from to)) } → IsKept first kept part found from → IsKept first new part found to
+cut_taken first kept new part found from to some within size same held e inv =
     let xs : List Joined = alone (places_of_run part) in
-    let p : Joined = ((part.block, part.from + k), None) in
-    let whole : List Joined = first.places ++ chosen found (alone (places_of_run part)) in
-    let high : k < length (alone (places_of_run part)) = omega (arith, length-run_rows part) in (
-      kept_more first kept new p inv.0 e,
-      ap (λ (s : ResultRows). s.places ++ chosen (drop (k + 1) found) (drop (k + 1) (alone (places_of_run part)))) e
-          ∙ chosen_taken kept.places whole found xs k p low high held (run_row part k p (omega arith)) inv.1,
+    let one : List Joined = alone (places_of_run (cut_of part from to)) in
+    let rest : List Joined = chosen (drop to found) (drop to xs) in
+    let low : from ≤ to = omega arith in
+    let inside : from + (to - from) ≤ length found = omega arith in
+    let taken = chosen_all part found from (to - from) inside size (λ i a b. same i a (omega arith) ∙ held) in (
+      e ∙ ap (λ (s : ResultRows). record s { places = s.places ++ alone (places_of_run (cut_of part from to)) }) inv.0 ∙ ap (λ (s : ResultRows). with_places first s.places) (sym e),
+      ap (λ (s : ResultRows). s.places ++ chosen (drop to found) (drop to (alone (places_of_run part)))) e
+          ∙ append_assoc kept.places one rest
+          ∙ ap (λ (l : List Joined). kept.places ++ l)
+          (sym (taken ∙ ap (λ (l : List Joined). l ++ chosen (drop (from + (to - from)) found) (drop (from + (to - from)) xs)) (cut_rows part from to low) ∙ ap (λ m. one ++ chosen (drop m found) (drop m xs)) (back from to low)))
+          ∙ inv.1,
     )
 
-pub part_passed : (first kept : ResultRows) (part : Run) (found : List Bool) (k : ℕ) → k < length found → length found ≡ part.to - part.from → get_or found k false ≡ false
-    → IsKept first kept part found k → IsKept first kept part found (k + 1)
-part_passed first kept part found k low size failed inv =
+pub cut_passed : (first kept : ResultRows) (part : Run) (found : List Bool) (from to : ℕ) → from < to → to ≤ length found → length found ≡ part.to - part.from → AreSame found from to → get_or found from false ≡ false
+    → IsKept first kept part found from → IsKept first kept part found to
+cut_passed first kept part found from to some within size same failed inv =
     let xs : List Joined = alone (places_of_run part) in
-    let p : Joined = ((part.block, part.from + k), None) in
-    let whole : List Joined = first.places ++ chosen found (alone (places_of_run part)) in
-    let high : k < length (alone (places_of_run part)) = omega (arith, length-run_rows part) in
-    (inv.0, chosen_passed kept.places whole found xs k p low high failed inv.1)
+    let low : from ≤ to = omega arith in
+    let inside : from + (to - from) ≤ length found = omega arith in
+    let passed = chosen_none part found from (to - from) inside size (λ i a b. same i a (omega arith) ∙ failed) in
+    (inv.0, ap (λ (l : List Joined). kept.places ++ l) (sym (passed ∙ ap (λ m. chosen (drop m found) (drop m xs)) (back from to low))) ∙ inv.1)
+
+pub part_ended : (first kept : ResultRows) (part : Run) (found : List Bool) (k : ℕ) → IsKept first kept part found k → length found ≤ k → kept ≡ with_places first (first.places ++ chosen found (alone (places_of_run part)))
+part_ended first kept part found k inv done =
+    inv.0 ∙ ap (with_places first) (sym (append-nil kept.places) ∙ ap (λ (l : List Bool). kept.places ++ chosen l (drop k (alone (places_of_run part)))) (sym (drop_all k found done)) ∙ inv.1)
 
 -- the same where rows are looked at one by one
 abbrev pub IsFiltered : ResultRows → ResultRows → Bound → ℕ → Type 0

@@ -3,3 +3,4 @@ pub mod ListLemmas
 pub mod RunLemmas
 pub mod FilterLemmas
 pub mod IdLemmas
+pub mod LiteralLemmas

@@ -1,21 +1,140 @@
 //! Tests of columns, as loops over the numbers that a column is kept as.
 ghost use Rattle.std.specs.Prelude.{◌≡◌, ◌==◌, ◌≤◌, ◌&&◌, ◌||◌, IfOk, IfSome, length, map, not, slice_range};
-ghost use Rattle.std.specs.List.{zip};
+ghost use Rattle.std.specs.List.{list_any, zip};
 ghost use Rattle.qd_base.specs.declared.cell.Cell.TheVariants as cell;
 ghost use Rattle.qd_base.specs.declared.schema.ColType.TheVariants as kind;
+ghost use Rattle.qd_base.specs.declared.limits.TheConstants.{NULL_ID as null_id};
+ghost use Rattle.qd_base.specs.Rows.{cell_eq};
 ghost use Rattle.qd_column.specs.Cells.{long_cell, time_cell};
 ghost use Rattle.qd_value.specs.Cells as spec;
 ghost use Rattle.qd_value.specs.Scalars.{cell_of};
 ghost use Rattle.qd_value.specs.declared.bound.Comparison.TheVariants as asks;
 
-use qd_base::{ColType, Dictionary, Memory, NULL_LONG, NULL_TIME};
+use crate::cells::of_column;
+use qd_base::{Cell, ColType, Dictionary, Memory, NULL_ID, NULL_LONG, NULL_TIME};
 use qd_column::Column;
-use qd_value::{Comparison, Scalar};
+use qd_value::{Comparison, Scalar, compares, is_among};
 use std::alloc::Global;
 
-/// Whether each cell from one row up to another stands in a comparison with a literal. It is `None` for kinds that have
-/// no loop of their own.
+/// Whether each cell from one row up to another stands in a comparison with a literal. It goes over the numbers that the
+/// column is kept as, where the literal is of the column's kind, and else cell by cell.
 pub(crate) fn compared<D: Dictionary>(
+    alloc: Global,
+    column: &Column<D>,
+    from: usize,
+    to: usize,
+    op: Comparison,
+    literal: Scalar<'_>,
+) -> Result<Vec<bool>, Memory>
+    requires ordered { from ≤ to }
+    requires within { to ≤ length column.now.cells }
+    ensures truths { IfOk result (λ v. v.items ≡ map (λ c. spec.compares op c (cell_of literal.entry)) (slice_range column.now.cells from to)) }
+{
+    match compared_by_kind(alloc, column, from, to, op, literal)? {
+        Some(found) => Ok(found),
+        None => compared_by_cell(alloc, column, from, to, op, literal),
+    }
+}
+
+/// Whether each cell from one row up to another stands in a comparison with a literal, cell by cell.
+fn compared_by_cell<D: Dictionary>(
+    alloc: Global,
+    column: &Column<D>,
+    from: usize,
+    to: usize,
+    op: Comparison,
+    literal: Scalar<'_>,
+) -> Result<Vec<bool>, Memory>
+    requires ordered { from ≤ to }
+    requires within { to ≤ length column.now.cells }
+    ensures truths { IfOk result (λ v. v.items ≡ map (λ c. spec.compares op c (cell_of literal.entry)) (slice_range column.now.cells from to)) }
+{
+    let mut found = Vec::with_capacity(alloc, to - from)?;
+    for i in from..to {
+        found.push(compares(op, of_column(column, i), literal))?;
+    }
+    Ok(found)
+}
+
+/// Whether each cell from one row up to another is one of some literals. Each literal is looked for in one pass; in a
+/// VARCHAR column all of them are, cell by cell.
+pub(crate) fn among<D: Dictionary>(
+    alloc: Global,
+    column: &Column<D>,
+    from: usize,
+    to: usize,
+    literals: &[Cell],
+) -> Result<Vec<bool>, Memory>
+    requires ordered { from ≤ to }
+    requires within { to ≤ length column.now.cells }
+    ensures truths { IfOk result (λ v. v.items ≡ map (λ c. list_any (cell_eq c) literals.now) (slice_range column.now.cells from to)) }
+{
+    match column.kind() {
+        ColType::Varchar => among_by_cell(alloc, column, from, to, literals),
+        _ => among_by_literal(alloc, column, from, to, literals),
+    }
+}
+
+/// Whether each cell from one row up to another is one of some literals, cell by cell.
+fn among_by_cell<D: Dictionary>(
+    alloc: Global,
+    column: &Column<D>,
+    from: usize,
+    to: usize,
+    literals: &[Cell],
+) -> Result<Vec<bool>, Memory>
+    requires ordered { from ≤ to }
+    requires within { to ≤ length column.now.cells }
+    ensures truths { IfOk result (λ v. v.items ≡ map (λ c. list_any (cell_eq c) literals.now) (slice_range column.now.cells from to)) }
+{
+    let mut found = Vec::with_capacity(alloc, to - from)?;
+    for i in from..to {
+        found.push(is_among(of_column(column, i), literals))?;
+    }
+    Ok(found)
+}
+
+/// Whether each cell from one row up to another is one of some literals, literal by literal.
+fn among_by_literal<D: Dictionary>(
+    alloc: Global,
+    column: &Column<D>,
+    from: usize,
+    to: usize,
+    literals: &[Cell],
+) -> Result<Vec<bool>, Memory>
+    requires ordered { from ≤ to }
+    requires within { to ≤ length column.now.cells }
+    ensures truths { IfOk result (λ v. v.items ≡ map (λ c. list_any (cell_eq c) literals.now) (slice_range column.now.cells from to)) }
+{
+    let mut found = Vec::from_elem(alloc, false, to - from)?;
+    for literal in literals {
+        let wanted = Scalar::of(literal);
+        let more = compared(alloc, column, from, to, Comparison::Equal, wanted)?;
+        found = either(alloc, found.as_slice(), more.as_slice())?;
+    }
+    Ok(found)
+}
+
+/// Whether each cell from one row up to another is true. It is `None` for a column that isn't BOOLEAN.
+pub(crate) fn trues<D: Dictionary>(
+    alloc: Global,
+    column: &Column<D>,
+    from: usize,
+    to: usize,
+) -> Result<Option<Vec<bool>>, Memory>
+    requires ordered { from ≤ to }
+    requires within { to ≤ length column.now.cells }
+    ensures truths { IfOk result (λ found. IfSome found (λ v. v.items ≡ map spec.is_true (slice_range column.now.cells from to))) }
+{
+    match column.kind() {
+        ColType::Bool => Ok(Some(Vec::from_slice(alloc, &column.truths()[from..to])?)),
+        _ => Ok(None),
+    }
+}
+
+/// Whether each cell from one row up to another stands in a comparison with a literal of the column's kind. It is `None`
+/// for kinds that have no loop of their own.
+fn compared_by_kind<D: Dictionary>(
     alloc: Global,
     column: &Column<D>,
     from: usize,
@@ -68,6 +187,7 @@ pub(crate) fn nulls<D: Dictionary>(
     match column.kind() {
         ColType::Long => Ok(Some(longs_null(alloc, &column.longs()[from..to])?)),
         ColType::Time => Ok(Some(times_null(alloc, &column.times()[from..to])?)),
+        ColType::Symbol => Ok(Some(ids_null(alloc, &column.symbols()[from..to])?)),
         _ => Ok(None),
     }
 }
@@ -191,6 +311,13 @@ fn ids_equal(alloc: Global, ids: &[u64], id: u64) -> Result<Vec<bool>, Memory>
     ensures truths { IfOk result (λ v. v.items ≡ map (λ x. x == id) ids.now) }
 {
     ids.iter().map(|x| *x == id).collect(alloc)
+}
+
+/// Whether each id of a SYMBOL column stands for NULL.
+fn ids_null(alloc: Global, ids: &[u64]) -> Result<Vec<bool>, Memory>
+    ensures truths { IfOk result (λ v. v.items ≡ map (λ x. x == null_id) ids.now) }
+{
+    ids.iter().map(|x| *x == NULL_ID).collect(alloc)
 }
 
 /// The opposite of each truth.

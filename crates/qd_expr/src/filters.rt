@@ -1,5 +1,5 @@
 //! The rows of a set that pass a test.
-ghost use Rattle.std.specs.Prelude.{◌≡◌, ◌++◌, ◌-◌, ◌<◌, ◌≤◌, [], None, IfOk, OnOk, filter as filtered, length};
+ghost use Rattle.std.specs.Prelude.{◌≡◌, ℕ, ◌++◌, ◌-◌, ◌<◌, ◌≤◌, [], false, None, IfOk, OnOk, filter as filtered, length, slice_index_or};
 ghost use Rattle.qd_expr.specs.Passing.{chosen, passes_at, passing, with_places};
 ghost use Rattle.qd_rows.specs.Runs.{places_of_run};
 ghost use Rattle.qd_rows.specs.Sets.{alone, rows_in, IsRunOf};
@@ -134,17 +134,37 @@ fn part_of(run: Run, from: u64) -> Run
     Run { from, to, ..run }
 }
 
-/// Adds the rows of a run at which a truth is true.
+/// Adds the rows of a run at which a truth is true, neighbours together.
 fn keep_part<D: Dictionary>(kept: &mut RowSet<D>, part: Run, found: &[bool]) -> Result<(), Memory>
     requires single { kept.old.right ≡ None }
     requires there { IsRunOf kept.old part }
     requires size { length found.now ≡ part.to - part.from }
     ensures ok { OnOk result (kept.new ≡ with_places kept.old (kept.old.places ++ chosen found.now (alone (places_of_run part)))) }
 {
-    for (k, passes) in found.iter().enumerate() {
-        if *passes {
-            kept.push_row((part.block, part.from + k as u64), None)?;
+    let mut from = 0;
+    while from < found.len() {
+        let to = end_of(found, from);
+        let passes = found[from];
+        if passes {
+            kept.push_run(part.block, part.from + from as u64, part.from + to as u64)?;
         }
+        from = to;
     }
     Ok(())
+}
+
+/// Where the truths end that are the same as one, from that one on.
+fn end_of(found: &[bool], from: usize) -> usize
+    requires { from < length found.now }
+    ensures more { from < result }
+    ensures within { result ≤ length found.now }
+    ensures same { (i : ℕ) → from ≤ i → i < result → slice_index_or found.now i false ≡ slice_index_or found.now from false }
+{
+    let truth = found[from];
+    for to in from + 1..found.len() {
+        if found[to] != truth {
+            return to;
+        }
+    }
+    found.len()
 }

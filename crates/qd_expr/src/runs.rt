@@ -1,7 +1,8 @@
 //! Tests over the neighbouring rows of a block: one level of a test at a time, each as a loop over the whole run.
 ghost use Rattle.std.specs.Prelude.{◌≡◌, ◌-◌, ◌&&◌, None, IfOk, IfSome, length, map};
-ghost use Rattle.std.specs.List.{zip};
-ghost use Rattle.qd_base.specs.Rows.{cell_at as cell_of_col};
+ghost use Rattle.std.specs.List.{list_any, zip};
+ghost use Rattle.qd_base.specs.declared.cell.Cell.{Cell};
+ghost use Rattle.qd_base.specs.Rows.{cell_at as cell_of_col, cell_eq};
 ghost use Rattle.qd_expr.specs.Passing.{all_in_run, any_in_run, passes_at, passes_in_run};
 ghost use Rattle.qd_rows.specs.Runs.{places_of_run};
 ghost use Rattle.qd_rows.specs.Sets.{row_of_place, IsPlaced, IsRunOf};
@@ -10,19 +11,22 @@ ghost use Rattle.qd_value.specs.Scalars.{cell_of};
 ghost use Rattle.qd_value.specs.Value as meaning;
 
 use crate::cells::Joined;
-use crate::columns::{both, compared, compared_by_row, either, nulls, opposite, within};
+use crate::columns::{
+    among, both, compared, compared_by_row, either, nulls, opposite, trues, within,
+};
 use crate::on_set::test_at;
-use qd_base::{Dictionary, Memory};
+use qd_base::{Cell, Dictionary, Memory};
 use qd_rows::{RowSet, Run};
 use qd_value::{Bound, Comparison, Scalar};
 use std::alloc::Global;
 
 /// Whether each row of a run passes a test, in order.
 ///
-/// AND, OR and NOT go over lists of truths, a byte a row. A comparison of a column with a literal, and a time in an
-/// interval, go over the numbers that the column is kept as; a SYMBOL column is compared by the id of the text, which is
-/// looked up once. Any other test is done row by row, in the time of `test`. It takes a byte of memory a row for each
-/// level of the test's depth, and calls itself once for each.
+/// AND, OR and NOT go over lists of truths, a byte a row. A comparison of a column with a literal on either side, a column
+/// IN literals or an interval, IS NULL of a column and a BOOLEAN column alone go over what the column is kept as; a SYMBOL
+/// column is compared by the id of the text, which is looked up once. So do two LONG columns. Any other test is done row by
+/// row, in the time of `test`. It takes a byte of memory a row for each level of the test's depth, and calls itself once
+/// for each.
 #[cycle(truths)]
 pub fn truths<D: Dictionary>(
     alloc: Global,
@@ -182,14 +186,16 @@ fn by_column<D: Dictionary>(
     ensures truths { IfOk result (λ found. IfSome found (λ v. v.items ≡ passes_in_run expr.now rows.now run)) }
 {
     match expr {
+        Bound::Column(at) => column_true(alloc, rows, run, *at),
         Bound::Compare(op, x, y) => comparison(alloc, *op, x.get(), y.get(), rows, run),
+        Bound::InList(x, literals) => member(alloc, x.get(), literals.as_slice(), rows, run),
         Bound::InInterval(x, lo, hi) => interval(alloc, x.get(), *lo, *hi, rows, run),
         Bound::IsNull(x) => null(alloc, x.get(), rows, run),
         _ => Ok(None),
     }
 }
 
-/// A comparison: of a column with a literal, or with a column.
+/// A comparison: of a column with a literal, on either side, or with a column.
 fn comparison<D: Dictionary>(
     alloc: Global,
     op: Comparison,
@@ -207,6 +213,41 @@ fn comparison<D: Dictionary>(
             Bound::Column(other) => columns_compared(alloc, rows, run, *at, *other, op),
             _ => Ok(None),
         },
+        Bound::Literal(cell) => match y {
+            Bound::Column(at) => literal_compared(alloc, rows, run, Scalar::of(cell), op, *at),
+            _ => Ok(None),
+        },
+        _ => Ok(None),
+    }
+}
+
+/// The comparison that holds of two values where this one holds of them in the other order.
+fn turned(op: Comparison) -> Comparison
+    ensures turned { (x : Cell) → (y : Cell) → spec.compares result y x ≡ spec.compares op x y }
+{
+    match op {
+        Comparison::Equal => Comparison::Equal,
+        Comparison::NotEqual => Comparison::NotEqual,
+        Comparison::Less => Comparison::Greater,
+        Comparison::LessEqual => Comparison::GreaterEqual,
+        Comparison::Greater => Comparison::Less,
+        Comparison::GreaterEqual => Comparison::LessEqual,
+    }
+}
+
+/// A value among literals: that of a column.
+fn member<D: Dictionary>(
+    alloc: Global,
+    x: &Bound,
+    literals: &[Cell],
+    rows: &RowSet<D>,
+    run: Run,
+) -> Result<Option<Vec<bool>>, Memory>
+    requires { IsRunOf rows.now run }
+    ensures truths { IfOk result (λ found. IfSome found (λ v. v.items ≡ map (λ p. list_any (cell_eq (meaning.value x.now (row_of_place rows.now (p, None)))) literals.now) (places_of_run run))) }
+{
+    match x {
+        Bound::Column(at) => column_among(alloc, rows, run, *at, literals),
         _ => Ok(None),
     }
 }
@@ -263,14 +304,65 @@ fn column_compared<D: Dictionary>(
         return Ok(None);
     }
     let column = block.column(at as u32);
-    compared(
-        alloc,
-        column,
-        run.from as usize,
-        run.to as usize,
-        op,
-        literal,
-    )
+    let from = run.from as usize;
+    let to = run.to as usize;
+    Ok(Some(compared(alloc, column, from, to, op, literal)?))
+}
+
+/// A literal against the column of a run's block; `None` where the block lacks the column.
+fn literal_compared<D: Dictionary>(
+    alloc: Global,
+    rows: &RowSet<D>,
+    run: Run,
+    literal: Scalar<'_>,
+    op: Comparison,
+    at: usize,
+) -> Result<Option<Vec<bool>>, Memory>
+    requires { IsRunOf rows.now run }
+    ensures truths { IfOk result (λ found. IfSome found (λ v. v.items ≡ map (λ p. spec.compares op (cell_of literal.entry) (cell_of_col (row_of_place rows.now (p, None)) at)) (places_of_run run))) }
+{
+    column_compared(alloc, rows, run, at, turned(op), literal)
+}
+
+/// The column of a run's block among literals; `None` where the block lacks the column.
+fn column_among<D: Dictionary>(
+    alloc: Global,
+    rows: &RowSet<D>,
+    run: Run,
+    at: usize,
+    literals: &[Cell],
+) -> Result<Option<Vec<bool>>, Memory>
+    requires { IsRunOf rows.now run }
+    ensures truths { IfOk result (λ found. IfSome found (λ v. v.items ≡ map (λ p. list_any (cell_eq (cell_of_col (row_of_place rows.now (p, None)) at)) literals.now) (places_of_run run))) }
+{
+    let block = rows.block(run.block);
+    block.is_whole();
+    if block.cols() as usize <= at {
+        return Ok(None);
+    }
+    let column = block.column(at as u32);
+    let from = run.from as usize;
+    let to = run.to as usize;
+    Ok(Some(among(alloc, column, from, to, literals)?))
+}
+
+/// Where the BOOLEAN column of a run's block is true; `None` where the block lacks the column.
+fn column_true<D: Dictionary>(
+    alloc: Global,
+    rows: &RowSet<D>,
+    run: Run,
+    at: usize,
+) -> Result<Option<Vec<bool>>, Memory>
+    requires { IsRunOf rows.now run }
+    ensures truths { IfOk result (λ found. IfSome found (λ v. v.items ≡ map (λ p. spec.is_true (cell_of_col (row_of_place rows.now (p, None)) at)) (places_of_run run))) }
+{
+    let block = rows.block(run.block);
+    block.is_whole();
+    if block.cols() as usize <= at {
+        return Ok(None);
+    }
+    let column = block.column(at as u32);
+    trues(alloc, column, run.from as usize, run.to as usize)
 }
 
 /// The column of a run's block in an interval; `None` where the block lacks the column.

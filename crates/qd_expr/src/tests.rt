@@ -5,13 +5,14 @@ ghost use Rattle.qd_base.specs.declared.schema.ColType.TheVariants as kind;
 ghost use Rattle.qd_block.specs.Blocks.{kinds_in};
 
 use crate::{eval, filter, test, truths};
-use qd_base::{Cell, Col, ColList, ColType, Memory, NULL_LONG, Txt};
+use qd_base::{Cell, Col, ColList, ColType, Memory, NULL_LONG, Seq, Txt};
 use qd_block::{Block, Builder};
 use qd_rows::RowSet;
 use qd_symbols::SymbolMap;
 use qd_value::Comparison::{Equal, Greater, GreaterEqual, Less, LessEqual, NotEqual};
 use qd_value::{Arithmetic, Bound, Boxed, Comparison, Items, Operand, Scalar};
 use std::alloc::Global;
+use std::process::Abort;
 use std::sync::Arc;
 use std::test::Fail;
 
@@ -161,114 +162,160 @@ fn is_found(found: &[bool], wanted: &[u64]) -> bool {
     same
 }
 
+/// Compares the rows that pass with those of these times, whichever way they are found.
+fn pass(rt: &(impl Abort + AllocGlobal), expr: Bound, wanted: &[u64]) -> Result<(), Fail> {
+    assert!(rt; passes(rt.alloc(), &expr, wanted)?, "{wanted:?}");
+    Ok(())
+}
+
+/// The same of a comparison of a column with a literal.
+fn compares(
+    rt: &(impl Abort + AllocGlobal),
+    at: usize,
+    op: Comparison,
+    literal: Scalar<'_>,
+    wanted: &[u64],
+) -> Result<(), Fail> {
+    let expr = compare(rt.alloc(), at, op, literal)?;
+    pass(rt, expr, wanted)
+}
+
 #[test]
 fn rows_pass_by_column(rt: HostRuntime) -> Result<(), Fail> {
-    let alloc = rt.alloc();
-    let cases: [(usize, Comparison, Scalar<'static>, &'static [u64]); 22] = [
-        (0, Equal, Scalar::Long(7), &[1, 4]),
-        (0, NotEqual, Scalar::Long(7), &[2, 3, 5]),
-        (0, Less, Scalar::Long(7), &[3]),
-        (0, LessEqual, Scalar::Long(7), &[1, 3, 4]),
-        (0, Greater, Scalar::Long(7), &[5]),
-        (0, GreaterEqual, Scalar::Long(7), &[1, 4, 5]),
-        (0, Equal, Scalar::Null, &[2]),
-        (0, NotEqual, Scalar::Null, &[1, 3, 4, 5]),
-        (0, Less, Scalar::Null, &[]),
-        (1, Equal, Scalar::Time(3), &[3]),
-        (1, NotEqual, Scalar::Time(3), &[1, 2, 4, 5]),
-        (1, Less, Scalar::Time(3), &[1, 2]),
-        (1, GreaterEqual, Scalar::Time(3), &[3, 4, 5]),
-        (2, Equal, Scalar::Text(b"a"), &[1, 5]),
-        (2, NotEqual, Scalar::Text(b"a"), &[2, 3, 4]),
-        (2, Equal, Scalar::Text(b"z"), &[]),
-        (2, NotEqual, Scalar::Text(b"z"), &[1, 2, 3, 4, 5]),
-        (2, Greater, Scalar::Text(b"a"), &[2, 4]),
-        (3, Equal, Scalar::Long(0), &[3]),
-        (4, Equal, Scalar::Bool(false), &[1, 2, 3, 4, 5]),
-        (5, Equal, Scalar::Long(0), &[]),
-        (9, Equal, Scalar::Null, &[1, 2, 3, 4, 5]),
-    ];
-    for (at, op, literal, wanted) in cases {
-        let expr = compare(alloc, at, op, literal)?;
-        assert!(rt; passes(alloc, &expr, wanted)?);
-    }
+    compares(&rt, 0, Equal, Scalar::Long(7), &[1, 4])?;
+    compares(&rt, 0, NotEqual, Scalar::Long(7), &[2, 3, 5])?;
+    compares(&rt, 0, Less, Scalar::Long(7), &[3])?;
+    compares(&rt, 0, LessEqual, Scalar::Long(7), &[1, 3, 4])?;
+    compares(&rt, 0, Greater, Scalar::Long(7), &[5])?;
+    compares(&rt, 0, GreaterEqual, Scalar::Long(7), &[1, 4, 5])?;
+    compares(&rt, 0, Equal, Scalar::Null, &[2])?;
+    compares(&rt, 0, NotEqual, Scalar::Null, &[1, 3, 4, 5])?;
+    compares(&rt, 0, Less, Scalar::Null, &[])?;
+    compares(&rt, 1, Equal, Scalar::Time(3), &[3])?;
+    compares(&rt, 1, NotEqual, Scalar::Time(3), &[1, 2, 4, 5])?;
+    compares(&rt, 1, Less, Scalar::Time(3), &[1, 2])?;
+    compares(&rt, 1, GreaterEqual, Scalar::Time(3), &[3, 4, 5])?;
+    compares(&rt, 1, NotEqual, Scalar::Text(b"3"), &[1, 2, 3, 4, 5])?;
+    compares(&rt, 1, GreaterEqual, Scalar::Long(3), &[])?;
+    compares(&rt, 2, Equal, Scalar::Text(b"a"), &[1, 5])?;
+    compares(&rt, 2, NotEqual, Scalar::Text(b"a"), &[2, 3, 4])?;
+    compares(&rt, 2, Equal, Scalar::Text(b"z"), &[])?;
+    compares(&rt, 2, NotEqual, Scalar::Text(b"z"), &[1, 2, 3, 4, 5])?;
+    compares(&rt, 2, Greater, Scalar::Text(b"a"), &[2, 4])?;
+    compares(&rt, 3, Equal, Scalar::Long(0), &[3])?;
+    compares(&rt, 4, Equal, Scalar::Bool(false), &[1, 2, 3, 4, 5])?;
+    compares(&rt, 5, Equal, Scalar::Long(0), &[])?;
+    compares(&rt, 9, Equal, Scalar::Null, &[1, 2, 3, 4, 5])?;
     Ok(())
+}
+
+/// Compares the rows whose value in a column is one of two with those of these times.
+fn is_one_of(
+    rt: &(impl Abort + AllocGlobal),
+    at: usize,
+    x: Scalar<'_>,
+    y: Scalar<'_>,
+    wanted: &[u64],
+) -> Result<(), Fail> {
+    let alloc = rt.alloc();
+    let mut literals = Seq::new(alloc);
+    literals.push(x.to_cell(alloc)?)?;
+    literals.push(y.to_cell(alloc)?)?;
+    let column = Boxed::new(alloc, Bound::Column(at))?;
+    pass(rt, Bound::InList(column, literals), wanted)
+}
+
+#[test]
+fn values_are_among_literals(rt: HostRuntime) -> Result<(), Fail> {
+    is_one_of(&rt, 0, Scalar::Long(500), Scalar::Null, &[2, 5])?;
+    is_one_of(&rt, 2, Scalar::Text(b"b"), Scalar::Text(b"z"), &[2, 4])
+}
+
+#[test]
+fn a_literal_stands_on_the_left(rt: HostRuntime) -> Result<(), Fail> {
+    let seven = Boxed::new(rt.alloc(), Bound::Literal(Cell::Long(7)))?;
+    let number = Boxed::new(rt.alloc(), Bound::Column(0))?;
+    pass(&rt, Bound::Compare(Less, seven, number), &[5])
+}
+
+/// A list of two tests.
+fn two(alloc: Global, one: Bound, other: Bound) -> Result<Items<Bound>, Memory> {
+    let mut items = Items::new(alloc);
+    items.push(one)?;
+    items.push(other)?;
+    Ok(items)
+}
+
+/// The number is below 0, or the time is 5.
+fn either(alloc: Global) -> Result<Bound, Memory> {
+    let below = compare(alloc, 0, Less, Scalar::Long(0))?;
+    let fifth = compare(alloc, 1, Equal, Scalar::Time(5))?;
+    Ok(Bound::Any(two(alloc, below, fifth)?))
 }
 
 #[test]
 fn tests_are_joined(rt: HostRuntime) -> Result<(), Fail> {
     let alloc = rt.alloc();
-    let mut both = Items::new(alloc);
-    both.push(compare(alloc, 0, Equal, Scalar::Long(7))?)?;
-    both.push(compare(alloc, 2, Equal, Scalar::Text(b"b"))?)?;
-    assert!(rt; passes(alloc, &Bound::All(both), &[4])?);
-    let mut one = Items::new(alloc);
-    one.push(compare(alloc, 0, Less, Scalar::Long(0))?)?;
-    one.push(compare(alloc, 1, Equal, Scalar::Time(5))?)?;
-    let any = Bound::Any(one);
-    assert!(rt; passes(alloc, &any, &[3, 5])?);
-    let not = Bound::Not(Boxed::new(alloc, any)?);
-    assert!(rt; passes(alloc, &not, &[1, 2, 4])?);
+    let seven = compare(alloc, 0, Equal, Scalar::Long(7))?;
+    let letter = compare(alloc, 2, Equal, Scalar::Text(b"b"))?;
+    pass(&rt, Bound::All(two(alloc, seven, letter)?), &[4])?;
+    pass(&rt, either(alloc)?, &[3, 5])?;
+    pass(
+        &rt,
+        Bound::Not(Boxed::new(alloc, either(alloc)?)?),
+        &[1, 2, 4],
+    )?;
     let time = Boxed::new(alloc, Bound::Column(1))?;
-    assert!(rt; passes(alloc, &Bound::InInterval(time, 2, 4), &[2, 3, 4])?);
-    assert!(rt; passes(alloc, &Bound::All(Items::new(alloc)), &[1, 2, 3, 4, 5])?);
-    assert!(rt; passes(alloc, &Bound::Any(Items::new(alloc)), &[])?);
-    Ok(())
+    pass(&rt, Bound::InInterval(time, 2, 4), &[2, 3, 4])?;
+    pass(&rt, Bound::All(Items::new(alloc)), &[1, 2, 3, 4, 5])?;
+    pass(&rt, Bound::Any(Items::new(alloc)), &[])
 }
 
-/// A comparison of two columns.
-fn compare_columns(
-    alloc: Global,
+/// Compares the rows that pass a comparison of two columns with those of these times.
+fn compares_columns(
+    rt: &(impl Abort + AllocGlobal),
     at: usize,
     op: Comparison,
     other: usize,
-) -> Result<Bound, Memory> {
-    let x = Boxed::new(alloc, Bound::Column(at))?;
-    let y = Boxed::new(alloc, Bound::Column(other))?;
-    Ok(Bound::Compare(op, x, y))
+    wanted: &[u64],
+) -> Result<(), Fail> {
+    let x = Boxed::new(rt.alloc(), Bound::Column(at))?;
+    let y = Boxed::new(rt.alloc(), Bound::Column(other))?;
+    pass(rt, Bound::Compare(op, x, y), wanted)
 }
 
 #[test]
 fn columns_are_compared(rt: HostRuntime) -> Result<(), Fail> {
-    let alloc = rt.alloc();
-    let cases: [(usize, Comparison, usize, &'static [u64]); 9] = [
-        (0, Equal, 3, &[1, 2]),
-        (0, NotEqual, 3, &[3, 4, 5]),
-        (0, Less, 3, &[3]),
-        (0, LessEqual, 3, &[1, 3]),
-        (0, Greater, 3, &[5]),
-        (0, GreaterEqual, 3, &[1, 5]),
-        (3, Less, 0, &[5]),
-        (0, Equal, 1, &[]),
-        (5, Equal, 3, &[2, 4]),
-    ];
-    for (at, op, other, wanted) in cases {
-        let expr = compare_columns(alloc, at, op, other)?;
-        assert!(rt; passes(alloc, &expr, wanted)?);
-    }
+    compares_columns(&rt, 0, Equal, 3, &[1, 2])?;
+    compares_columns(&rt, 0, NotEqual, 3, &[3, 4, 5])?;
+    compares_columns(&rt, 0, Less, 3, &[3])?;
+    compares_columns(&rt, 0, LessEqual, 3, &[1, 3])?;
+    compares_columns(&rt, 0, Greater, 3, &[5])?;
+    compares_columns(&rt, 0, GreaterEqual, 3, &[1, 5])?;
+    compares_columns(&rt, 3, Less, 0, &[5])?;
+    compares_columns(&rt, 0, Equal, 1, &[])?;
+    compares_columns(&rt, 5, Equal, 3, &[2, 4])?;
     Ok(())
+}
+
+/// Compares the rows that lack a value in a column with those of these times.
+fn is_null(rt: &(impl Abort + AllocGlobal), at: usize, wanted: &[u64]) -> Result<(), Fail> {
+    let column = Boxed::new(rt.alloc(), Bound::Column(at))?;
+    pass(rt, Bound::IsNull(column), wanted)
 }
 
 #[test]
 fn null_is_found(rt: HostRuntime) -> Result<(), Fail> {
-    let alloc = rt.alloc();
-    let cases: [(usize, &'static [u64]); 5] = [
-        (0, &[2]),
-        (1, &[]),
-        (2, &[3]),
-        (3, &[2, 4]),
-        (5, &[1, 2, 3, 4, 5]),
-    ];
-    for (at, wanted) in cases {
-        let column = Boxed::new(alloc, Bound::Column(at))?;
-        assert!(rt; passes(alloc, &Bound::IsNull(column), wanted)?);
-    }
+    is_null(&rt, 0, &[2])?;
+    is_null(&rt, 1, &[])?;
+    is_null(&rt, 2, &[3])?;
+    is_null(&rt, 3, &[2, 4])?;
+    is_null(&rt, 5, &[1, 2, 3, 4, 5])?;
     Ok(())
 }
 
-#[test]
-fn a_test_row_by_row_is_joined(rt: HostRuntime) -> Result<(), Fail> {
-    let alloc = rt.alloc();
+/// The rest of the number by 5 is 2.
+fn rest_is_two(alloc: Global) -> Result<Bound, Memory> {
     let mut steps = Items::new(alloc);
     steps.push(Operand {
         op: Arithmetic::Remainder,
@@ -276,11 +323,14 @@ fn a_test_row_by_row_is_joined(rt: HostRuntime) -> Result<(), Fail> {
     })?;
     let rest = Bound::Chain(Boxed::new(alloc, Bound::Column(0))?, steps);
     let two = Boxed::new(alloc, Bound::Literal(Cell::Long(2)))?;
-    let mut both = Items::new(alloc);
-    both.push(compare(alloc, 2, Equal, Scalar::Text(b"b"))?)?;
-    both.push(Bound::Compare(Equal, Boxed::new(alloc, rest)?, two))?;
-    assert!(rt; passes(alloc, &Bound::All(both), &[4])?);
-    Ok(())
+    Ok(Bound::Compare(Equal, Boxed::new(alloc, rest)?, two))
+}
+
+#[test]
+fn a_test_row_by_row_is_joined(rt: HostRuntime) -> Result<(), Fail> {
+    let letter = compare(rt.alloc(), 2, Equal, Scalar::Text(b"b"))?;
+    let both = two(rt.alloc(), letter, rest_is_two(rt.alloc())?)?;
+    pass(&rt, Bound::All(both), &[4])
 }
 
 #[test]

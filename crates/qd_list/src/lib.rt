@@ -7,7 +7,5 @@ mod back;
 mod found;
 mod schemas;
 mod sorting;
-#[cfg(test)]
-mod tests;
 
 pub use back::ListBack;

@@ -9,6 +9,7 @@ use qd_print::print_reply;
 use qd_sql::{SqlFault, parse_stmt};
 use std::alloc::{AllocError, Global};
 use std::marker::Model;
+use std::process::Abort;
 use std::test::Fail;
 
 /// A backend that tells no transaction. Its volume fails from its third batch on. It adds up the times that it is given.
@@ -152,109 +153,95 @@ impl Front for EchoFront {
     fn one_script(&self) {}
 }
 
-/// Serves an input over memory, and gives how it ended and what was written.
-fn served<F: Front, B: Backend>(
-    alloc: Global,
+/// Serves an input over memory to its end, and compares what was written.
+fn serves<F: Front, B: Backend>(
+    rt: &(impl Abort + AllocGlobal),
     front: &mut F,
     back: &mut B,
+    clock: &mut MemClock,
     input: &[u8],
-) -> Result<(Ended, MemSink), Memory> {
-    let mut clock = MemClock::new(alloc, &[0], &[])?;
-    served_by(alloc, front, back, input, &mut clock)
+    wanted: &[u8],
+) -> Result<(), Fail> {
+    let source = MemSource::new(rt.alloc(), input, 3, &[])?;
+    let sink = MemSink::new(rt.alloc(), 4, &[])?;
+    let mut wire = Both::new(source, sink);
+    let ended = serve(rt.alloc(), front, back, &mut wire, clock);
+    assert_eq!(rt; ended, Ended::Finished);
+    assert_eq!(rt; wire.sink.bytes(), wanted);
+    Ok(())
 }
 
-/// The same with this clock.
-fn served_by<F: Front, B: Backend>(
-    alloc: Global,
-    front: &mut F,
-    back: &mut B,
-    input: &[u8],
-    clock: &mut MemClock,
-) -> Result<(Ended, MemSink), Memory> {
-    let source = MemSource::new(alloc, input, 3, &[])?;
-    let sink = MemSink::new(alloc, 4, &[])?;
-    let mut wire = Both::new(source, sink);
-    let ended = serve(alloc, front, back, &mut wire, clock);
-    Ok((ended, wire.sink))
+/// A backend that has no transaction yet.
+fn silent() -> SilentBack {
+    SilentBack {
+        sequenced: 0,
+        known: 0,
+        faults: 0,
+        times: 0,
+    }
 }
 
 #[test]
 fn a_backend_may_tell_nothing(rt: HostRuntime) -> Result<(), Fail> {
-    let alloc = rt.alloc();
-    let mut front = FrameFront::new(alloc);
-    let mut back = SilentBack {
-        sequenced: 0,
-        known: 0,
-        faults: 0,
-        times: 0,
-    };
+    let mut front = FrameFront::new(rt.alloc());
+    let mut clock = MemClock::new(rt.alloc(), &[0], &[])?;
     let input = b"W 1\naA\nW 1\nbQ 1\ntQ 4\nDROPQ 5\nt AS W 1\ncA\nX\n";
-    let (ended, output) = served(alloc, &mut front, &mut back, input)?;
-    assert_eq!(rt; ended, Ended::Finished);
     let answer = b"K 1\nA 1\nK 2\nE 61 0\nE 40 0\nE 31 5\nE 52 0\nA 2\nX\n";
-    assert_eq!(rt; output.bytes(), answer.as_slice());
-    Ok(())
+    serves(&rt, &mut front, &mut silent(), &mut clock, input, answer)
 }
 
 #[test]
 fn a_backend_may_know_a_statement_of_its_own(rt: HostRuntime) -> Result<(), Fail> {
-    let alloc = rt.alloc();
-    let mut front = FrameFront::new(alloc);
-    let (ended, output) = served(alloc, &mut front, &mut PingBack, b"Q 4\npingQ 1\ntA\nW 0\n")?;
-    assert_eq!(rt; ended, Ended::Finished);
-    assert_eq!(rt; output.bytes(), b"A 0\nE 61 0\nE 61 0\nE 61 0\n".as_slice());
-    Ok(())
+    let mut front = FrameFront::new(rt.alloc());
+    let mut clock = MemClock::new(rt.alloc(), &[0], &[])?;
+    let input = b"Q 4\npingQ 1\ntA\nW 0\n";
+    let answer = b"A 0\nE 61 0\nE 61 0\nE 61 0\n";
+    serves(&rt, &mut front, &mut PingBack, &mut clock, input, answer)
 }
 
 #[test]
 fn the_clock_is_read_for_batches_that_lack_a_time(rt: HostRuntime) -> Result<(), Fail> {
-    let alloc = rt.alloc();
-    let mut front = FrameFront::new(alloc);
-    let mut back = SilentBack {
-        sequenced: 0,
-        known: 0,
-        faults: 0,
-        times: 0,
-    };
-    let mut clock = MemClock::new(alloc, &[5, 6, 7], &[2])?;
+    let mut front = FrameFront::new(rt.alloc());
+    let mut back = silent();
+    let mut clock = MemClock::new(rt.alloc(), &[5, 6, 7], &[2])?;
     let stamped = b"W 8\nt v=1i 9";
     let faulty = b"W 9\nt v=1i\nt,";
     let lacking = b"W 6\nt v=1iW 10\n# c\nt v=1iW 6\nt v=1iW 6\nt v=1i";
-    let (_, stamps) = served_by(alloc, &mut front, &mut back, stamped, &mut clock)?;
-    let (_, faults) = served_by(alloc, &mut front, &mut back, faulty, &mut clock)?;
-    let (_, times) = served_by(alloc, &mut front, &mut back, lacking, &mut clock)?;
-    assert_eq!(rt; stamps.bytes(), b"K 1\n".as_slice());
-    assert_eq!(rt; faults.bytes(), b"K 2\n".as_slice());
-    assert_eq!(rt;
-        times.bytes(),
-        b"E 52 0\nE 52 0\nE 42 0\nE 52 0\n".as_slice()
-    );
+    let answer = b"E 52 0\nE 52 0\nE 42 0\nE 52 0\n";
+    serves(&rt, &mut front, &mut back, &mut clock, stamped, b"K 1\n")?;
+    serves(&rt, &mut front, &mut back, &mut clock, faulty, b"K 2\n")?;
+    serves(&rt, &mut front, &mut back, &mut clock, lacking, answer)?;
     assert_eq!(rt; back.times, 18);
     Ok(())
 }
 
+/// A front that has no bytes yet.
+fn echo(alloc: Global) -> EchoFront {
+    EchoFront {
+        bytes: Vec::new(alloc),
+        taken: 0,
+    }
+}
+
 #[test]
 fn a_front_may_say_bytes_by_itself(rt: HostRuntime) -> Result<(), Fail> {
-    let alloc = rt.alloc();
-    let mut front = EchoFront {
-        bytes: Vec::new(alloc),
-        taken: 0,
-    };
-    let (ended, output) = served(alloc, &mut front, &mut PingBack, b"one, two")?;
-    assert_eq!(rt; ended, Ended::Finished);
-    assert_eq!(rt; output.bytes(), b"one, two".as_slice());
-    let mut front = EchoFront {
-        bytes: Vec::new(alloc),
-        taken: 0,
-    };
-    let mut back = SilentBack {
-        sequenced: 0,
-        known: 0,
-        faults: 0,
-        times: 0,
-    };
-    let (ended, output) = served(alloc, &mut front, &mut back, b"aAb")?;
-    assert_eq!(rt; ended, Ended::Finished);
-    assert_eq!(rt; output.bytes(), b"aA 0\nb".as_slice());
-    Ok(())
+    let mut clock = MemClock::new(rt.alloc(), &[0], &[])?;
+    let mut front = echo(rt.alloc());
+    serves(
+        &rt,
+        &mut front,
+        &mut PingBack,
+        &mut clock,
+        b"one, two",
+        b"one, two",
+    )?;
+    let mut front = echo(rt.alloc());
+    serves(
+        &rt,
+        &mut front,
+        &mut silent(),
+        &mut clock,
+        b"aAb",
+        b"aA 0\nb",
+    )
 }

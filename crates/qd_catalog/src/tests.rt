@@ -6,6 +6,7 @@ use qd_base::{
 };
 use qd_manifest::{Shape, TableParts};
 use std::alloc::Global;
+use std::process::Abort;
 use std::test::Fail;
 
 /// A version as a list of its blocks, each with the rows that it shows.
@@ -134,7 +135,7 @@ fn shows_same(catalog: &Catalog, plain: &Plain) -> bool {
     let mut same = true;
     for row in 0..64u8 {
         if let Some(Some(version)) = plain.versions.as_slice().get(row as usize) {
-            same = same && row_shows(catalog, row, version.blocks.as_slice());
+            same = same & row_shows(catalog, row, version.blocks.as_slice());
         }
     }
     same
@@ -142,19 +143,19 @@ fn shows_same(catalog: &Catalog, plain: &Plain) -> bool {
 
 /// Whether a catalogue shows what plain lists show.
 fn is_same(catalog: &Catalog, plain: &Plain) -> bool {
-    let mut same = shows_same(catalog, plain);
-    same = same
-        && catalog.current() as usize == plain.current
-        && catalog.next_block() == plain.next_block
-        && catalog.sweepable() == plain.retired.first().copied();
+    let current = catalog.current() as usize == plain.current;
+    let next = catalog.next_block() == plain.next_block;
+    let first = catalog.sweepable() == plain.retired.first().copied();
+    let unwritten = catalog.written(plain.next_block) == 0;
+    let mut same = shows_same(catalog, plain) & current & next & first & unwritten;
     for row in 0..=255u8 {
-        same = same && catalog.n_of(row) == plain.n_of(row as usize);
+        same = same & (catalog.n_of(row) == plain.n_of(row as usize));
     }
     for i in 0..plain.written.len() {
         let (block, rows) = plain.written[i];
-        same = same && catalog.written(block) == rows;
+        same = same & (catalog.written(block) == rows);
     }
-    same && catalog.written(plain.next_block) == 0
+    same
 }
 
 /// A shape of one table with these blocks.
@@ -214,6 +215,52 @@ fn next_blocks(alloc: Global, plain: &Plain, state: &mut u64) -> Result<Vec<(u64
     Ok(blocks)
 }
 
+/// Retires a row on both, where it may be. False where they don't agree on that.
+fn retire(catalog: &mut Catalog, plain: &mut Plain, row: u8) -> Result<bool, Memory> {
+    let may = plain.n_of(row as usize).is_some() & (row as usize != plain.current);
+    if !catalog.may_retire(row) {
+        return Ok(!may);
+    }
+    catalog.retire(row);
+    plain.retire(row as usize)?;
+    Ok(may)
+}
+
+/// Sweeps a block on both, where there is one. False where the catalogue has rows of it then.
+fn sweep(catalog: &mut Catalog, plain: &mut Plain) -> bool {
+    let mut gone = true;
+    if let Some(block) = catalog.sweepable() {
+        catalog.swept(block);
+        gone = catalog.written(block) == 0;
+    }
+    plain.sweep();
+    gone
+}
+
+/// Adds a version to both. False where it may not be added, or its row isn't free, or it is given back beside a free row.
+fn add(
+    alloc: Global,
+    catalog: &mut Catalog,
+    plain: &mut Plain,
+    blocks: Vec<(u64, u64)>,
+    n: u64,
+) -> Result<bool, Memory> {
+    let shape = shape(alloc, blocks.as_slice())?;
+    catalog.reserve(blocks.len())?;
+    if !catalog.may_add(n, &shape) {
+        return Ok(false);
+    }
+    let full = (0..64).all(|row| plain.n_of(row).is_some());
+    match catalog.add_version(n, shape) {
+        Ok(row) => {
+            let free = plain.n_of(row as usize).is_none();
+            plain.add(row as usize, n, blocks)?;
+            Ok(free & !full)
+        }
+        Err(back) => Ok(full & (back.len() == 1)),
+    }
+}
+
 /// One call, on both.
 fn step(
     alloc: Global,
@@ -224,44 +271,13 @@ fn step(
 ) -> Result<bool, Memory> {
     let row = (random(state, 64) % 64) as u8;
     match random(state, 4) {
-        0 => {
-            let may = plain.n_of(row as usize).is_some() && row as usize != plain.current;
-            if may != catalog.may_retire(row) {
-                return Ok(false);
-            }
-            if catalog.may_retire(row) {
-                catalog.retire(row);
-                plain.retire(row as usize)?;
-            }
-        }
-        1 => {
-            if let Some(block) = catalog.sweepable() {
-                catalog.swept(block);
-                if catalog.written(block) != 0 {
-                    return Ok(false);
-                }
-            }
-            plain.sweep();
-        }
+        0 => retire(catalog, plain, row),
+        1 => Ok(sweep(catalog, plain)),
         _ => {
             let blocks = next_blocks(alloc, plain, state)?;
-            let shape = shape(alloc, blocks.as_slice())?;
-            catalog.reserve(blocks.len())?;
-            if !catalog.may_add(n, &shape) {
-                return Ok(false);
-            }
-            let full = (0..64).all(|row| plain.n_of(row).is_some());
-            match catalog.add_version(n, shape) {
-                Ok(row) => {
-                    let free = plain.n_of(row as usize).is_none();
-                    plain.add(row as usize, n, blocks)?;
-                    return Ok(free && !full);
-                }
-                Err(back) => return Ok(full && back.len() == 1),
-            }
+            add(alloc, catalog, plain, blocks, n)
         }
     }
-    Ok(true)
 }
 
 #[test]
@@ -277,20 +293,13 @@ fn random_calls(rt: HostRuntime) -> Result<(), Fail> {
 }
 
 /// The manifest of one table with two parts, below block 4.
-const TWO_PARTS: [&[u8]; 4] = [
-    b"\x04\x00\x00\x00\x00\x00\x00\x00\x01\x00",
-    b"\x01t\x01\x00\x05\x02ts\x00\x00\x02\x00\x00\x02\x00\x00\x00\x00\x00\x00\x00",
-    // Block 3: five rows of one column, all at the first microsecond.
-    &[
-        3, 0, 0, 0, 0, 0, 0, 0, 5, 0, 0, 0, 0, 0, 0, 0, 1, 0, 0, 0, 0, 0, 0, 0, 0, 0, 0, 0, 0, 0,
-        0, 0, 0, 0,
-    ],
-    // Block 1: two rows of one column, at the next two.
-    &[
-        1, 0, 0, 0, 0, 0, 0, 0, 2, 0, 0, 0, 0, 0, 0, 0, 1, 0, 1, 0, 0, 0, 0, 0, 0, 0, 2, 0, 0, 0,
-        0, 0, 0, 0,
-    ],
-];
+///
+/// Its last two lines are block 3 (five rows of one column, all at the first microsecond), and block 1 (two rows of one
+/// column, at the next two).
+const TWO_PARTS: &[u8] = b"\x04\0\0\0\0\0\0\0\x01\0\
+\x01t\x01\0\x05\x02ts\0\0\x02\0\0\x02\0\0\0\0\0\0\0\
+\x03\0\0\0\0\0\0\0\x05\0\0\0\0\0\0\0\x01\0\0\0\0\0\0\0\0\0\0\0\0\0\0\0\0\0\
+\x01\0\0\0\0\0\0\0\x02\0\0\0\0\0\0\0\x01\0\x01\0\0\0\0\0\0\0\x02\0\0\0\0\0\0\0";
 
 /// Whether the catalogue that opens from a manifest has it as the manifest of its first row.
 fn is_respelled(alloc: Global, n: u64, bytes: &[u8]) -> Result<bool, Memory> {
@@ -304,27 +313,31 @@ fn is_respelled(alloc: Global, n: u64, bytes: &[u8]) -> Result<bool, Memory> {
     }
 }
 
+/// Compares the number of the version in a row.
+fn is_version(rt: &impl Abort, catalog: &Catalog, row: u8, n: Option<u64>) {
+    assert_eq!(rt; catalog.n_of(row), n);
+}
+
+/// Compares how many rows of a block are written.
+fn is_written(rt: &impl Abort, catalog: &Catalog, block: u64, rows: u64) {
+    assert_eq!(rt; catalog.written(block), rows);
+}
+
 #[test]
 fn manifests_open(rt: HostRuntime) -> Result<(), Fail> {
-    let mut bytes = Vec::new(rt.alloc());
-    for piece in TWO_PARTS {
-        bytes.extend_from_slice(piece)?;
-    }
-    let catalog = Catalog::from_manifest(rt.alloc(), 9, &bytes)
+    let catalog = Catalog::from_manifest(rt.alloc(), 9, TWO_PARTS)
         .ok()
         .ok_or("it is a manifest")?;
-    assert_eq!(rt; catalog.current(), 0);
-    assert_eq!(rt; catalog.n_of(0), Some(9));
-    assert_eq!(rt; catalog.n_of(1), None);
-    assert_eq!(rt; catalog.next_block(), 4);
-    assert_eq!(rt; catalog.written(3), 5);
-    assert_eq!(rt; catalog.written(1), 2);
-    assert_eq!(rt; catalog.written(0), 0);
-    assert_eq!(rt; catalog.sweepable(), None);
-    assert!(rt; is_respelled(rt.alloc(), 9, &bytes)?);
-    let front = bytes
-        .get(..bytes.len().saturating_sub(1))
-        .ok_or("there are bytes")?;
+    assert!(rt; catalog.current() == 0);
+    is_version(&rt, &catalog, 0, Some(9));
+    is_version(&rt, &catalog, 1, None);
+    assert!(rt; catalog.next_block() == 4);
+    is_written(&rt, &catalog, 3, 5);
+    is_written(&rt, &catalog, 1, 2);
+    is_written(&rt, &catalog, 0, 0);
+    assert!(rt; catalog.sweepable().is_none());
+    assert!(rt; is_respelled(rt.alloc(), 9, TWO_PARTS)?);
+    let front = &TWO_PARTS[..98];
     let fault = Catalog::from_manifest(rt.alloc(), 9, front)
         .err()
         .ok_or("a byte is missing")?;

@@ -13,7 +13,7 @@ use crate::{Block, dedup_batch, dedup_block, merge_block, merge_blocks, sort_bat
 use qd_base::{Cell, KeyList, Memory, RowList, Schema};
 use qd_plain::put_all;
 use samples::{Dice, block, older_block, rows, table};
-use shown::{rows_of, shown};
+use shown::{Shown, rows_of, shown};
 use std::alloc::Global;
 use std::process::Abort;
 use std::test::Fail;
@@ -73,6 +73,34 @@ fn merged_blocks(
     merge_blocks(alloc, old, skip, &batch, keys)
 }
 
+/// Compares what stands in rows.
+fn shows(rt: &impl Abort, alloc: Global, rows: &RowList, wanted: &[Shown]) -> Result<(), Memory> {
+    let found = shown(alloc, rows)?;
+    assert_eq!(rt; found.as_slice(), wanted);
+    Ok(())
+}
+
+/// The same of the rows of a block.
+fn shows_block(
+    rt: &impl Abort,
+    alloc: Global,
+    block: &Block,
+    wanted: &[Shown],
+) -> Result<(), Memory> {
+    shows(rt, alloc, &rows_of(alloc, block)?, wanted)
+}
+
+/// What stands in rows after the plain program has put others into them.
+fn put(
+    alloc: Global,
+    rows: &RowList,
+    came: &RowList,
+    keys: &KeyList,
+) -> Result<Vec<Shown>, Memory> {
+    let put = put_all(alloc, rows, came.as_slice(), 0, keys)?;
+    shown(alloc, &put)
+}
+
 /// Compares merges of rows into a block, whose rows are these in order of time, with the plain program.
 fn merge_as_put(
     rt: &impl Abort,
@@ -88,34 +116,16 @@ fn merge_as_put(
     let skip = dice.below(4).min(old.rows());
     let came = dice.rows(alloc, 100)?;
     let left = rows_from(alloc, rows, skip as usize)?;
-    let put = put_all(alloc, &left, came.as_slice(), 0, &schema.keys)?;
-    let put_alone = put_all(
-        alloc,
-        &RowList::new(alloc),
-        came.as_slice(),
-        0,
-        &schema.keys,
-    )?;
-    let put_alone = shown(alloc, &put_alone)?;
+    let alone = put(alloc, &RowList::new(alloc), &came, &schema.keys)?;
+    let all = put(alloc, &left, &came, &schema.keys)?;
     let block = batch_block(alloc, &came, schema)?;
-    assert_eq!(rt;
-        shown(alloc, &rows_of(alloc, &block)?)?.as_slice(),
-        put_alone.as_slice()
-    );
+    shows_block(rt, alloc, &block, alone.as_slice())?;
     let batch = batch_of(alloc, came, schema)?;
-    assert_eq!(rt; shown(alloc, &batch)?.as_slice(), put_alone.as_slice());
+    shows(rt, alloc, &batch, alone.as_slice())?;
     let by_rows = merged(alloc, old, skip, &batch, schema)?;
+    shows_block(rt, alloc, &by_rows, all.as_slice())?;
     let by_blocks = merged_blocks(alloc, old, skip, &batch, &schema.keys)?;
-    let put = shown(alloc, &put)?;
-    assert_eq!(rt;
-        shown(alloc, &rows_of(alloc, &by_rows)?)?.as_slice(),
-        put.as_slice()
-    );
-    assert_eq!(rt;
-        shown(alloc, &rows_of(alloc, &by_blocks)?)?.as_slice(),
-        put.as_slice()
-    );
-    Ok(())
+    shows_block(rt, alloc, &by_blocks, all.as_slice())
 }
 
 /// Compares batches and merges of tables, with keys and without, with the plain program.
@@ -164,22 +174,17 @@ fn the_last_of_equal_keys_stays(rt: HostRuntime) -> Result<(), Fail> {
     let schema = table(alloc, true)?;
     let came = rows(alloc, &[(1, 1, b'a'), (1, 2, b'b'), (1, 3, b'a')])?;
     let batch = batch_of(alloc, came, &schema)?;
-    assert_eq!(rt;
-        shown(alloc, &batch)?.as_slice(),
-        [(1, 2, b'b', false), (1, 3, b'a', true)].as_slice()
-    );
+    let wanted = [(1, 2, b'b', false), (1, 3, b'a', true)];
+    shows(&rt, alloc, &batch, &wanted)?;
     let old = rows(alloc, &[(0, 9, b'a'), (1, 7, b'b'), (2, 8, b'a')])?;
     let merged = merged(alloc, &block(alloc, &old)?, 0, &batch, &schema)?;
-    assert_eq!(rt;
-        shown(alloc, &rows_of(alloc, &merged)?)?.as_slice(),
-        [
-            (0, 9, b'a', true),
-            (1, 2, b'b', false),
-            (1, 3, b'a', true),
-            (2, 8, b'a', false)
-        ]
-        .as_slice()
-    );
+    let wanted = [
+        (0, 9, b'a', true),
+        (1, 2, b'b', false),
+        (1, 3, b'a', true),
+        (2, 8, b'a', false),
+    ];
+    shows_block(&rt, alloc, &merged, &wanted)?;
     Ok(())
 }
 
@@ -189,28 +194,22 @@ fn rows_of_one_time_keep_the_order_in_which_they_came(rt: HostRuntime) -> Result
     let schema = table(alloc, false)?;
     let came = rows(alloc, &[(10, 1, b'a'), (10, 2, b'a'), (9, 3, b'a')])?;
     let batch = batch_of(alloc, came, &schema)?;
-    assert_eq!(rt;
-        shown(alloc, &batch)?.as_slice(),
-        [
-            (9, 3, b'a', true),
-            (10, 1, b'a', true),
-            (10, 2, b'a', false)
-        ]
-        .as_slice()
-    );
+    let wanted = [
+        (9, 3, b'a', true),
+        (10, 1, b'a', true),
+        (10, 2, b'a', false),
+    ];
+    shows(&rt, alloc, &batch, &wanted)?;
     let old = rows(alloc, &[(10, 4, b'a'), (11, 5, b'a')])?;
     let merged = merged(alloc, &block(alloc, &old)?, 0, &batch, &schema)?;
-    assert_eq!(rt;
-        shown(alloc, &rows_of(alloc, &merged)?)?.as_slice(),
-        [
-            (9, 3, b'a', true),
-            (10, 4, b'a', false),
-            (10, 1, b'a', true),
-            (10, 2, b'a', false),
-            (11, 5, b'a', true)
-        ]
-        .as_slice()
-    );
+    let wanted = [
+        (9, 3, b'a', true),
+        (10, 4, b'a', false),
+        (10, 1, b'a', true),
+        (10, 2, b'a', false),
+        (11, 5, b'a', true),
+    ];
+    shows_block(&rt, alloc, &merged, &wanted)?;
     Ok(())
 }
 

@@ -8,6 +8,7 @@ use qd_io::IoFault;
 use std::alloc::Global;
 use std::fs;
 use std::os::unix::fs::symlink;
+use std::process::Abort;
 use std::test::Fail;
 
 /// A call that changes a volume.
@@ -49,89 +50,92 @@ fn left_of(
     read_short(&mut volume.crash(pick)?, 7)
 }
 
-#[test]
-fn crashes_of_a_volume_in_memory(rt: HostRuntime) -> Result<(), Fail> {
-    use Step::{Cut, Remove, Sync, Write};
-    let none: &[u64] = &[];
-    // The steps, the numbers of those that fail, and the file that is left by the picks 0, 1 and 2.
-    let cases: [(&[Step], &[u64], [&[u8]; 3]); 14] = [
-        (&[], none, [b"", b"", b""]),
-        (&[Write(7, 0, b"ab")], none, [b"", b"ab", b"\xff\xff"]),
-        (&[Write(7, 2, b"c")], none, [b"", b"\0\0c", b"\xff\xff\xff"]),
-        (&[Write(7, 2, b"")], none, [b"", b"", b""]),
-        (&[Write(7, 0, b"ab"), Sync(7)], none, [b"ab", b"ab", b"ab"]),
-        (
-            &[Write(7, 0, b"abcd"), Sync(7), Write(7, 1, b"xy")],
-            none,
-            [b"abcd", b"axyd", b"a\xff\xffd"],
-        ),
-        (
-            &[Write(7, 0, b"abcd"), Sync(7), Write(7, 3, b"xyz")],
-            none,
-            [b"abcd", b"abcxyz", b"abc\xff\xff\xff"],
-        ),
-        (
-            &[Write(7, 0, b"abcd"), Sync(7), Cut(7, 2), Write(7, 2, b"z")],
-            none,
-            [b"abcd", b"abz", b"ab\xff"],
-        ),
-        (
-            &[Write(7, 0, b"abcd"), Sync(7), Cut(7, 9)],
-            none,
-            [b"abcd", b"abcd", b"abcd"],
-        ),
-        (
-            &[Write(7, 0, b"abcd"), Sync(7), Remove(7)],
-            none,
-            [b"abcd", b"", b""],
-        ),
-        (
-            &[Write(7, 0, b"abcd"), Sync(7), Remove(7), Sync(7)],
-            none,
-            [b"", b"", b""],
-        ),
-        (
-            &[Write(7, 0, b"abcd"), Sync(6), Write(6, 0, b"x")],
-            none,
-            [b"", b"abcd", b"\xff\xff\xff\xff"],
-        ),
-        (
-            &[Write(7, 0, b"abcd"), Sync(7), Write(7, 1, b"xy")],
-            &[2],
-            [b"abcd", b"abcd", b"a\xff\xffd"],
-        ),
-        (
-            &[Write(7, 0, b"abcd"), Sync(7), Cut(7, 3), Sync(7)],
-            &[2, 3],
-            [b"abcd", b"abcd", b"abc\xff"],
-        ),
-    ];
-    for (steps, fails, left) in cases {
-        for pick in 0..3 {
-            let (buf, n) = left_of(rt.alloc(), fails, steps, pick)?;
-            let wanted = left[pick as usize];
-            assert_eq!(rt; n, wanted.len());
-            assert_eq!(rt; &buf[..n.min(16)], wanted);
-        }
+/// Compares the bytes of file 7 after the steps, without those of these numbers, and a crash: those by the picks 0, 1 and 2.
+fn leaves(
+    rt: &(impl Abort + AllocGlobal),
+    steps: &[Step],
+    fails: &[u64],
+    left: [&[u8]; 3],
+) -> Result<(), Fail> {
+    for (pick, wanted) in left.iter().enumerate() {
+        let (buf, n) = left_of(rt.alloc(), fails, steps, pick as u64)?;
+        assert_eq!(rt; &buf[..n.min(16)], *wanted);
     }
     Ok(())
 }
 
 #[test]
-fn calls_of_a_volume_in_memory(rt: HostRuntime) -> Result<(), Fail> {
-    let mut volume = MemVolume::new(rt.alloc(), &[1, 5])?;
-    let mut buf = [9; 4];
-    assert_eq!(rt; volume.write_at(3, 1, b"hello"), Ok(()));
-    assert_eq!(rt; volume.read(3, 0, &mut buf), Err(IoFault::Failed));
-    assert_eq!(rt; volume.read(3, 3, &mut buf), Ok(3));
-    assert_eq!(rt; buf, *b"llo\x09");
-    assert_eq!(rt; volume.read(3, 6, &mut buf), Ok(0));
-    assert_eq!(rt; volume.read(3, u64::MAX, &mut buf), Ok(0));
-    assert_eq!(rt; volume.remove(3), Err(IoFault::Failed));
-    assert_eq!(rt; volume.len(3), Ok(6));
-    assert_eq!(rt; volume.write_at(3, u64::MAX, b"x"), Err(IoFault::Memory));
-    assert_eq!(rt; volume.calls(), 7);
-    assert_eq!(rt; volume.len(4), Ok(0));
+fn crashes_of_a_volume_in_memory(rt: HostRuntime) -> Result<(), Fail> {
+    use Step::{Cut, Remove, Sync, Write};
+    leaves(&rt, &[], &[], [b"", b"", b""])?;
+    leaves(&rt, &[Write(7, 0, b"ab")], &[], [b"", b"ab", b"\xff\xff"])?;
+    leaves(
+        &rt,
+        &[Write(7, 2, b"c")],
+        &[],
+        [b"", b"\0\0c", b"\xff\xff\xff"],
+    )?;
+    leaves(&rt, &[Write(7, 2, b"")], &[], [b"", b"", b""])?;
+    leaves(
+        &rt,
+        &[Write(7, 0, b"ab"), Sync(7)],
+        &[],
+        [b"ab", b"ab", b"ab"],
+    )?;
+    leaves(
+        &rt,
+        &[Write(7, 0, b"abcd"), Sync(7), Write(7, 1, b"xy")],
+        &[],
+        [b"abcd", b"axyd", b"a\xff\xffd"],
+    )?;
+    leaves(
+        &rt,
+        &[Write(7, 0, b"abcd"), Sync(7), Write(7, 3, b"xyz")],
+        &[],
+        [b"abcd", b"abcxyz", b"abc\xff\xff\xff"],
+    )?;
+    leaves(
+        &rt,
+        &[Write(7, 0, b"abcd"), Sync(7), Cut(7, 2), Write(7, 2, b"z")],
+        &[],
+        [b"abcd", b"abz", b"ab\xff"],
+    )?;
+    leaves(
+        &rt,
+        &[Write(7, 0, b"abcd"), Sync(7), Cut(7, 9)],
+        &[],
+        [b"abcd", b"abcd", b"abcd"],
+    )?;
+    leaves(
+        &rt,
+        &[Write(7, 0, b"abcd"), Sync(7), Remove(7)],
+        &[],
+        [b"abcd", b"", b""],
+    )?;
+    leaves(
+        &rt,
+        &[Write(7, 0, b"abcd"), Sync(7), Remove(7), Sync(7)],
+        &[],
+        [b"", b"", b""],
+    )?;
+    leaves(
+        &rt,
+        &[Write(7, 0, b"abcd"), Sync(6), Write(6, 0, b"x")],
+        &[],
+        [b"", b"abcd", b"\xff\xff\xff\xff"],
+    )?;
+    leaves(
+        &rt,
+        &[Write(7, 0, b"abcd"), Sync(7), Write(7, 1, b"xy")],
+        &[2],
+        [b"abcd", b"abcd", b"a\xff\xffd"],
+    )?;
+    leaves(
+        &rt,
+        &[Write(7, 0, b"abcd"), Sync(7), Cut(7, 3), Sync(7)],
+        &[2, 3],
+        [b"abcd", b"abcd", b"abc\xff"],
+    )?;
     Ok(())
 }
 
@@ -143,39 +147,134 @@ fn put<V: Volume>(volume: &mut V, file: u64, at: u64, bytes: &[u8]) -> Result<()
     volume.sync(file)
 }
 
-#[test]
-fn a_fuse_stops_a_volume(rt: HostRuntime) -> Result<(), Fail> {
-    let mut volume = FuseVolume::new(MemVolume::new(rt.alloc(), &[])?, 3);
-    assert_eq!(rt; put(&mut volume, 7, 0, b"ab"), Ok(()));
-    assert_eq!(rt; put(&mut volume, 7, 1, b"xy"), Err(IoFault::Failed));
-    assert_eq!(rt; volume.len(7), Err(IoFault::Failed));
-    assert_eq!(rt; volume.cut(7, 0), Err(IoFault::Failed));
-    assert_eq!(rt; volume.remove(7), Err(IoFault::Failed));
-    assert!(rt; read_short(&mut volume, 7) == Err(IoFault::Failed));
-    let (buf, n) = read_short(&mut volume.into_inner().crash(2)?, 7)?;
-    assert_eq!(rt; n, 3);
-    assert_eq!(rt; &buf[..3], b"a\xff\xff".as_slice());
+/// Makes a change, and compares the answer.
+fn takes<V: Volume>(rt: &impl Abort, volume: &mut V, step: Step, wanted: Result<(), IoFault>) {
+    assert_eq!(rt; take(volume, step), wanted);
+}
+
+/// Writes and syncs a file, and compares the answer.
+fn puts<V: Volume>(
+    rt: &impl Abort,
+    volume: &mut V,
+    file: u64,
+    at: u64,
+    bytes: &[u8],
+    wanted: Result<(), IoFault>,
+) {
+    assert_eq!(rt; put(volume, file, at, bytes), wanted);
+}
+
+/// Compares the length of a file.
+fn is_long<V: Volume>(rt: &impl Abort, volume: &mut V, file: u64, wanted: Result<u64, IoFault>) {
+    assert_eq!(rt; volume.len(file), wanted);
+}
+
+/// Reads into a buffer, and compares the answer and the buffer then.
+fn reads<V: Volume>(
+    rt: &impl Abort,
+    volume: &mut V,
+    file: u64,
+    at: u64,
+    buf: &mut [u8],
+    wanted: (Result<usize, IoFault>, &[u8]),
+) {
+    assert_eq!(rt; volume.read(file, at, buf), wanted.0);
+    assert_eq!(rt; &*buf, wanted.1);
+}
+
+/// Compares the bytes of a file that has fewer than 16.
+fn holds<V: Volume>(rt: &impl Abort, volume: &mut V, file: u64, wanted: &[u8]) -> Result<(), Fail> {
+    let (buf, n) = read_short(volume, file)?;
+    assert_eq!(rt; &buf[..n.min(16)], wanted);
     Ok(())
 }
 
+#[test]
+fn calls_of_a_volume_in_memory(rt: HostRuntime) -> Result<(), Fail> {
+    use Step::{Remove, Write};
+    let mut volume = MemVolume::new(rt.alloc(), &[1, 5])?;
+    let mut buf = [9; 4];
+    let failed = Err(IoFault::Failed);
+    takes(&rt, &mut volume, Write(3, 1, b"hello"), Ok(()));
+    reads(
+        &rt,
+        &mut volume,
+        3,
+        0,
+        &mut buf,
+        (failed, b"\x09\x09\x09\x09"),
+    );
+    reads(&rt, &mut volume, 3, 3, &mut buf, (Ok(3), b"llo\x09"));
+    reads(&rt, &mut volume, 3, 6, &mut buf, (Ok(0), b"llo\x09"));
+    reads(&rt, &mut volume, 3, u64::MAX, &mut buf, (Ok(0), b"llo\x09"));
+    takes(&rt, &mut volume, Remove(3), Err(IoFault::Failed));
+    is_long(&rt, &mut volume, 3, Ok(6));
+    takes(
+        &rt,
+        &mut volume,
+        Write(3, u64::MAX, b"x"),
+        Err(IoFault::Memory),
+    );
+    assert_eq!(rt; volume.calls(), 7);
+    is_long(&rt, &mut volume, 4, Ok(0));
+    Ok(())
+}
+
+#[test]
+fn a_fuse_stops_a_volume(rt: HostRuntime) -> Result<(), Fail> {
+    use Step::{Cut, Remove};
+    let mut volume = FuseVolume::new(MemVolume::new(rt.alloc(), &[])?, 3);
+    puts(&rt, &mut volume, 7, 0, b"ab", Ok(()));
+    puts(&rt, &mut volume, 7, 1, b"xy", Err(IoFault::Failed));
+    is_long(&rt, &mut volume, 7, Err(IoFault::Failed));
+    takes(&rt, &mut volume, Cut(7, 0), Err(IoFault::Failed));
+    takes(&rt, &mut volume, Remove(7), Err(IoFault::Failed));
+    assert!(rt; read_short(&mut volume, 7) == Err(IoFault::Failed));
+    holds(&rt, &mut volume.into_inner().crash(2)?, 7, b"a\xff\xff")
+}
+
 const FOLDER: &str = "qd_volume_folder";
+
+/// Fills a volume: file 7, a file that is far longer than what it holds, and one that is removed.
+fn fill<V: Volume>(rt: &impl Abort, volume: &mut V) {
+    use Step::{Cut, Remove, Sync};
+    is_long(rt, volume, 7, Ok(0));
+    takes(rt, volume, Sync(7), Ok(()));
+    puts(rt, volume, 7, 0, b"hello", Ok(()));
+    puts(rt, volume, 7, 7, b"you", Ok(()));
+    takes(rt, volume, Cut(7, 9), Ok(()));
+    takes(rt, volume, Cut(7, 40), Ok(()));
+    puts(rt, volume, 0xfedc_ba98, 5 << 32, b"far", Ok(()));
+    puts(rt, volume, 8, 0, b"gone", Ok(()));
+    takes(rt, volume, Remove(8), Ok(()));
+    takes(rt, volume, Remove(8), Ok(()));
+    takes(rt, volume, Sync(8), Ok(()));
+}
+
+/// Looks at what a volume holds that was filled and opened again.
+fn is_filled<V: Volume>(rt: &impl Abort, volume: &mut V) -> Result<(), Fail> {
+    holds(rt, volume, 7, b"hello\0\0yo")?;
+    is_long(rt, volume, 0xfedc_ba98, Ok((5 << 32) + 3));
+    let far = b"\0\0far\x01\x01\x01";
+    let mut buf = [1; 8];
+    reads(
+        rt,
+        volume,
+        0xfedc_ba98,
+        (5 << 32) - 2,
+        &mut buf,
+        (Ok(5), far),
+    );
+    reads(rt, volume, 0xfedc_ba98, u64::MAX, &mut buf, (Ok(0), far));
+    Ok(())
+}
 
 #[test]
 fn a_volume_over_a_folder(rt: HostRuntime) -> Result<(), Fail> {
     let alloc = rt.alloc();
     let _ = fs::remove_dir_all(&rt, FOLDER);
     let mut volume = FolderVolume::open(rt, alloc, FOLDER.as_bytes())?;
-    assert_eq!(rt; volume.len(7), Ok(0));
-    assert_eq!(rt; volume.sync(7), Ok(()));
-    assert_eq!(rt; put(&mut volume, 7, 0, b"hello"), Ok(()));
-    assert_eq!(rt; put(&mut volume, 7, 7, b"you"), Ok(()));
-    assert_eq!(rt; volume.cut(7, 9), Ok(()));
-    assert_eq!(rt; volume.cut(7, 40), Ok(()));
-    assert_eq!(rt; put(&mut volume, 0xfedc_ba98, 5 << 32, b"far"), Ok(()));
-    assert_eq!(rt; put(&mut volume, 8, 0, b"gone"), Ok(()));
-    assert_eq!(rt; volume.remove(8), Ok(()));
-    assert_eq!(rt; volume.remove(8), Ok(()));
-    assert_eq!(rt; volume.sync(8), Ok(()));
+    fill(&rt, &mut volume);
     // The folder has its names, and is held by one volume at a time.
     assert_eq!(rt;
         fs::read(&rt, "qd_volume_folder/0000000000000007")?.as_slice(),
@@ -185,14 +284,7 @@ fn a_volume_over_a_folder(rt: HostRuntime) -> Result<(), Fail> {
     assert!(rt; FolderVolume::open(rt, alloc, FOLDER.as_bytes()).is_err());
     drop(volume);
     let mut volume = FolderVolume::open(rt, alloc, FOLDER.as_bytes())?;
-    let (buf, n) = read_short(&mut volume, 7)?;
-    assert_eq!(rt; n, 9);
-    assert_eq!(rt; &buf[..9], b"hello\0\0yo".as_slice());
-    assert_eq!(rt; volume.len(0xfedc_ba98), Ok((5 << 32) + 3));
-    let mut far = [1; 8];
-    assert_eq!(rt; volume.read(0xfedc_ba98, (5 << 32) - 2, &mut far), Ok(5));
-    assert_eq!(rt; far, *b"\0\0far\x01\x01\x01");
-    assert_eq!(rt; volume.read(0xfedc_ba98, u64::MAX, &mut far), Ok(0));
+    is_filled(&rt, &mut volume)?;
     drop(volume);
     fs::remove_dir_all(&rt, FOLDER)?;
     Ok(())
@@ -200,35 +292,44 @@ fn a_volume_over_a_folder(rt: HostRuntime) -> Result<(), Fail> {
 
 const FAULTS: &str = "qd_volume_faults";
 
+/// Writes files, many more than stay open, and looks at each.
+fn fill_many<V: Volume>(rt: &impl Abort, volume: &mut V) {
+    for file in 0..300 {
+        takes(rt, volume, Step::Write(file, file, b"x"), Ok(()));
+    }
+    for file in 0..300 {
+        takes(rt, volume, Step::Sync(file), Ok(()));
+        is_long(rt, volume, file, Ok(file + 1));
+    }
+}
+
+/// Looks at files 300, in whose place is a folder, and 301, in whose place is a device that has no room.
+fn fails<V: Volume>(rt: &impl Abort, volume: &mut V) {
+    use Step::{Remove, Write};
+    is_long(rt, volume, 300, Err(IoFault::Failed));
+    takes(rt, volume, Remove(300), Err(IoFault::Failed));
+    takes(rt, volume, Write(301, 0, b"x"), Err(IoFault::Failed));
+    takes(rt, volume, Write(301, u64::MAX, b"x"), Err(IoFault::Failed));
+    takes(rt, volume, Write(301, u64::MAX, b""), Ok(()));
+    puts(rt, volume, 302, 0, b"x", Ok(()));
+}
+
+/// Whether a volume opens over a folder of this name.
+fn opens(rt: HostRuntime, path: &[u8]) -> bool {
+    FolderVolume::open(rt, rt.alloc(), path).is_ok()
+}
+
 #[test]
 fn faults_and_many_files_of_a_folder(rt: HostRuntime) -> Result<(), Fail> {
-    let alloc = rt.alloc();
     let _ = fs::remove_dir_all(&rt, FAULTS);
-    for path in [
-        b"\xff".as_slice(),
-        b"".as_slice(),
-        b"qd_volume_nowhere/in".as_slice(),
-    ] {
-        assert!(rt; FolderVolume::open(rt, alloc, path).is_err());
-    }
-    let mut volume = FolderVolume::open(rt, alloc, FAULTS.as_bytes())?;
-    // Many more than stay open.
-    for file in 0..300 {
-        assert_eq!(rt; volume.write_at(file, file, b"x"), Ok(()));
-    }
-    for file in 0..300 {
-        assert_eq!(rt; volume.sync(file), Ok(()));
-        assert_eq!(rt; volume.len(file), Ok(file + 1));
-    }
-    // A folder in the place of a file, and a device that has no room.
+    assert!(rt; !opens(rt, b"\xff"));
+    assert!(rt; !opens(rt, b""));
+    assert!(rt; !opens(rt, b"qd_volume_nowhere/in"));
+    let mut volume = FolderVolume::open(rt, rt.alloc(), FAULTS.as_bytes())?;
+    fill_many(&rt, &mut volume);
     fs::create_dir(&rt, "qd_volume_faults/000000000000012c")?;
     symlink(&rt, "/dev/full", "qd_volume_faults/000000000000012d")?;
-    assert_eq!(rt; volume.len(300), Err(IoFault::Failed));
-    assert_eq!(rt; volume.remove(300), Err(IoFault::Failed));
-    assert_eq!(rt; volume.write_at(301, 0, b"x"), Err(IoFault::Failed));
-    assert_eq!(rt; volume.write_at(301, u64::MAX, b"x"), Err(IoFault::Failed));
-    assert_eq!(rt; volume.write_at(301, u64::MAX, b""), Ok(()));
-    assert_eq!(rt; put(&mut volume, 302, 0, b"x"), Ok(()));
+    fails(&rt, &mut volume);
     drop(volume);
     fs::remove_dir_all(&rt, FAULTS)?;
     Ok(())

@@ -1,5 +1,5 @@
 //! The program over memory, where the cases of `tests/cases` can't see it: an input in pieces, calls that fail, and a clock.
-ghost use Rattle.std.specs.Prelude.{◌≤◌};
+ghost use Rattle.std.specs.Prelude.{◌<◌, ◌≤◌, length};
 
 use super::top;
 use qd_base::Txt;
@@ -11,16 +11,20 @@ const EXAMPLE: &[u8] = b"W 27\nt v=1i 1704067200000000000\nA\nQ 1\ntX\n";
 
 const ANSWER: &[u8] = b"K 1\nA 1\nR 1 42\nv,timestamp\n1,2024-01-01T00:00:00.000000Z\nX\n";
 
-/// Runs `run` over these, and gives its status and the output.
+/// Runs `run` over these, with a clock that gives these times and whose calls of these numbers fail, and gives its status
+/// and the output.
 fn served(
     alloc: Global,
     mut input: MemSource,
     mut output: MemSink,
-    clock: MemClock,
-) -> Result<(u8, MemSink), AllocError> {
+    times: &[u64],
+    clock_fails: &[u64],
+) -> Result<(u8, MemSink), AllocError>
+    requires { 0 < length times.now }
+{
     let words = [Txt::from_bytes(alloc, b"run")?];
     let mut host = MemHost::empty(alloc);
-    host.set_clock(clock);
+    host.set_clock(MemClock::new(alloc, times, clock_fails)?);
     let status = top(
         &(),
         alloc,
@@ -43,8 +47,7 @@ fn example(
 {
     let input = MemSource::new(alloc, EXAMPLE, piece, reads)?;
     let output = MemSink::new(alloc, piece, writes)?;
-    let clock = MemClock::new(alloc, &[0], &[])?;
-    served(alloc, input, output, clock)
+    served(alloc, input, output, &[0], &[])
 }
 
 #[test]
@@ -65,8 +68,7 @@ fn times_of_the_clock(rt: HostRuntime) -> Result<(), Fail> {
         b"W 28\nt v=7i 1000\nT v=1i\nlong v=1iW 8\nt v=2i 0W 6\nt v=3iW 9\nt v=4i\nt,A\nQ 1\nt";
     let input = MemSource::new(alloc, text, 64, &[])?;
     let output = MemSink::new(alloc, 64, &[])?;
-    let clock = MemClock::new(alloc, &[1_000_000], &[1])?;
-    let (status, output) = served(alloc, input, output, clock)?;
+    let (status, output) = served(alloc, input, output, &[1_000_000], &[1])?;
     assert_eq!(rt; status, 0);
     let answer = b"K 1\nK 2\nE 42 0\nE 11 2\nA 2\nR 2 102\nv,timestamp\n\
 2,1970-01-01T00:00:00.000000Z\n\

@@ -1,4 +1,3 @@
-pub mod Steps
 pub mod NameLemmas
 pub mod SchemaLaws
 pub mod PartLaws

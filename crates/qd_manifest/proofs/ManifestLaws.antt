@@ -12,15 +12,17 @@ use Rattle.qd_base.specs.Schemas.{same_name}
 use Rattle.qd_base.specs.Lawful.{IsSchema, AreSchemas}
 use Rattle.qd_base.proofs.Lists.{IsDistinct-push, IsDistinct-nil, each-map, each-from_map}
 use Rattle.qd_base.proofs.Tables.{position-none}
+use Rattle.qd_fields.specs.Spelling.{u16_bytes, u64_bytes, schema_bytes}
+use Rattle.qd_fields.specs.Layout.{Read, ◌>>=◌, kept, items, number_at}
 use Rattle.qd_manifest.specs.declared.shape.TableParts.{TableParts}
 use Rattle.qd_manifest.specs.declared.shape.Manifest.{Manifest}
 use Rattle.qd_manifest.specs.declared.shape.TheConstants.{BLOCKS_PER_TRANSACTION}
-use Rattle.qd_manifest.specs.Spelling.{AreParts, blocks_in, blocks_of, schemas_in, IsManifest, half, word, schema_bytes, part_bytes, table_bytes, manifest_bytes, SpellsManifest}
+use Rattle.qd_manifest.specs.Spelling.{AreParts, blocks_in, blocks_of, schemas_in, IsManifest, part_bytes, table_bytes, manifest_bytes, SpellsManifest}
 use Rattle.qd_manifest.specs.Rules.{is_table_name, may_be_next, may_be_table}
-use Rattle.qd_manifest.specs.Layout.{Read, ◌>>=◌, kept, items, number_at, schema_from, parts_from, table_from, manifest_from}
+use Rattle.qd_manifest.specs.Layout.{schema_from, parts_from, table_from, manifest_from}
 use Rattle.qd_manifest.specs.Reading.{IsDamagedAt}
-use Rattle.qd_manifest.proofs.Steps.{AreBytes, bind_ok, bind_again, ok_is, test_ok, kept_ok, kept_again, Takes, Takes-then, wide16, wide64, number_takes, number_again, items_take, items_again, flat_map-push}
-use Rattle.qd_manifest.proofs.NameLemmas.{table_test, position-absent, distinct_before, All-amid}
+use Rattle.qd_fields.proofs.Steps.{AreBytes, bind_ok, bind_again, ok_is, test_ok, kept_ok, kept_again, Takes, Takes-then, wide16, wide64, number_takes, number_again, items_take, items_again, flat_map-push, All-amid}
+use Rattle.qd_manifest.proofs.NameLemmas.{table_test, position-absent, distinct_before}
 use Rattle.qd_manifest.proofs.SchemaLaws.{schema_takes, schema_again}
 use Rattle.qd_manifest.proofs.PartLaws.{AreNext, parts_take, parts_again}
 
@@ -58,7 +60,7 @@ table_takes next before bytes x good known e =
     let p = b.0 in
     let t0 = schema_takes before bytes s known a.1 in
     let t1 = parts_take next (blocks_of before) s.0 s.1 p good.distinct t0.2.rest_fits b.1 in
-    let both = Takes-then bytes (schema_bytes s.0) s.1 (word (length p.0) ++ flat_map part_bytes p.0) p.1 t0.2 t1.2 in
+    let both = Takes-then bytes (schema_bytes s.0) s.1 (u64_bytes (length p.0) ++ flat_map part_bytes p.0) p.1 t0.2 t1.2 in
     let t : TableParts = record { schema = s.0; parts = p.0 } in
     let schemas_more : schemas_in (before ++ t ∷ []) ≡ schemas_in before ++ s.0 ∷ [] = map_push (λ (u : TableParts). u.schema) before t in
     let blocks_more : blocks_of (before ++ t ∷ []) ≡ blocks_of before ++ blocks_in p.0 = flat_map-push (λ (u : TableParts). blocks_in u.parts) before t in
@@ -72,7 +74,7 @@ table_takes next before bytes x good known e =
       below = subst (All (λ n. n < next)) (sym blocks_more) (All-append (λ n. n < next) (blocks_of before) (blocks_in p.0) good.below next_parts.below);
       distinct = subst (IsDistinct nat_eq) (sym blocks_more) next_parts.distinct;
     } in
-    subst (λ (y : TableParts × List ℕ). AreTables next (before ++ y.0 ∷ []) × Takes bytes (schema_bytes y.0.schema ++ (word (length y.0.parts) ++ flat_map part_bytes y.0.parts)) y.1) (ok_is (t, p.1) x b.2) (more, both)
+    subst (λ (y : TableParts × List ℕ). AreTables next (before ++ y.0 ∷ []) × Takes bytes (schema_bytes y.0.schema ++ (u64_bytes (length y.0.parts) ++ flat_map part_bytes y.0.parts)) y.1) (ok_is (t, p.1) x b.2) (more, both)
 
 table_again : (next : ℕ) (all before : List TableParts) (t : TableParts) (after : List TableParts) (rest : List ℕ) → next < 2 ^ 64 → AreTables next all → all ≡ before ++ t ∷ after → table_from next before (table_bytes t ++ rest) ≡ Ok (t, rest)
 unfolding table_from table_bytes
@@ -86,9 +88,9 @@ table_again next all before t after rest fits good e =
     let rule : may_be_table before s.name ≡ true = and_from (is_table_name s.name) (not (is_some (position (λ (u : TableParts). same_name u.schema.name s.name) before))) (table_test s.name sound.name) (not_from_false (is_some (position (λ (u : TableParts). same_name u.schema.name s.name) before)) (position-absent (λ (u : TableParts). same_name u.schema.name s.name) before apart)) in
     let below : All (λ n. n < next) (blocks_in t.parts) = part_all (λ n. n < next) (blocks_of before) (blocks_in t.parts) (blocks_of after) (subst (All (λ n. n < next)) blocks_split good.below) in
     let distinct : IsDistinct nat_eq (blocks_of before ++ blocks_in t.parts) = front_distinct nat_eq (blocks_of before ++ blocks_in t.parts) (blocks_of after) (subst (IsDistinct nat_eq) blocks_split good.distinct) in
-    let behind = word (length t.parts) ++ (flat_map part_bytes t.parts ++ rest) in
-    let g1 : (word (length t.parts) ++ flat_map part_bytes t.parts) ++ rest ≡ behind = append_assoc (word (length t.parts)) (flat_map part_bytes t.parts) rest in
-    let g0 : (schema_bytes s ++ (word (length t.parts) ++ flat_map part_bytes t.parts)) ++ rest ≡ schema_bytes s ++ behind = append_assoc (schema_bytes s) (word (length t.parts) ++ flat_map part_bytes t.parts) rest ∙ ap (λ l. schema_bytes s ++ l) g1 in
+    let behind = u64_bytes (length t.parts) ++ (flat_map part_bytes t.parts ++ rest) in
+    let g1 : (u64_bytes (length t.parts) ++ flat_map part_bytes t.parts) ++ rest ≡ behind = append_assoc (u64_bytes (length t.parts)) (flat_map part_bytes t.parts) rest in
+    let g0 : (schema_bytes s ++ (u64_bytes (length t.parts) ++ flat_map part_bytes t.parts)) ++ rest ≡ schema_bytes s ++ behind = append_assoc (schema_bytes s) (u64_bytes (length t.parts) ++ flat_map part_bytes t.parts) rest ∙ ap (λ l. schema_bytes s ++ l) g1 in
     let one = schema_again before s behind sound rule in
     let two = parts_again next (blocks_of before) s t.parts rest fits sound.few parts.few (record { each = parts.each; apart = parts.apart; below = below; distinct = distinct }) in
     let step1 : Schema × List ℕ → Read TableParts = λ schema. parts_from next (blocks_of before) schema.0 schema.1 >>= λ parts. Ok (record { schema = schema.0; parts = parts.0 }, parts.1) in
@@ -121,10 +123,10 @@ manifest_takes n bytes m known e =
     let t2 = items_take (table_from next.0) table_bytes (AreTables next.0) (table_takes next.0) count.0 count.1 tables (no_tables next.0) t1.0.rest_fits c.1 in
     let good : AreTables next.0 tables.0 = t2.0 in
     let nothing : tables.1 ≡ [] = nil_from_length tables.1 (eqb-true (length tables.1) 0 g.0) in
-    let e12 = Takes-then next.1 (half count.0) count.1 (flat_map table_bytes tables.0) tables.1 t1.0 t2.2 in
-    let e02 = Takes-then bytes (word next.0) next.1 (half count.0 ++ flat_map table_bytes tables.0) tables.1 t0.0 e12 in
-    let text = word next.0 ++ (half count.0 ++ flat_map table_bytes tables.0) in
-    let whole : bytes ≡ word next.0 ++ (half (length tables.0) ++ flat_map table_bytes tables.0) = e02.parts ∙ ap (λ r. text ++ r) nothing ∙ append-nil text ∙ ap (λ k. word next.0 ++ (half k ++ flat_map table_bytes tables.0)) (sym t2.1) in
+    let e12 = Takes-then next.1 (u16_bytes count.0) count.1 (flat_map table_bytes tables.0) tables.1 t1.0 t2.2 in
+    let e02 = Takes-then bytes (u64_bytes next.0) next.1 (u16_bytes count.0 ++ flat_map table_bytes tables.0) tables.1 t0.0 e12 in
+    let text = u64_bytes next.0 ++ (u16_bytes count.0 ++ flat_map table_bytes tables.0) in
+    let whole : bytes ≡ u64_bytes next.0 ++ (u16_bytes (length tables.0) ++ flat_map table_bytes tables.0) = e02.parts ∙ ap (λ r. text ++ r) nothing ∙ append-nil text ∙ ap (λ k. u64_bytes next.0 ++ (u16_bytes k ++ flat_map table_bytes tables.0)) (sym t2.1) in
     let few : length (schemas_in tables.0) ≤ MAX_TABLES = omega (arith, length-map tables.0 (λ (u : TableParts). u.schema), t2.1, leb-true count.0 MAX_TABLES k1.1) in
     let sound : IsManifest n made = record {
       next = leb-true next.0 (n * BLOCKS_PER_TRANSACTION) k0.1;
@@ -146,8 +148,8 @@ manifest_again n bytes m spelled =
     let good : AreTables m.next_block m.shape = record { schemas = schemas.each; named = schemas.distinct; parts = sound.parts; below = sound.below; distinct = sound.distinct } in
     let few : length m.shape ≤ MAX_TABLES = (let most : length (schemas_in m.shape) ≤ MAX_TABLES = schemas.few in omega (arith, length-map m.shape (λ (u : TableParts). u.schema))) in
     let r2 = flat_map table_bytes m.shape in
-    let r1 = half (length m.shape) ++ r2 in
-    let r0 = word m.next_block ++ r1 in
+    let r1 = u16_bytes (length m.shape) ++ r2 in
+    let r0 = u64_bytes m.next_block ++ r1 in
     let one : kept (may_be_next n) r0 (number_at w64 r0) ≡ Ok (m.next_block, r1) = kept_again (may_be_next n) r0 (number_at w64 r0) (m.next_block, r1) (number_again w64 (2 ^ 64) wide64 m.next_block r1 sound.next_fits) (le-leb m.next_block (n * BLOCKS_PER_TRANSACTION) sound.next) in
     let two : kept (λ k. leb k MAX_TABLES) r1 (number_at w16 r1) ≡ Ok (length m.shape, r2) = kept_again (λ k. leb k MAX_TABLES) r1 (number_at w16 r1) (length m.shape, r2) (number_again w16 (2 ^ 16) wide16 (length m.shape) r2 (let most : length m.shape ≤ 1024 = few in omega arith)) (le-leb (length m.shape) MAX_TABLES few) in
     let three : items (table_from m.next_block) (length m.shape) [] r2 ≡ Ok (m.shape, []) = ap (items (table_from m.next_block) (length m.shape) []) (sym (append-nil r2)) ∙ items_again (table_from m.next_block) table_bytes m.shape (λ before t after more e. table_again m.next_block m.shape before t after more sound.next_fits good e) [] in

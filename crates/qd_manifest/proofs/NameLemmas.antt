@@ -141,10 +141,3 @@ absent_each x (y ∷ ys) e =
 pub each_absent : (x : ℕ) (xs : List ℕ) → AllByRecursion (λ y. nat_eq y x ≡ false) xs → list_any (nat_eq x) xs ≡ false
 each_absent x [] h = refl
 each_absent x (y ∷ ys) h = or_from (eqb x y) (list_any (nat_eq x) ys) (ne_eqb x y (λ same. eqb-false y x h.0 (sym same))) (each_absent x ys h.1)
-
--- what holds of each holds of the one in the midst
-pub All-amid : {X : Type 0} (P : X → Type 0) (all before : List X) (x : X) (after : List X) → all ≡ before ++ x ∷ after → All P all → P x
-All-amid P all before x after e h =
-    let there : length before < length all = omega (arith, ap length e, length-append before (x ∷ after)) in
-    let is : get_or all (length before) x ≡ x = ap (λ l. get_or l (length before) x) e ∙ get_or_at before x after x (length before) refl in
-    subst P is (h (length before) x there)

@@ -11,13 +11,15 @@ use Rattle.qd_base.specs.declared.part.Part.{Part}
 use Rattle.qd_base.specs.declared.schema.Schema.{Schema}
 use Rattle.qd_base.proofs.Lists.{IsDistinct-push}
 use Rattle.qd_time.specs.Units.{unit_of, start_of}
-use Rattle.qd_manifest.specs.Spelling.{no_part, IsPart, blocks_in, half, word, part_bytes}
+use Rattle.qd_fields.specs.Spelling.{u16_bytes, u64_bytes}
+use Rattle.qd_fields.specs.Layout.{Read, ◌>>=◌, kept, items, number_at}
+use Rattle.qd_fields.specs.Reading.{Fails}
+use Rattle.qd_manifest.specs.Spelling.{no_part, IsPart, blocks_in, part_bytes}
 use Rattle.qd_manifest.specs.Rules.{may_be_block, may_be_width, may_begin, may_end}
-use Rattle.qd_manifest.specs.Layout.{Read, ◌>>=◌, kept, items, number_at, part_from, part_in, parts_from}
-use Rattle.qd_manifest.specs.declared.fault.Stop.{Stop}
-use Rattle.qd_manifest.specs.Reading.{Fails}
-use Rattle.qd_manifest.proofs.Steps.{AreBytes, bind_ok, bind_again, ok_is, kept_ok, kept_again, Takes, Takes-then, wide16, wide64, number_takes, number_again, items_take, items_again}
-use Rattle.qd_manifest.proofs.NameLemmas.{distinct_before, absent_each, each_absent, All-amid}
+use Rattle.qd_manifest.specs.Layout.{part_from, part_in, parts_from}
+use Rattle.qd_fields.specs.declared.stop.Stop.{Stop}
+use Rattle.qd_fields.proofs.Steps.{AreBytes, bind_ok, bind_again, ok_is, kept_ok, kept_again, Takes, Takes-then, wide16, wide64, number_takes, number_again, items_take, items_again, All-amid}
+use Rattle.qd_manifest.proofs.NameLemmas.{distinct_before, absent_each, each_absent}
 
 -- parts stand apart
 abbrev pub Apart : List Part → Type 0
@@ -111,10 +113,10 @@ part_takes next named s before bytes x good known e =
     let t2 = number_takes w16 (2 ^ 16) wide16 rows.1 cols.0 cols.1 t1.0.rest_fits k2.0 in
     let t3 = number_takes w64 (2 ^ 64) wide64 cols.1 lo.0 lo.1 t2.0.rest_fits k3.0 in
     let t4 = number_takes w64 (2 ^ 64) wide64 lo.1 hi.0 hi.1 t3.0.rest_fits k4.0 in
-    let e34 = Takes-then cols.1 (word lo.0) lo.1 (word hi.0) hi.1 t3.0 t4.0 in
-    let e24 = Takes-then rows.1 (half cols.0) cols.1 (word lo.0 ++ word hi.0) hi.1 t2.0 e34 in
-    let e14 = Takes-then block.1 (word rows.0) rows.1 (half cols.0 ++ (word lo.0 ++ word hi.0)) hi.1 t1.0 e24 in
-    let e04 = Takes-then bytes (word block.0) block.1 (word rows.0 ++ (half cols.0 ++ (word lo.0 ++ word hi.0))) hi.1 t0.0 e14 in
+    let e34 = Takes-then cols.1 (u64_bytes lo.0) lo.1 (u64_bytes hi.0) hi.1 t3.0 t4.0 in
+    let e24 = Takes-then rows.1 (u16_bytes cols.0) cols.1 (u64_bytes lo.0 ++ u64_bytes hi.0) hi.1 t2.0 e34 in
+    let e14 = Takes-then block.1 (u64_bytes rows.0) rows.1 (u16_bytes cols.0 ++ (u64_bytes lo.0 ++ u64_bytes hi.0)) hi.1 t1.0 e24 in
+    let e04 = Takes-then bytes (u64_bytes block.0) block.1 (u64_bytes rows.0 ++ (u16_bytes cols.0 ++ (u64_bytes lo.0 ++ u64_bytes hi.0))) hi.1 t0.0 e14 in
     let r0 = and_parts (ltb block.0 next) (not (list_any (nat_eq block.0) others)) k0.1 in
     let r2 = and_parts (ltb s.time_col cols.0) (leb cols.0 (length s.cols)) k2.1 in
     let r3 = begins before lo.0 k3.1 in
@@ -138,7 +140,7 @@ part_takes next named s before bytes x good known e =
       below = subst (All (λ n. n < next)) (sym pushed) (All-push (λ n. n < next) (blocks_in before) block.0 good.below (ltb-true block.0 next r0.0));
       distinct = subst (IsDistinct nat_eq) (sym named_more) (IsDistinct-push nat_eq others block.0 good.distinct (absent_each block.0 others (not-true (list_any (nat_eq block.0) others) r0.1)));
     } in
-    subst (λ (y : Part × List ℕ). AreNext next named s (before ++ y.0 ∷ []) × Takes bytes (word y.0.block ++ (word y.0.rows ++ (half y.0.cols ++ (word y.0.lo ++ word y.0.hi)))) y.1) (ok_is (p, hi.1) x f.2) (more, e04)
+    subst (λ (y : Part × List ℕ). AreNext next named s (before ++ y.0 ∷ []) × Takes bytes (u64_bytes y.0.block ++ (u64_bytes y.0.rows ++ (u16_bytes y.0.cols ++ (u64_bytes y.0.lo ++ u64_bytes y.0.hi)))) y.1) (ok_is (p, hi.1) x f.2) (more, e04)
 
 part_again : (next : ℕ) (named : List ℕ) (s : Schema) (all before : List Part) (p : Part) (after : List Part) (rest : List ℕ) → next < 2 ^ 64 → length s.cols ≤ MAX_COLUMNS → AreNext next named s all → all ≡ before ++ p ∷ after → part_in next named s before (part_bytes p ++ rest) ≡ Ok (p, rest)
 unfolding part_from part_bytes
@@ -159,15 +161,15 @@ part_again next named s all before p after rest fits few good e =
     let rule3 : may_begin before p.lo ≡ true = begins_test before p.lo (omega (arith, in_order, timely)) (behind_amid all before p after e good.apart) in
     let same = eqb (start_of (unit_of s.unit) p.lo) (start_of (unit_of s.unit) p.hi) in
     let rule4 : may_end s.unit p.lo p.hi ≡ true = and_from (leb p.lo p.hi) (leb p.hi MAX_TIME && same) (le-leb p.lo p.hi in_order) (and_from (leb p.hi MAX_TIME) same (le-leb p.hi MAX_TIME timely) (eq-eqb (start_of (unit_of s.unit) p.lo) (start_of (unit_of s.unit) p.hi) is.together)) in
-    let r4 = word p.hi ++ rest in
-    let r3 = word p.lo ++ r4 in
-    let r2 = half p.cols ++ r3 in
-    let r1 = word p.rows ++ r2 in
-    let r0 = word p.block ++ r1 in
-    let g3 : (word p.lo ++ word p.hi) ++ rest ≡ r3 = append_assoc (word p.lo) (word p.hi) rest in
-    let g2 : (half p.cols ++ (word p.lo ++ word p.hi)) ++ rest ≡ r2 = append_assoc (half p.cols) (word p.lo ++ word p.hi) rest ∙ ap (λ l. half p.cols ++ l) g3 in
-    let g1 : (word p.rows ++ (half p.cols ++ (word p.lo ++ word p.hi))) ++ rest ≡ r1 = append_assoc (word p.rows) (half p.cols ++ (word p.lo ++ word p.hi)) rest ∙ ap (λ l. word p.rows ++ l) g2 in
-    let g0 : (word p.block ++ (word p.rows ++ (half p.cols ++ (word p.lo ++ word p.hi)))) ++ rest ≡ r0 = append_assoc (word p.block) (word p.rows ++ (half p.cols ++ (word p.lo ++ word p.hi))) rest ∙ ap (λ l. word p.block ++ l) g1 in
+    let r4 = u64_bytes p.hi ++ rest in
+    let r3 = u64_bytes p.lo ++ r4 in
+    let r2 = u16_bytes p.cols ++ r3 in
+    let r1 = u64_bytes p.rows ++ r2 in
+    let r0 = u64_bytes p.block ++ r1 in
+    let g3 : (u64_bytes p.lo ++ u64_bytes p.hi) ++ rest ≡ r3 = append_assoc (u64_bytes p.lo) (u64_bytes p.hi) rest in
+    let g2 : (u16_bytes p.cols ++ (u64_bytes p.lo ++ u64_bytes p.hi)) ++ rest ≡ r2 = append_assoc (u16_bytes p.cols) (u64_bytes p.lo ++ u64_bytes p.hi) rest ∙ ap (λ l. u16_bytes p.cols ++ l) g3 in
+    let g1 : (u64_bytes p.rows ++ (u16_bytes p.cols ++ (u64_bytes p.lo ++ u64_bytes p.hi))) ++ rest ≡ r1 = append_assoc (u64_bytes p.rows) (u16_bytes p.cols ++ (u64_bytes p.lo ++ u64_bytes p.hi)) rest ∙ ap (λ l. u64_bytes p.rows ++ l) g2 in
+    let g0 : (u64_bytes p.block ++ (u64_bytes p.rows ++ (u16_bytes p.cols ++ (u64_bytes p.lo ++ u64_bytes p.hi)))) ++ rest ≡ r0 = append_assoc (u64_bytes p.block) (u64_bytes p.rows ++ (u16_bytes p.cols ++ (u64_bytes p.lo ++ u64_bytes p.hi))) rest ∙ ap (λ l. u64_bytes p.block ++ l) g1 in
     let one : kept (may_be_block next others) r0 (number_at w64 r0) ≡ Ok (p.block, r1) = kept_again (may_be_block next others) r0 (number_at w64 r0) (p.block, r1) (number_again w64 (2 ^ 64) wide64 p.block r1 (omega arith)) rule0 in
     let two : kept (leb 1) r1 (number_at w64 r1) ≡ Ok (p.rows, r2) = kept_again (leb 1) r1 (number_at w64 r1) (p.rows, r2) (number_again w64 (2 ^ 64) wide64 p.rows r2 is.few) (le-leb 1 p.rows is.some) in
     let three : kept (may_be_width s) r2 (number_at w16 r2) ≡ Ok (p.cols, r3) = kept_again (may_be_width s) r2 (number_at w16 r2) (p.cols, r3) (number_again w16 (2 ^ 16) wide16 p.cols r3 (omega arith)) rule2 in
@@ -187,22 +189,22 @@ part_again next named s all before p after rest fits few good e =
 no_next : (next : ℕ) (named : List ℕ) (s : Schema) → IsDistinct nat_eq named → AreNext next named s []
 no_next next named s d = record { each = All-nil (IsPart s); apart = λ i lt. absurd (omega arith); below = All-nil (λ n. n < next); distinct = subst (IsDistinct nat_eq) (sym (append-nil named)) d }
 
-pub parts_take : (next : ℕ) (named : List ℕ) (s : Schema) (bytes : List ℕ) (x : List Part × List ℕ) → IsDistinct nat_eq named → AreBytes bytes → parts_from next named s bytes ≡ Ok x → AreNext next named s x.0 × (length x.0 < 2 ^ 64) × Takes bytes (word (length x.0) ++ flat_map part_bytes x.0) x.1
+pub parts_take : (next : ℕ) (named : List ℕ) (s : Schema) (bytes : List ℕ) (x : List Part × List ℕ) → IsDistinct nat_eq named → AreBytes bytes → parts_from next named s bytes ≡ Ok x → AreNext next named s x.0 × (length x.0 < 2 ^ 64) × Takes bytes (u64_bytes (length x.0) ++ flat_map part_bytes x.0) x.1
 unfolding parts_from
 parts_take next named s bytes x distinct known e =
     let a = bind_ok (number_at w64 bytes) (λ n. items (part_in next named s) n.0 [] n.1) x e in
     let first = number_takes w64 (2 ^ 64) wide64 bytes a.0.0 a.0.1 known a.1 in
     let all = items_take (part_in next named s) part_bytes (AreNext next named s) (part_takes next named s) a.0.0 a.0.1 x (no_next next named s distinct) first.0.rest_fits a.2 in
-    let both = Takes-then bytes (word a.0.0) a.0.1 (flat_map part_bytes x.0) x.1 first.0 all.2 in
-    (all.0, omega (arith, all.1, first.1), subst (λ (k : ℕ). Takes bytes (word k ++ flat_map part_bytes x.0) x.1) (sym all.1) both)
+    let both = Takes-then bytes (u64_bytes a.0.0) a.0.1 (flat_map part_bytes x.0) x.1 first.0 all.2 in
+    (all.0, omega (arith, all.1, first.1), subst (λ (k : ℕ). Takes bytes (u64_bytes k ++ flat_map part_bytes x.0) x.1) (sym all.1) both)
 
-pub parts_again : (next : ℕ) (named : List ℕ) (s : Schema) (parts : List Part) (rest : List ℕ) → next < 2 ^ 64 → length s.cols ≤ MAX_COLUMNS → length parts < 2 ^ 64 → AreNext next named s parts → parts_from next named s (word (length parts) ++ (flat_map part_bytes parts ++ rest)) ≡ Ok (parts, rest)
+pub parts_again : (next : ℕ) (named : List ℕ) (s : Schema) (parts : List Part) (rest : List ℕ) → next < 2 ^ 64 → length s.cols ≤ MAX_COLUMNS → length parts < 2 ^ 64 → AreNext next named s parts → parts_from next named s (u64_bytes (length parts) ++ (flat_map part_bytes parts ++ rest)) ≡ Ok (parts, rest)
 unfolding parts_from
 parts_again next named s parts rest fits few short good =
     let behind = flat_map part_bytes parts ++ rest in
-    let one : number_at w64 (word (length parts) ++ behind) ≡ Ok (length parts, behind) = number_again w64 (2 ^ 64) wide64 (length parts) behind short in
+    let one : number_at w64 (u64_bytes (length parts) ++ behind) ≡ Ok (length parts, behind) = number_again w64 (2 ^ 64) wide64 (length parts) behind short in
     let all = items_again (part_in next named s) part_bytes parts (λ before p after more e. part_again next named s parts before p after more fits few good e) rest in
-    bind_again (number_at w64 (word (length parts) ++ behind)) (λ n. items (part_in next named s) n.0 [] n.1) (length parts, behind) (parts, rest) one all
+    bind_again (number_at w64 (u64_bytes (length parts) ++ behind)) (λ n. items (part_in next named s) n.0 [] n.1) (length parts, behind) (parts, rest) one all
 
 -- ---- the loop over the parts of a table: the blocks that are taken are those named before and those of its parts
 

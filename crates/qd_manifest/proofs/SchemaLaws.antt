@@ -19,12 +19,13 @@ use Rattle.qd_base.specs.Schemas.{same_name, column_at}
 use Rattle.qd_base.specs.Lawful.{IsSchema}
 use Rattle.qd_base.proofs.Lists.{IsDistinct-push, IsDistinct-nil}
 use Rattle.qd_base.proofs.Tables.{position-none}
+use Rattle.qd_fields.specs.Spelling.{u16_bytes, name_bytes, code_of_kind, code_of_unit, column_bytes, schema_bytes}
+use Rattle.qd_fields.specs.Layout.{Read, ◌>>=◌, kept, coded, items, number_at, byte_at, name_at, kind_of_code, unit_of_code}
 use Rattle.qd_manifest.specs.declared.shape.TableParts.{TableParts}
-use Rattle.qd_manifest.specs.Spelling.{half, name_bytes, code_of_kind, code_of_unit, column_bytes, schema_bytes}
-use Rattle.qd_manifest.specs.Rules.{is_column_name, is_table_name, kind_of_code, unit_of_code, may_be_table, may_be_column, kind_is_time, is_time, may_be_key}
-use Rattle.qd_manifest.specs.Layout.{Read, ◌>>=◌, kept, coded, items, number_at, byte_at, name_at, column_from, columns_from, key_from, keys_from, schema_from}
-use Rattle.qd_manifest.proofs.Steps.{AreBytes, bind_ok, bind_again, ok_is, kept_ok, kept_again, coded_ok, coded_again, Takes, Takes-then, wide16, number_takes, number_again, byte_takes, name_takes, name_again, find_passes, items_take, items_again}
-use Rattle.qd_manifest.proofs.NameLemmas.{column_named, column_test, table_named, position-absent, distinct_before, absent_each, each_absent, All-amid}
+use Rattle.qd_manifest.specs.Rules.{is_column_name, is_table_name, may_be_table, may_be_column, kind_is_time, is_time, may_be_key}
+use Rattle.qd_manifest.specs.Layout.{column_from, columns_from, key_from, keys_from, schema_from}
+use Rattle.qd_fields.proofs.Steps.{AreBytes, bind_ok, bind_again, ok_is, kept_ok, kept_again, coded_ok, coded_again, Takes, Takes-then, wide16, number_takes, number_again, byte_takes, name_takes, name_again, find_passes, items_take, items_again, All-amid}
+use Rattle.qd_manifest.proofs.NameLemmas.{column_named, column_test, table_named, position-absent, distinct_before, absent_each, each_absent}
 
 -- ---- codes
 
@@ -89,21 +90,21 @@ column_again cols before c after rest good e =
     let two : kept (may_be_column before) (name_bytes c.name ++ rest) (name_at (name_bytes c.name ++ rest)) ≡ Ok (c.name, rest) = kept_again (may_be_column before) (name_bytes c.name ++ rest) (name_at (name_bytes c.name ++ rest)) (c.name, rest) (name_again c.name rest) rule in
     bind_again (coded kind_of_code bytes (byte_at bytes)) (λ k. kept (may_be_column before) k.1 (name_at k.1) >>= λ n. Ok (record { name = n.0; kind = k.0 }, n.1)) (c.kind, name_bytes c.name ++ rest) (c, rest) one (bind_again (kept (may_be_column before) (name_bytes c.name ++ rest) (name_at (name_bytes c.name ++ rest))) (λ n. Ok (record { name = n.0; kind = c.kind }, n.1)) (c.name, rest) (c, rest) two refl)
 
-columns_take : (bytes : List ℕ) (x : List Col × List ℕ) → AreBytes bytes → columns_from bytes ≡ Ok x → AreCols x.0 × (length x.0 ≤ MAX_COLUMNS) × Takes bytes (half (length x.0) ++ flat_map column_bytes x.0) x.1
+columns_take : (bytes : List ℕ) (x : List Col × List ℕ) → AreBytes bytes → columns_from bytes ≡ Ok x → AreCols x.0 × (length x.0 ≤ MAX_COLUMNS) × Takes bytes (u16_bytes (length x.0) ++ flat_map column_bytes x.0) x.1
 unfolding columns_from
 columns_take bytes x known e =
     let a = bind_ok (kept (λ n. leb n MAX_COLUMNS) bytes (number_at w16 bytes)) (λ n. items column_from n.0 [] n.1) x e in
     let count = kept_ok (λ n. leb n MAX_COLUMNS) bytes (number_at w16 bytes) a.0 a.1 in
     let first = number_takes w16 (2 ^ 16) wide16 bytes a.0.0 a.0.1 known count.0 in
     let all = items_take column_from column_bytes AreCols column_takes a.0.0 a.0.1 x no_cols first.0.rest_fits a.2 in
-    let both = Takes-then bytes (half a.0.0) a.0.1 (flat_map column_bytes x.0) x.1 first.0 all.2 in
-    (all.0, omega (arith, all.1, leb-true a.0.0 MAX_COLUMNS count.1), subst (λ (k : ℕ). Takes bytes (half k ++ flat_map column_bytes x.0) x.1) (sym all.1) both)
+    let both = Takes-then bytes (u16_bytes a.0.0) a.0.1 (flat_map column_bytes x.0) x.1 first.0 all.2 in
+    (all.0, omega (arith, all.1, leb-true a.0.0 MAX_COLUMNS count.1), subst (λ (k : ℕ). Takes bytes (u16_bytes k ++ flat_map column_bytes x.0) x.1) (sym all.1) both)
 
-columns_again : (cols : List Col) (rest : List ℕ) → AreCols cols → length cols ≤ MAX_COLUMNS → columns_from (half (length cols) ++ (flat_map column_bytes cols ++ rest)) ≡ Ok (cols, rest)
+columns_again : (cols : List Col) (rest : List ℕ) → AreCols cols → length cols ≤ MAX_COLUMNS → columns_from (u16_bytes (length cols) ++ (flat_map column_bytes cols ++ rest)) ≡ Ok (cols, rest)
 unfolding columns_from
 columns_again cols rest good few =
     let behind = flat_map column_bytes cols ++ rest in
-    let bytes = half (length cols) ++ behind in
+    let bytes = u16_bytes (length cols) ++ behind in
     let one : kept (λ n. leb n MAX_COLUMNS) bytes (number_at w16 bytes) ≡ Ok (length cols, behind) = kept_again (λ n. leb n MAX_COLUMNS) bytes (number_at w16 bytes) (length cols, behind) (number_again w16 (2 ^ 16) wide16 (length cols) behind (let most : length cols ≤ 256 = few in omega arith)) (le-leb (length cols) MAX_COLUMNS few) in
     let all = items_again column_from column_bytes cols (λ before c after more e. column_again cols before c after more good e) rest in
     bind_again (kept (λ n. leb n MAX_COLUMNS) bytes (number_at w16 bytes)) (λ n. items column_from n.0 [] n.1) (length cols, behind) (cols, rest) one all
@@ -149,7 +150,7 @@ timed_key time count key all before [] e size there =
 timed_key time count key all before (k ∷ ks) e size there =
     or_left (ltb (length before + 1) count) (eqb key time || list_any (nat_eq time) before) (lt-ltb (length before + 1) count (omega (arith, sym size, ap length e, length-append before (key ∷ k ∷ ks))))
 
-key_takes : (columns time count : ℕ) (before bytes : List ℕ) (x : ℕ × List ℕ) → AreKeys columns time count before → AreBytes bytes → key_from columns time count before bytes ≡ Ok x → AreKeys columns time count (before ++ x.0 ∷ []) × Takes bytes (half x.0) x.1
+key_takes : (columns time count : ℕ) (before bytes : List ℕ) (x : ℕ × List ℕ) → AreKeys columns time count before → AreBytes bytes → key_from columns time count before bytes ≡ Ok x → AreKeys columns time count (before ++ x.0 ∷ []) × Takes bytes (u16_bytes x.0) x.1
 unfolding key_from
 key_takes columns time count before bytes x good known e =
     let k = kept_ok (may_be_key columns time count before) bytes (number_at w16 bytes) x e in
@@ -169,7 +170,7 @@ key_takes columns time count before bytes x good known e =
 abbrev pub KeysFit : ℕ → ℕ → List ℕ → Type 0
 KeysFit columns time keys = (keys ≡ []) ⊎ (All (λ k. k < columns) keys × IsDistinct nat_eq keys × Contains keys time)
 
-key_again : (columns time : ℕ) (keys before : List ℕ) (k : ℕ) (after rest : List ℕ) → columns ≤ 2 ^ 16 → KeysFit columns time keys → keys ≡ before ++ k ∷ after → key_from columns time (length keys) before (half k ++ rest) ≡ Ok (k, rest)
+key_again : (columns time : ℕ) (keys before : List ℕ) (k : ℕ) (after rest : List ℕ) → columns ≤ 2 ^ 16 → KeysFit columns time keys → keys ≡ before ++ k ∷ after → key_from columns time (length keys) before (u16_bytes k ++ rest) ≡ Ok (k, rest)
 unfolding key_from
 key_again columns time keys before k after rest few (inl none) e = absurd (omega (arith, ap length (sym none ∙ e), length-append before (k ∷ after)))
 key_again columns time keys before k after rest few (inr fit) e =
@@ -179,28 +180,28 @@ key_again columns time keys before k after rest few (inr fit) e =
     let rule : may_be_key columns time (length keys) before k ≡ true =
     and_from (ltb k columns) (not (list_any (nat_eq k) before) && last) (lt-ltb k columns below)
     (and_from (not (list_any (nat_eq k) before)) last (not_from_false (list_any (nat_eq k) before) apart) (timed_key time (length keys) k keys before after e refl fit.2)) in
-    kept_again (may_be_key columns time (length keys) before) (half k ++ rest) (number_at w16 (half k ++ rest)) (k, rest) (number_again w16 (2 ^ 16) wide16 k rest (omega arith)) rule
+    kept_again (may_be_key columns time (length keys) before) (u16_bytes k ++ rest) (number_at w16 (u16_bytes k ++ rest)) (k, rest) (number_again w16 (2 ^ 16) wide16 k rest (omega arith)) rule
 
 keys_fit : (columns time count : ℕ) (keys : List ℕ) → length keys ≡ count → AreKeys columns time count keys → KeysFit columns time keys
 keys_fit columns time count [] size good = inl refl
 keys_fit columns time count (k ∷ ks) size good = inr (good.within, good.distinct, good.timed (omega arith) (omega arith))
 
-keys_take : (columns time : ℕ) (bytes : List ℕ) (x : List ℕ × List ℕ) → AreBytes bytes → keys_from columns time bytes ≡ Ok x → KeysFit columns time x.0 × Takes bytes (half (length x.0) ++ flat_map half x.0) x.1
+keys_take : (columns time : ℕ) (bytes : List ℕ) (x : List ℕ × List ℕ) → AreBytes bytes → keys_from columns time bytes ≡ Ok x → KeysFit columns time x.0 × Takes bytes (u16_bytes (length x.0) ++ flat_map u16_bytes x.0) x.1
 unfolding keys_from
 keys_take columns time bytes x known e =
     let a = bind_ok (number_at w16 bytes) (λ n. items (key_from columns time n.0) n.0 [] n.1) x e in
     let first = number_takes w16 (2 ^ 16) wide16 bytes a.0.0 a.0.1 known a.1 in
-    let all = items_take (key_from columns time a.0.0) half (AreKeys columns time a.0.0) (key_takes columns time a.0.0) a.0.0 a.0.1 x (no_keys columns time a.0.0) first.0.rest_fits a.2 in
-    let both = Takes-then bytes (half a.0.0) a.0.1 (flat_map half x.0) x.1 first.0 all.2 in
-    (keys_fit columns time a.0.0 x.0 all.1 all.0, subst (λ (k : ℕ). Takes bytes (half k ++ flat_map half x.0) x.1) (sym all.1) both)
+    let all = items_take (key_from columns time a.0.0) u16_bytes (AreKeys columns time a.0.0) (key_takes columns time a.0.0) a.0.0 a.0.1 x (no_keys columns time a.0.0) first.0.rest_fits a.2 in
+    let both = Takes-then bytes (u16_bytes a.0.0) a.0.1 (flat_map u16_bytes x.0) x.1 first.0 all.2 in
+    (keys_fit columns time a.0.0 x.0 all.1 all.0, subst (λ (k : ℕ). Takes bytes (u16_bytes k ++ flat_map u16_bytes x.0) x.1) (sym all.1) both)
 
-keys_again : (columns time : ℕ) (keys rest : List ℕ) → columns ≤ 2 ^ 16 → length keys < 2 ^ 16 → KeysFit columns time keys → keys_from columns time (half (length keys) ++ (flat_map half keys ++ rest)) ≡ Ok (keys, rest)
+keys_again : (columns time : ℕ) (keys rest : List ℕ) → columns ≤ 2 ^ 16 → length keys < 2 ^ 16 → KeysFit columns time keys → keys_from columns time (u16_bytes (length keys) ++ (flat_map u16_bytes keys ++ rest)) ≡ Ok (keys, rest)
 unfolding keys_from
 keys_again columns time keys rest few short fit =
-    let behind = flat_map half keys ++ rest in
-    let one : number_at w16 (half (length keys) ++ behind) ≡ Ok (length keys, behind) = number_again w16 (2 ^ 16) wide16 (length keys) behind short in
-    let all = items_again (key_from columns time (length keys)) half keys (λ before k after more e. key_again columns time keys before k after more few fit e) rest in
-    bind_again (number_at w16 (half (length keys) ++ behind)) (λ n. items (key_from columns time n.0) n.0 [] n.1) (length keys, behind) (keys, rest) one all
+    let behind = flat_map u16_bytes keys ++ rest in
+    let one : number_at w16 (u16_bytes (length keys) ++ behind) ≡ Ok (length keys, behind) = number_again w16 (2 ^ 16) wide16 (length keys) behind short in
+    let all = items_again (key_from columns time (length keys)) u16_bytes keys (λ before k after more e. key_again columns time keys before k after more few fit e) rest in
+    bind_again (number_at w16 (u16_bytes (length keys) ++ behind)) (λ n. items (key_from columns time n.0) n.0 [] n.1) (length keys, behind) (keys, rest) one all
 
 -- ---- schemas
 
@@ -254,13 +255,13 @@ schema_takes before bytes x known e =
     let t3' : Takes time.1 (code_of_unit u.0 ∷ []) u.1 = subst (λ (k : ℕ). Takes time.1 (k ∷ []) u.1) (unit_code code.0 u.0 code.2) t3.0 in
     let t4 = keys_take (length cols.0) time.0 u.1 keys t3'.rest_fits f.1 in
     let s : Schema = record { name = name.0; cols = cols.0; time_col = time.0; unit = u.0; keys = keys.0 } in
-    let keys_text = half (length keys.0) ++ flat_map half keys.0 in
-    let cols_text = half (length cols.0) ++ flat_map column_bytes cols.0 in
+    let keys_text = u16_bytes (length keys.0) ++ flat_map u16_bytes keys.0 in
+    let cols_text = u16_bytes (length cols.0) ++ flat_map column_bytes cols.0 in
     let e34 = Takes-then time.1 (code_of_unit u.0 ∷ []) u.1 keys_text keys.1 t3' t4.1 in
-    let e24 = Takes-then cols.1 (half time.0) time.1 (code_of_unit u.0 ∷ keys_text) keys.1 t2.0 e34 in
-    let e14 = Takes-then name.1 cols_text cols.1 (half time.0 ++ (code_of_unit u.0 ∷ keys_text)) keys.1 t1.2 e24 in
-    let e04 = Takes-then bytes (name_bytes name.0) name.1 (cols_text ++ (half time.0 ++ (code_of_unit u.0 ∷ keys_text))) keys.1 t0.0 e14 in
-    let grouped : name_bytes name.0 ++ (cols_text ++ (half time.0 ++ (code_of_unit u.0 ∷ keys_text))) ≡ schema_bytes s = ap (λ l. name_bytes name.0 ++ l) (append_assoc (half (length cols.0)) (flat_map column_bytes cols.0) (half time.0 ++ (code_of_unit u.0 ∷ keys_text))) in
+    let e24 = Takes-then cols.1 (u16_bytes time.0) time.1 (code_of_unit u.0 ∷ keys_text) keys.1 t2.0 e34 in
+    let e14 = Takes-then name.1 cols_text cols.1 (u16_bytes time.0 ++ (code_of_unit u.0 ∷ keys_text)) keys.1 t1.2 e24 in
+    let e04 = Takes-then bytes (name_bytes name.0) name.1 (cols_text ++ (u16_bytes time.0 ++ (code_of_unit u.0 ∷ keys_text))) keys.1 t0.0 e14 in
+    let grouped : name_bytes name.0 ++ (cols_text ++ (u16_bytes time.0 ++ (code_of_unit u.0 ∷ keys_text))) ≡ schema_bytes s = ap (λ l. name_bytes name.0 ++ l) (append_assoc (u16_bytes (length cols.0)) (flat_map column_bytes cols.0) (u16_bytes time.0 ++ (code_of_unit u.0 ∷ keys_text))) in
     let sound : IsSchema s = record {
       name = table_named name.0 rule.0;
       few = t1.1;
@@ -275,21 +276,21 @@ schema_takes before bytes x known e =
 pub schema_again : (before : List TableParts) (s : Schema) (rest : List ℕ) → IsSchema s → may_be_table before s.name ≡ true → schema_from before (schema_bytes s ++ rest) ≡ Ok (s, rest)
 unfolding schema_from schema_bytes
 schema_again before s rest sound rule =
-    let keys_text = half (length s.keys) ++ flat_map half s.keys in
-    let r4 = half (length s.keys) ++ (flat_map half s.keys ++ rest) in
+    let keys_text = u16_bytes (length s.keys) ++ flat_map u16_bytes s.keys in
+    let r4 = u16_bytes (length s.keys) ++ (flat_map u16_bytes s.keys ++ rest) in
     let r3 = code_of_unit s.unit ∷ r4 in
-    let r2 = half s.time_col ++ r3 in
-    let r1 = half (length s.cols) ++ (flat_map column_bytes s.cols ++ r2) in
+    let r2 = u16_bytes s.time_col ++ r3 in
+    let r1 = u16_bytes (length s.cols) ++ (flat_map column_bytes s.cols ++ r2) in
     let r0 = name_bytes s.name ++ r1 in
     let few : length s.cols ≤ MAX_COLUMNS = sound.few in
     let most : length s.cols ≤ 256 = few in
     let placed : s.time_col < length s.cols = place_within (λ (c : Col). c.kind ≡ kind.Time) s.cols s.time_col sound.designated in
     let short : length s.keys ≤ length s.cols = few_keys (length s.cols) s.time_col s.keys sound.keys in
-    let g4 : keys_text ++ rest ≡ r4 = append_assoc (half (length s.keys)) (flat_map half s.keys) rest in
-    let g2 : (half s.time_col ++ (code_of_unit s.unit ∷ keys_text)) ++ rest ≡ r2 = append_assoc (half s.time_col) (code_of_unit s.unit ∷ keys_text) rest ∙ ap (λ l. half s.time_col ++ (code_of_unit s.unit ∷ l)) g4 in
-    let tail = half s.time_col ++ (code_of_unit s.unit ∷ keys_text) in
-    let g1 : (half (length s.cols) ++ (flat_map column_bytes s.cols ++ tail)) ++ rest ≡ r1 = append_assoc (half (length s.cols)) (flat_map column_bytes s.cols ++ tail) rest ∙ ap (λ l. half (length s.cols) ++ l) (append_assoc (flat_map column_bytes s.cols) tail rest ∙ ap (λ l. flat_map column_bytes s.cols ++ l) g2) in
-    let g0 : (name_bytes s.name ++ (half (length s.cols) ++ (flat_map column_bytes s.cols ++ tail))) ++ rest ≡ r0 = append_assoc (name_bytes s.name) (half (length s.cols) ++ (flat_map column_bytes s.cols ++ tail)) rest ∙ ap (λ l. name_bytes s.name ++ l) g1 in
+    let g4 : keys_text ++ rest ≡ r4 = append_assoc (u16_bytes (length s.keys)) (flat_map u16_bytes s.keys) rest in
+    let g2 : (u16_bytes s.time_col ++ (code_of_unit s.unit ∷ keys_text)) ++ rest ≡ r2 = append_assoc (u16_bytes s.time_col) (code_of_unit s.unit ∷ keys_text) rest ∙ ap (λ l. u16_bytes s.time_col ++ (code_of_unit s.unit ∷ l)) g4 in
+    let tail = u16_bytes s.time_col ++ (code_of_unit s.unit ∷ keys_text) in
+    let g1 : (u16_bytes (length s.cols) ++ (flat_map column_bytes s.cols ++ tail)) ++ rest ≡ r1 = append_assoc (u16_bytes (length s.cols)) (flat_map column_bytes s.cols ++ tail) rest ∙ ap (λ l. u16_bytes (length s.cols) ++ l) (append_assoc (flat_map column_bytes s.cols) tail rest ∙ ap (λ l. flat_map column_bytes s.cols ++ l) g2) in
+    let g0 : (name_bytes s.name ++ (u16_bytes (length s.cols) ++ (flat_map column_bytes s.cols ++ tail))) ++ rest ≡ r0 = append_assoc (name_bytes s.name) (u16_bytes (length s.cols) ++ (flat_map column_bytes s.cols ++ tail)) rest ∙ ap (λ l. name_bytes s.name ++ l) g1 in
     let one : kept (may_be_table before) r0 (name_at r0) ≡ Ok (s.name, r1) = kept_again (may_be_table before) r0 (name_at r0) (s.name, r1) (name_again s.name r1) rule in
     let two : columns_from r1 ≡ Ok (s.cols, r2) = columns_again s.cols r2 (record { names = sound.names; distinct = sound.distinct }) few in
     let three : kept (λ n. is_time (slice_get s.cols n)) r2 (number_at w16 r2) ≡ Ok (s.time_col, r3) = kept_again (λ n. is_time (slice_get s.cols n)) r2 (number_at w16 r2) (s.time_col, r3) (number_again w16 (2 ^ 16) wide16 s.time_col r3 (omega arith)) (is_time_test (slice_get s.cols s.time_col) sound.designated) in

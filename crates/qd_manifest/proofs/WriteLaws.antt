@@ -7,10 +7,11 @@ use Rattle.qd_base.specs.declared.schema.ColType.TheVariants as kind
 use Rattle.qd_base.specs.declared.schema.Schema.{Schema}
 use Rattle.qd_base.specs.Names.{IsColumnName, IsTableName}
 use Rattle.qd_base.specs.Lawful.{IsSchema, AreSchemas}
+use Rattle.qd_fields.specs.Spelling.{FitsColumn, FitsSchema}
 use Rattle.qd_manifest.specs.declared.shape.TableParts.{TableParts}
 use Rattle.qd_manifest.specs.declared.shape.Manifest.{Manifest}
 use Rattle.qd_manifest.specs.Spelling.{IsPart, AreParts, schemas_in, IsManifest}
-use Rattle.qd_manifest.specs.Writing.{FitsColumn, FitsSchema, FitsPart, FitsShape}
+use Rattle.qd_manifest.specs.Writing.{FitsPart, FitsShape}
 use Rattle.qd_manifest.proofs.SchemaLaws.{KeysFit, few_keys, place_within}
 
 keys_small : (columns time : ℕ) (keys : List ℕ) → columns < 2 ^ 16 → KeysFit columns time keys → All (λ k. k < 2 ^ 16) keys

@@ -1,58 +1,16 @@
--- A manifest read from its first field to its last. A field is read as what it holds and the bytes behind it. Where bytes
--- are missing, or a field breaks its rule, it is read as a number of bytes: those from the damage on. The damage is at the
--- end of all bytes where some are missing, and else at the first byte of the field.
-use Rattle.std.specs.Prelude.{ℕ, zero, suc, Bool, nat_le, nat_lt, nat_eq, if◌then◌else◌, List, [], ◌∷◌, ◌++◌, length, take, drop, slice_get, Option, Some, None, Result, Ok, Err}
-use Rattle.std.specs.Int.{Width, w16, w64, byte_len, from_le_bytes}
+-- A manifest read from its first field to its last, each as qd_fields reads it, and by the rule that it keeps. Damage is at
+-- the end of all bytes where some are missing, and else at the first byte of the first field that breaks its rule.
+use Rattle.std.specs.Prelude.{ℕ, nat_le, nat_eq, if◌then◌else◌, List, [], ◌++◌, length, slice_get, Result, Ok, Err}
+use Rattle.std.specs.Int.{w16, w64}
 use Rattle.qd_base.specs.declared.limits.TheConstants.{MAX_COLUMNS, MAX_TABLES}
 use Rattle.qd_base.specs.declared.part.Part.{Part}
 use Rattle.qd_base.specs.declared.schema.Col.{Col}
 use Rattle.qd_base.specs.declared.schema.Schema.{Schema}
+use Rattle.qd_fields.specs.Layout.{Read, ◌>>=◌, kept, items, number_at, byte_at, coded, kind_of_code, unit_of_code, name_at}
 use Rattle.qd_manifest.specs.declared.shape.TableParts.{TableParts}
 use Rattle.qd_manifest.specs.declared.shape.Manifest.{Manifest}
 use Rattle.qd_manifest.specs.Spelling.{blocks_in, blocks_of}
-use Rattle.qd_manifest.specs.Rules.{kind_of_code, unit_of_code, may_be_next, may_be_table, may_be_column, is_time, may_be_key, may_be_block, may_be_width, may_begin, may_end}
-
--- what is read of the front of bytes, and the bytes behind it; or how many bytes there are from the damage on
-abbrev pub Read : Type 0 → Type 0
-Read A = Result (A × List ℕ) ℕ
-
-infixl 10 ◌>>=◌
-abbrev pub ◌>>=◌ : {A B : Type 0} → Result A ℕ → (A → Result B ℕ) → Result B ℕ
-(Ok x) >>= f = f x
-(Err left) >>= f = Err left
-
--- what is read keeps a rule, or is damaged where it begins
-abbrev pub kept : {A : Type 0} → (A → Bool) → List ℕ → Read A → Read A
-kept rule bytes read = read >>= λ x. if rule x.0 then Ok x else Err (length bytes)
-
--- so many, one after another, each by those before
-unfoldable pub items : {A : Type 0} → (List A → List ℕ → Read A) → ℕ → List A → List ℕ → Read (List A)
-items f zero before bytes = Ok (before, bytes)
-items f (suc n) before bytes = do
-  x ← f before bytes
-  items f n (before ++ x.0 ∷ []) x.1
-
--- a number in two bytes or in eight
-abbrev pub number_at : Width → List ℕ → Read ℕ
-number_at w bytes = if nat_lt (length bytes) (byte_len w) then Err 0 else Ok (from_le_bytes w (take (byte_len w) bytes), drop (byte_len w) bytes)
-
-abbrev pub byte_at : List ℕ → Read ℕ
-byte_at [] = Err 0
-byte_at (b ∷ bytes) = Ok (b, bytes)
-
--- what a code stands for, where it stands for something
-abbrev pub meaning : {A : Type 0} → List ℕ → Option A → List ℕ → Read A
-meaning bytes None rest = Err (length bytes)
-meaning bytes (Some a) rest = Ok (a, rest)
-
-abbrev pub coded : {A : Type 0} → (ℕ → Option A) → List ℕ → Read ℕ → Read A
-coded f bytes read = read >>= λ x. meaning bytes (f x.0) x.1
-
--- a name behind its length
-unfoldable pub name_at : List ℕ → Read (List ℕ)
-name_at bytes = do
-  n ← byte_at bytes
-  if nat_lt (length n.1) n.0 then Err 0 else Ok (take n.0 n.1, drop n.0 n.1)
+use Rattle.qd_manifest.specs.Rules.{may_be_next, may_be_table, may_be_column, is_time, may_be_key, may_be_block, may_be_width, may_begin, may_end}
 
 unfoldable pub column_from : List Col → List ℕ → Read Col
 column_from before bytes = do

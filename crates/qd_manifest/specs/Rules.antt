@@ -8,14 +8,13 @@ use Rattle.qd_base.specs.declared.schema.Col.{Col}
 use Rattle.qd_base.specs.declared.schema.ColType.{ColType}
 use Rattle.qd_base.specs.declared.schema.ColType.TheVariants as kind
 use Rattle.qd_base.specs.declared.schema.PartUnit.{PartUnit}
-use Rattle.qd_base.specs.declared.schema.PartUnit.TheVariants as unit
 use Rattle.qd_base.specs.declared.schema.Schema.{Schema}
 use Rattle.qd_base.specs.Names.{is_column_byte, is_table_byte}
 use Rattle.qd_base.specs.Schemas.{same_name, column_at}
 use Rattle.qd_time.specs.Units.{unit_of, start_of}
 use Rattle.qd_manifest.specs.declared.shape.TableParts.{TableParts}
 use Rattle.qd_manifest.specs.declared.shape.TheConstants.{BLOCKS_PER_TRANSACTION}
-use Rattle.qd_manifest.specs.Spelling.{no_part, code_of_kind, code_of_unit}
+use Rattle.qd_manifest.specs.Spelling.{no_part}
 
 -- each number below n passes
 abbrev pub each_below : (ℕ → Bool) → ℕ → Bool
@@ -36,13 +35,6 @@ dot_apart name i = not (slice_index name i == 46) || (nat_lt 0 i && not (slice_i
 -- a table may be called so
 unfoldable pub is_table_name : List ℕ → Bool
 is_table_name name = is_short_text name && (list_all is_table_byte name && (each_below (dot_apart name) (length name) && not (slice_index name (length name - 1) == 46)))
-
--- the type and the unit of a code
-abbrev pub kind_of_code : ℕ → Option ColType
-kind_of_code code = find (λ k. code_of_kind k == code) (kind.Long ∷ kind.Bool ∷ kind.Symbol ∷ kind.Varchar ∷ kind.Time ∷ [])
-
-abbrev pub unit_of_code : ℕ → Option PartUnit
-unit_of_code code = find (λ u. code_of_unit u == code) (unit.Hour ∷ unit.Day ∷ unit.Month ∷ unit.Year ∷ [])
 
 -- the next block of a version of n transactions
 abbrev pub may_be_next : ℕ → ℕ → Bool

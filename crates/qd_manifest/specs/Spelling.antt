@@ -1,23 +1,16 @@
 -- The manifest of a version: which manifests there are, and the bytes of each. This layout is the project's own. Whole
 -- numbers have their lowest byte first, in 8 bytes or in 2.
 --
--- Next block (8), number of tables (2), and the tables. A table: its schema, number of parts (8), and the parts. A schema:
--- name, number of columns (2), the columns, each as type (1) and name, number of the time column (2), unit (1), number of
--- keys (2), and the keys (2 each). A name is its length in one byte and its bytes. A part: block (8), rows (8), columns (2),
--- first time (8), last time (8).
+-- Next block (8), number of tables (2), and the tables. A table: its schema as qd_fields spells it, number of parts (8), and
+-- the parts. A part: block (8), rows (8), columns (2), first time (8), last time (8).
 use Rattle.std.specs.Prelude.{◌≡◌, ℕ, ◌+◌, ◌*◌, ◌^◌, ◌<◌, ◌≤◌, List, ◌∷◌, ◌++◌, length, map, nat_eq, All, slice_index_or}
 use Rattle.std.specs.List.{flat_map, IsDistinct}
-use Rattle.std.specs.Int.{w16, w64, to_le_bytes}
 use Rattle.qd_base.specs.declared.limits.TheConstants.{MAX_TIME}
 use Rattle.qd_base.specs.declared.part.Part.{Part}
-use Rattle.qd_base.specs.declared.schema.Col.{Col}
-use Rattle.qd_base.specs.declared.schema.ColType.{ColType}
-use Rattle.qd_base.specs.declared.schema.ColType.TheVariants as kind
-use Rattle.qd_base.specs.declared.schema.PartUnit.{PartUnit}
-use Rattle.qd_base.specs.declared.schema.PartUnit.TheVariants as unit
 use Rattle.qd_base.specs.declared.schema.Schema.{Schema}
 use Rattle.qd_base.specs.Lawful.{AreSchemas}
 use Rattle.qd_time.specs.Units.{unit_of, start_of}
+use Rattle.qd_fields.specs.Spelling.{u16_bytes, u64_bytes, schema_bytes}
 use Rattle.qd_manifest.specs.declared.shape.TableParts.{TableParts}
 use Rattle.qd_manifest.specs.declared.shape.Manifest.{Manifest}
 use Rattle.qd_manifest.specs.declared.shape.TheConstants.{BLOCKS_PER_TRANSACTION}
@@ -64,43 +57,14 @@ pub record IsManifest (n : ℕ) (m : Manifest) : Type 0 where
 
 -- ---- the bytes
 
-abbrev pub half : ℕ → List ℕ
-half n = to_le_bytes w16 n
-
-abbrev pub word : ℕ → List ℕ
-word n = to_le_bytes w64 n
-
--- a name behind its length
-abbrev pub name_bytes : List ℕ → List ℕ
-name_bytes name = length name ∷ name
-
-abbrev pub code_of_kind : ColType → ℕ
-code_of_kind kind.Long = 1
-code_of_kind kind.Bool = 2
-code_of_kind kind.Symbol = 3
-code_of_kind kind.Varchar = 4
-code_of_kind kind.Time = 5
-
-abbrev pub code_of_unit : PartUnit → ℕ
-code_of_unit unit.Hour = 1
-code_of_unit unit.Day = 2
-code_of_unit unit.Month = 3
-code_of_unit unit.Year = 4
-
-unfoldable pub column_bytes : Col → List ℕ
-column_bytes c = code_of_kind c.kind ∷ name_bytes c.name
-
-unfoldable pub schema_bytes : Schema → List ℕ
-schema_bytes s = name_bytes s.name ++ (half (length s.cols) ++ (flat_map column_bytes s.cols ++ (half s.time_col ++ (code_of_unit s.unit ∷ (half (length s.keys) ++ flat_map half s.keys)))))
-
 unfoldable pub part_bytes : Part → List ℕ
-part_bytes p = word p.block ++ (word p.rows ++ (half p.cols ++ (word p.lo ++ word p.hi)))
+part_bytes p = u64_bytes p.block ++ (u64_bytes p.rows ++ (u16_bytes p.cols ++ (u64_bytes p.lo ++ u64_bytes p.hi)))
 
 unfoldable pub table_bytes : TableParts → List ℕ
-table_bytes t = schema_bytes t.schema ++ (word (length t.parts) ++ flat_map part_bytes t.parts)
+table_bytes t = schema_bytes t.schema ++ (u64_bytes (length t.parts) ++ flat_map part_bytes t.parts)
 
 unfoldable pub manifest_bytes : Manifest → List ℕ
-manifest_bytes m = word m.next_block ++ (half (length m.shape) ++ flat_map table_bytes m.shape)
+manifest_bytes m = u64_bytes m.next_block ++ (u16_bytes (length m.shape) ++ flat_map table_bytes m.shape)
 
 -- Bytes spell the manifest of a version of n transactions.
 pub record SpellsManifest (n : ℕ) (bytes : List ℕ) (m : Manifest) : Type 0 where

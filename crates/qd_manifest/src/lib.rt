@@ -6,7 +6,6 @@
 
 mod checks;
 mod fault;
-mod fields;
 pub mod laws;
 mod names;
 mod parts;

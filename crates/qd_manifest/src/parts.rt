@@ -2,14 +2,14 @@
 ghost use Rattle.std.specs.Prelude.{◌≡◌, [], ◌++◌, IfOk};
 ghost use Rattle.indexmap.specs.IndexSet.{keys};
 ghost use Rattle.qd_manifest.specs.Spelling.{blocks_in};
-ghost use Rattle.qd_manifest.specs.Layout.{items, part_from, part_in, parts_from};
-ghost use Rattle.qd_manifest.specs.Reading.{Gives};
+ghost use Rattle.qd_fields.specs.Layout.{items};
+ghost use Rattle.qd_fields.specs.Reading.{Gives};
+ghost use Rattle.qd_manifest.specs.Layout.{part_from, part_in, parts_from};
 
 use crate::checks::{may_be_block, may_be_width, may_begin, may_end};
-use crate::fault::Stop;
-use crate::fields::{damage, half_at, word_at};
 use indexmap::IndexSet;
 use qd_base::{Part, PartList, Schema};
+use qd_fields::{Stop, damage, u16_at, u64_at};
 use std::alloc::Global;
 
 /// The parts of a table. Their blocks are put to those that tables before it name.
@@ -24,7 +24,7 @@ pub(crate) fn parts_from<'a>(
     ensures read { Gives (λ x. (x.0, x.1.now)) result (parts_from next (keys named.old) schema.now bytes.now) }
     ensures named { IfOk result (λ x. keys named.new ≡ keys named.old ++ blocks_in x.0) }
 {
-    let (count, rest) = word_at(bytes)?;
+    let (count, rest) = u64_at(bytes)?;
     parts(alloc, count, next, named, schema, rest)
 }
 
@@ -62,23 +62,23 @@ fn part_from<'a>(
 ) -> Result<(Part, &'a [u8]), Stop>
     ensures read { Gives (λ x. (x.0, x.1.now)) result (part_from next (keys taken.now) schema.now before.now bytes.now) }
 {
-    let (block, after_block) = word_at(bytes)?;
+    let (block, after_block) = u64_at(bytes)?;
     if !may_be_block(next, taken, block) {
         return Err(damage(bytes));
     }
-    let (rows, after_rows) = word_at(after_block)?;
+    let (rows, after_rows) = u64_at(after_block)?;
     if rows == 0 {
         return Err(damage(after_block));
     }
-    let (cols, after_cols) = half_at(after_rows)?;
+    let (cols, after_cols) = u16_at(after_rows)?;
     if !may_be_width(schema, cols) {
         return Err(damage(after_rows));
     }
-    let (lo, after_lo) = word_at(after_cols)?;
+    let (lo, after_lo) = u64_at(after_cols)?;
     if !may_begin(before, lo) {
         return Err(damage(after_cols));
     }
-    let (hi, rest) = word_at(after_lo)?;
+    let (hi, rest) = u64_at(after_lo)?;
     if !may_end(schema.unit, lo, hi) {
         return Err(damage(after_lo));
     }

@@ -2,17 +2,19 @@
 ghost use Rattle.std.specs.Prelude.{◌≡◌, ℕ, ◌≤◌, [], ◌∷◌, ◌++◌, List, length, IfOk, IfErr};
 ghost use Rattle.indexmap.specs.IndexSet.{keys};
 ghost use Rattle.qd_manifest.specs.Spelling.{blocks_of, SpellsManifest};
-ghost use Rattle.qd_manifest.specs.Layout.{items, table_from, manifest_from};
-ghost use Rattle.qd_manifest.specs.Reading.{Gives, IsFault, IsUnspelled};
+ghost use Rattle.qd_fields.specs.Layout.{items};
+ghost use Rattle.qd_fields.specs.Reading.{Gives};
+ghost use Rattle.qd_manifest.specs.Layout.{table_from, manifest_from};
+ghost use Rattle.qd_manifest.specs.Reading.{IsFault, IsUnspelled};
 
 use crate::checks::may_be_next;
-use crate::fault::{ManifestFault, Stop};
-use crate::fields::{damage, half_at, word_at};
+use crate::fault::ManifestFault;
 use crate::parts::parts_from;
 use crate::schema::schema_from;
 use crate::shape::{Manifest, Shape, TableParts};
 use indexmap::IndexSet;
 use qd_base::MAX_TABLES;
+use qd_fields::{Stop, damage, u16_at, u64_at};
 use std::alloc::Global;
 
 /// Reads the manifest of a version of `n` transactions. It is refused exactly where the bytes spell none: at the first byte
@@ -42,11 +44,11 @@ pub fn read_manifest(alloc: Global, n: u64, bytes: &[u8]) -> Result<Manifest, Ma
 fn manifest_from(alloc: Global, n: u64, bytes: &[u8]) -> Result<Manifest, Stop>
     ensures read { Gives (λ m. m) result (manifest_from n bytes.now) }
 {
-    let (next_block, after_next) = word_at(bytes)?;
+    let (next_block, after_next) = u64_at(bytes)?;
     if !may_be_next(n, next_block) {
         return Err(damage(bytes));
     }
-    let (count, after_count) = half_at(after_next)?;
+    let (count, after_count) = u16_at(after_next)?;
     if MAX_TABLES < count as usize {
         return Err(damage(after_next));
     }

@@ -1,14 +1,14 @@
 //! Schemas read from bytes.
 ghost use Rattle.std.specs.Prelude.{◌≡◌, [], length};
-ghost use Rattle.qd_manifest.specs.Layout.{items, column_from, columns_from, key_from, keys_from, schema_from};
-ghost use Rattle.qd_manifest.specs.Reading.{Gives};
+ghost use Rattle.qd_fields.specs.Layout.{items};
+ghost use Rattle.qd_fields.specs.Reading.{Gives};
+ghost use Rattle.qd_manifest.specs.Layout.{column_from, columns_from, key_from, keys_from, schema_from};
 
 use crate::checks::{is_time, may_be_key};
-use crate::fault::Stop;
-use crate::fields::{damage, half_at, kind_at, name_at, unit_at};
 use crate::names::{may_be_column, may_be_table};
 use crate::shape::Shape;
 use qd_base::{Col, ColList, KeyList, MAX_COLUMNS, Schema, Txt};
+use qd_fields::{Stop, damage, kind_at, name_at, u16_at, unit_at};
 use std::alloc::Global;
 
 /// A schema, by the tables before.
@@ -26,7 +26,7 @@ pub(crate) fn schema_from<'a>(
     }
     let name = Txt::from_bytes(alloc, name)?;
     let (cols, after_cols) = columns_from(alloc, after_name)?;
-    let (time, after_time) = half_at(after_cols)?;
+    let (time, after_time) = u16_at(after_cols)?;
     if !is_time(&cols, time) {
         return Err(damage(after_cols));
     }
@@ -47,7 +47,7 @@ pub(crate) fn schema_from<'a>(
 fn columns_from(alloc: Global, bytes: &[u8]) -> Result<(ColList, &[u8]), Stop>
     ensures read { Gives (λ x. (x.0, x.1.now)) result (columns_from bytes.now) }
 {
-    let (count, rest) = half_at(bytes)?;
+    let (count, rest) = u16_at(bytes)?;
     if MAX_COLUMNS < count as usize {
         return Err(damage(bytes));
     }
@@ -96,7 +96,7 @@ fn keys_from(
 ) -> Result<(KeyList, &[u8]), Stop>
     ensures read { Gives (λ x. (x.0, x.1.now)) result (keys_from columns time bytes.now) }
 {
-    let (count, rest) = half_at(bytes)?;
+    let (count, rest) = u16_at(bytes)?;
     keys(alloc, columns, time, count, rest)
 }
 
@@ -131,7 +131,7 @@ fn key_from<'a>(
 ) -> Result<(u16, &'a [u8]), Stop>
     ensures read { Gives (λ x. (x.0, x.1.now)) result (key_from columns time count before.now bytes.now) }
 {
-    let (key, rest) = half_at(bytes)?;
+    let (key, rest) = u16_at(bytes)?;
     if !may_be_key(columns, time, count, before, key) {
         return Err(damage(bytes));
     }

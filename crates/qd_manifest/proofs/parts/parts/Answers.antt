@@ -2,9 +2,10 @@ use Rattle.std.proofs.Common.{◌≡◌, ◌-◌, [], List, ℕ, Ok, sym, ap, su
 use Rattle.std.proofs.lemmas.Result.{err_from_is_err_and}
 use Rattle.indexmap.specs.IndexSet.{keys}
 use Rattle.qd_base.specs.declared.part.Part.{Part}
-use Rattle.qd_manifest.specs.Layout.{items, part_from, part_in}
-use Rattle.qd_manifest.specs.Reading.{Fails}
-use Rattle.qd_manifest.proofs.Steps.{items_more, items_fail, items_done}
+use Rattle.qd_fields.specs.Layout.{items}
+use Rattle.qd_fields.specs.Reading.{Fails}
+use Rattle.qd_manifest.specs.Layout.{part_from, part_in}
+use Rattle.qd_fields.proofs.Steps.{items_more, items_fail, items_done}
 use Rattle.qd_manifest.proofs.PartLaws.{next_named, part_in_given, part_in_fails}
 use Rattle.qd_manifest.proofs.parts.parts.Goals as goal
 

@@ -1,7 +1,8 @@
 use Rattle.std.proofs.Common.{◌≡◌, ◌-◌, [], ◌++◌}
 use Rattle.indexmap.specs.IndexSet.{keys}
+use Rattle.qd_fields.specs.Layout.{items}
 use Rattle.qd_manifest.specs.Spelling.{blocks_in}
-use Rattle.qd_manifest.specs.Layout.{items, part_in}
+use Rattle.qd_manifest.specs.Layout.{part_in}
 use Rattle.qd_manifest.proofs.parts.parts.Given as goal
 
 -- what is read so far, and then what is left, is all; and the blocks of what is read are named

@@ -1,7 +1,8 @@
 use Rattle.std.proofs.Common.{[]}
 use Rattle.std.proofs.lemmas.Result.{err_from_is_err_and}
-use Rattle.qd_manifest.specs.Layout.{items, table_from}
-use Rattle.qd_manifest.proofs.Steps.{items_more, items_fail, items_done}
+use Rattle.qd_fields.specs.Layout.{items}
+use Rattle.qd_manifest.specs.Layout.{table_from}
+use Rattle.qd_fields.proofs.Steps.{items_more, items_fail, items_done}
 use Rattle.qd_manifest.proofs.read.tables.Goals as goal
 
 pub returns-in_err-table : goal.returns-in_err-table

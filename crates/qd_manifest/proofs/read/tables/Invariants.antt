@@ -1,7 +1,8 @@
 use Rattle.std.proofs.Common.{◌≡◌, ◌-◌, []}
 use Rattle.indexmap.specs.IndexSet.{keys}
+use Rattle.qd_fields.specs.Layout.{items}
 use Rattle.qd_manifest.specs.Spelling.{blocks_of}
-use Rattle.qd_manifest.specs.Layout.{items, table_from}
+use Rattle.qd_manifest.specs.Layout.{table_from}
 use Rattle.qd_manifest.proofs.read.tables.Given as goal
 
 -- what is read so far, and then what is left, is all; and the blocks of what is read are named

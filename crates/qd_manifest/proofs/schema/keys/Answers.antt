@@ -1,8 +1,9 @@
 use Rattle.std.proofs.Common.{◌≡◌, [], List, ℕ, Ok, subst}
 use Rattle.std.proofs.lemmas.Result.{err_from_is_err_and}
-use Rattle.qd_manifest.specs.Layout.{items, key_from}
-use Rattle.qd_manifest.specs.Reading.{Fails}
-use Rattle.qd_manifest.proofs.Steps.{items_more, items_fail, items_done}
+use Rattle.qd_fields.specs.Layout.{items}
+use Rattle.qd_fields.specs.Reading.{Fails}
+use Rattle.qd_manifest.specs.Layout.{key_from}
+use Rattle.qd_fields.proofs.Steps.{items_more, items_fail, items_done}
 use Rattle.qd_manifest.proofs.schema.keys.Goals as goal
 
 pub returns-in_err-key : goal.returns-in_err-key

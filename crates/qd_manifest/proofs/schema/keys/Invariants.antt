@@ -1,5 +1,6 @@
 use Rattle.std.proofs.Common.{◌≡◌, ◌-◌, []}
-use Rattle.qd_manifest.specs.Layout.{items, key_from}
+use Rattle.qd_fields.specs.Layout.{items}
+use Rattle.qd_manifest.specs.Layout.{key_from}
 use Rattle.qd_manifest.proofs.schema.keys.Given as goal
 
 -- what is read so far, and then what is left, is all

@@ -4,3 +4,4 @@ pub mod RunLemmas
 pub mod FilterLemmas
 pub mod IdLemmas
 pub mod LiteralLemmas
+pub mod NumberLemmas

@@ -246,3 +246,15 @@ pub columns_lent : (f : Cell → Cell → Bool) (s : ResultRows) (r : Run) (at o
 columns_lent f s r at other b one two three four five x y there found e whole d low h less i is_x j is_y =
     columns_found f s r at other b x y there found (subst IsWhole e whole) (subst (λ (z : Block). at < length z.kinds) d low) (subst (λ (z : Block). other < length z.kinds) h less)
     (is_x ∙ ap (λ (z : Block). column_in z at) i) (is_y ∙ ap (λ (z : Block). column_in z other) j)
+
+-- the cells themselves
+pub cells_lent : (s : ResultRows) (r : Run) (at : ℕ) (b one two three : Block) (column : CellsOf) → IsRunOf s r → slice_get s.blocks r.block ≡ Some b → one ≡ b → IsWhole one → two ≡ b → at < length two.kinds → three ≡ b → column ≡ column_in three at
+    → slice_range column.cells r.from r.to ≡ map (λ p. cell_at (row_of_place s (p, None)) at) (places_of_run r)
+cells_lent s r at b one two three column there found e whole d low c is_column =
+    let same : b ≡ block_at s.blocks r.block = sym (block_found s.blocks r.block b found) in
+    ap (λ (x : CellsOf). slice_range x.cells r.from r.to) (is_column ∙ ap (λ (x : Block). column_in x at) (c ∙ same))
+    ∙ cells_in_run s r at there (subst IsWhole (e ∙ same) whole) (subst (λ (x : Block). at < length x.kinds) (d ∙ same) low)
+
+-- one value on each row
+pub constant_rows : {X : Type 0} (t : X) (r : Run) (n : ℕ) → n ≡ r.to - r.from → replicate n t ≡ map (λ p. t) (places_of_run r)
+constant_rows t r n e = splat_is_map (places_of_run r) n t (length-map-range_with_len {X = Spot} (λ i. (r.block, i)) r.from (r.to - r.from) ∙ sym e)

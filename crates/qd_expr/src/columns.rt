@@ -132,6 +132,23 @@ pub(crate) fn trues<D: Dictionary>(
     }
 }
 
+/// The numbers from one row up to another, as the column keeps them. It is `None` for a column that isn't LONG.
+pub(crate) fn longs<D: Dictionary>(
+    alloc: Global,
+    column: &Column<D>,
+    from: usize,
+    to: usize,
+) -> Result<Option<Vec<i64>>, Memory>
+    requires ordered { from ≤ to }
+    requires within { to ≤ length column.now.cells }
+    ensures numbers { IfOk result (λ found. IfSome found (λ v. map long_cell v.items ≡ slice_range column.now.cells from to)) }
+{
+    match column.kind() {
+        ColType::Long => Ok(Some(Vec::from_slice(alloc, &column.longs()[from..to])?)),
+        _ => Ok(None),
+    }
+}
+
 /// Whether each cell from one row up to another stands in a comparison with a literal of the column's kind. It is `None`
 /// for kinds that have no loop of their own.
 fn compared_by_kind<D: Dictionary>(
@@ -391,7 +408,7 @@ fn long_at_least(x: i64, y: i64) -> bool
 }
 
 /// Numbers of a LONG column against those of another, at each position.
-fn compared_pairs(
+pub(crate) fn compared_pairs(
     alloc: Global,
     xs: &[i64],
     ys: &[i64],

@@ -4,6 +4,7 @@
 mod cells;
 mod columns;
 mod filters;
+mod numbers;
 mod on_set;
 mod runs;
 #[cfg(test)]

@@ -12,8 +12,9 @@ ghost use Rattle.qd_value.specs.Value as meaning;
 
 use crate::cells::Joined;
 use crate::columns::{
-    among, both, compared, compared_by_row, either, nulls, opposite, trues, within,
+    among, both, compared, compared_by_row, compared_pairs, either, nulls, opposite, trues, within,
 };
+use crate::numbers::numbers;
 use crate::on_set::test_at;
 use qd_base::{Cell, Dictionary, Memory};
 use qd_rows::{RowSet, Run};
@@ -24,9 +25,9 @@ use std::alloc::Global;
 ///
 /// AND, OR and NOT go over lists of truths, a byte a row. A comparison of a column with a literal on either side, a column
 /// IN literals or an interval, IS NULL of a column and a BOOLEAN column alone go over what the column is kept as; a SYMBOL
-/// column is compared by the id of the text, which is looked up once. So do two LONG columns. Any other test is done row by
-/// row, in the time of `test`. It takes a byte of memory a row for each level of the test's depth, and calls itself once
-/// for each.
+/// column is compared by the id of the text, which is looked up once. So do two LONG columns, and expressions of LONG
+/// columns, numbers and operators. Any other test is done row by row, in the time of `test`. It takes a byte of memory a row
+/// for each level of the test's depth, and eight for each of such an expression, and calls itself once for each.
 #[cycle(truths)]
 pub fn truths<D: Dictionary>(
     alloc: Global,
@@ -96,7 +97,7 @@ fn has_tests(test: &Bound) -> bool {
 }
 
 /// Whether a truth is true and the row of a run passes a test without further tests in it, for each row. Where the test
-/// is done row by row, it is left out at rows whose truth is false.
+/// is done row by row, it is left out at rows whose truth is false; so is one with operators, where few truths are true.
 fn also<D: Dictionary>(
     alloc: Global,
     found: &[bool],
@@ -108,10 +109,31 @@ fn also<D: Dictionary>(
     requires size { length found.now ≡ run.to - run.from }
     ensures truths { IfOk result (λ v. v.items ≡ map (λ p. p.0 && p.1) (zip found.now (passes_in_run test.now rows.now run))) }
 {
+    if is_dear(test) && are_few(found) {
+        return also_by_row(alloc, found, test, rows, run);
+    }
     match by_column(alloc, test, rows, run)? {
         Some(more) => both(alloc, found, more.as_slice()),
         None => also_by_row(alloc, found, test, rows, run),
     }
+}
+
+/// Whether a test is a comparison with operators in it.
+fn is_dear(test: &Bound) -> bool {
+    match test {
+        Bound::Compare(_, x, y) => has_operators(x.get()) || has_operators(y.get()),
+        _ => false,
+    }
+}
+
+/// Whether an expression begins with operators.
+fn has_operators(expr: &Bound) -> bool {
+    matches!(expr, Bound::Negated(_) | Bound::Chain(_, _))
+}
+
+/// Whether less than one of sixteen truths is true.
+fn are_few(truths: &[bool]) -> bool {
+    truths.iter().filter(|truth| **truth).count() < truths.len() / 16
 }
 
 /// Tests the rows of a run whose truth is true.
@@ -211,13 +233,37 @@ fn comparison<D: Dictionary>(
         Bound::Column(at) => match y {
             Bound::Literal(cell) => column_compared(alloc, rows, run, *at, op, Scalar::of(cell)),
             Bound::Column(other) => columns_compared(alloc, rows, run, *at, *other, op),
-            _ => Ok(None),
+            _ => numbers_compared(alloc, op, x, y, rows, run),
         },
         Bound::Literal(cell) => match y {
             Bound::Column(at) => literal_compared(alloc, rows, run, Scalar::of(cell), op, *at),
-            _ => Ok(None),
+            _ => numbers_compared(alloc, op, x, y, rows, run),
         },
-        _ => Ok(None),
+        _ => numbers_compared(alloc, op, x, y, rows, run),
+    }
+}
+
+/// A comparison of two expressions of numbers; `None` where one isn't of LONG columns, numbers and operators alone.
+fn numbers_compared<D: Dictionary>(
+    alloc: Global,
+    op: Comparison,
+    x: &Bound,
+    y: &Bound,
+    rows: &RowSet<D>,
+    run: Run,
+) -> Result<Option<Vec<bool>>, Memory>
+    requires { IsRunOf rows.now run }
+    ensures truths { IfOk result (λ found. IfSome found (λ v. v.items ≡ map (λ p. spec.compares op (meaning.value x.now (row_of_place rows.now (p, None))) (meaning.value y.now (row_of_place rows.now (p, None)))) (places_of_run run))) }
+{
+    match numbers(alloc, x, rows, run)? {
+        Some(left) => match numbers(alloc, y, rows, run)? {
+            Some(right) => {
+                let found = compared_pairs(alloc, left.as_slice(), right.as_slice(), op)?;
+                Ok(Some(found))
+            }
+            None => Ok(None),
+        },
+        None => Ok(None),
     }
 }
 

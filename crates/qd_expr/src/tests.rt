@@ -314,20 +314,110 @@ fn null_is_found(rt: HostRuntime) -> Result<(), Fail> {
     Ok(())
 }
 
-/// The rest of the number by 5 is 2.
-fn rest_is_two(alloc: Global) -> Result<Bound, Memory> {
+/// An operator between two expressions, in a comparison with a third.
+fn operated(
+    alloc: Global,
+    left: Bound,
+    op: Arithmetic,
+    right: Bound,
+    than: Comparison,
+    other: Bound,
+) -> Result<Bound, Memory> {
+    let mut steps = Items::new(alloc);
+    steps.push(Operand { op, right })?;
+    let made = Bound::Chain(Boxed::new(alloc, left)?, steps);
+    Ok(Bound::Compare(than, Boxed::new(alloc, made)?, Boxed::new(alloc, other)?))
+}
+
+/// Compares the rows at which an operator between two expressions gives what stands so to a number.
+fn operates(
+    rt: &(impl Abort + AllocGlobal),
+    left: Bound,
+    op: Arithmetic,
+    right: Bound,
+    than: Comparison,
+    number: i64,
+    wanted: &[u64],
+) -> Result<(), Fail> {
+    let other = Bound::Literal(Cell::Long(number));
+    let expr = operated(rt.alloc(), left, op, right, than, other)?;
+    pass(rt, expr, wanted)
+}
+
+/// A column's numbers times one that puts all but 0 out of range.
+fn far(alloc: Global, at: usize) -> Result<Bound, Memory> {
     let mut steps = Items::new(alloc);
     steps.push(Operand {
-        op: Arithmetic::Remainder,
-        right: Bound::Literal(Cell::Long(5)),
+        op: Arithmetic::Times,
+        right: Bound::Literal(Cell::Long(i64::MAX)),
     })?;
-    let rest = Bound::Chain(Boxed::new(alloc, Bound::Column(0))?, steps);
-    let two = Boxed::new(alloc, Bound::Literal(Cell::Long(2)))?;
-    Ok(Bound::Compare(Equal, Boxed::new(alloc, rest)?, two))
+    Ok(Bound::Chain(Boxed::new(alloc, Bound::Column(at))?, steps))
 }
 
 #[test]
-fn a_test_row_by_row_is_joined(rt: HostRuntime) -> Result<(), Fail> {
+fn operators_go_over_columns(rt: HostRuntime) -> Result<(), Fail> {
+    use Arithmetic::{Divide, Minus, Plus, Remainder};
+    let five = Bound::Literal(Cell::Long(5));
+    let one = Bound::Column(0);
+    operates(&rt, one, Remainder, five, Equal, 2, &[1, 4])?;
+    operates(
+        &rt,
+        Bound::Column(0),
+        Minus,
+        Bound::Column(3),
+        Equal,
+        0,
+        &[1],
+    )?;
+    operates(
+        &rt,
+        Bound::Column(0),
+        Divide,
+        Bound::Column(3),
+        Greater,
+        0,
+        &[1, 5],
+    )?;
+    operates(&rt, Bound::Column(0), Plus, Bound::Column(0), Less, 0, &[3])?;
+    operates(
+        &rt,
+        Bound::Column(0),
+        Plus,
+        Bound::Column(1),
+        Greater,
+        0,
+        &[],
+    )?;
+    Ok(())
+}
+
+#[test]
+fn results_out_of_range_are_null(rt: HostRuntime) -> Result<(), Fail> {
+    let alloc = rt.alloc();
+    let left = Boxed::new(alloc, far(alloc, 0)?)?;
+    let right = Boxed::new(alloc, far(alloc, 3)?)?;
+    pass(&rt, Bound::Compare(Equal, left, right), &[1, 2, 4, 5])?;
+    let turned = Boxed::new(alloc, Bound::Negated(Boxed::new(alloc, Bound::Column(0))?))?;
+    let zero = Boxed::new(alloc, Bound::Literal(Cell::Long(0)))?;
+    pass(&rt, Bound::Compare(Greater, turned, zero), &[3])
+}
+
+/// The rest of the number by 5 is 2.
+fn rest_is_two(alloc: Global) -> Result<Bound, Memory> {
+    let five = Bound::Literal(Cell::Long(5));
+    let two = Bound::Literal(Cell::Long(2));
+    operated(
+        alloc,
+        Bound::Column(0),
+        Arithmetic::Remainder,
+        five,
+        Equal,
+        two,
+    )
+}
+
+#[test]
+fn a_test_with_operators_is_joined(rt: HostRuntime) -> Result<(), Fail> {
     let letter = compare(rt.alloc(), 2, Equal, Scalar::Text(b"b"))?;
     let both = two(rt.alloc(), letter, rest_is_two(rt.alloc())?)?;
     pass(&rt, Bound::All(both), &[4])

@@ -1,6 +1,5 @@
 -- Cells and rows: what is read is spelled so, and what is spelled is read.
-use Rattle.std.proofs.Common.{◌≡◌, ℕ, ◌+◌, ◌^◌, ◌<◌, ◌≤◌, max, Bool, true, false, eqb, ltb, leb, List, [], ◌∷◌, ◌++◌, length, take, get_or, All, Ok, Some, ℤ, FitsSigned, refl, sym, ap, subst, ◌∙◌, append-nil, arith}
-use Rattle.std.specs.List.{flat_map}
+use Rattle.std.proofs.Common.{◌≡◌, ℕ, ◌+◌, ◌^◌, ◌<◌, ◌≤◌, max, true, false, eqb, ltb, leb, List, [], ◌∷◌, ◌++◌, length, get_or, Ok, Some, ℤ, FitsSigned, refl, sym, ap, subst, ◌∙◌, append-nil, arith}
 use Rattle.std.specs.Int.{w32, w64, cast_signed, cast_unsigned}
 use Rattle.std.proofs.lemmas.Bool.{and_parts, and_from, eqb-true, leb-true, ltb-true, le-leb, lt-ltb}
 use Rattle.std.proofs.lemmas.Int.{of_z-to_z}
@@ -8,17 +7,16 @@ use Rattle.std.proofs.Math.Facts.{to_z-of_z, sfits_to_z, Fits-of_z, Fits-of_lt, 
 use Rattle.qd_base.specs.declared.cell.Cell.{Cell}
 use Rattle.qd_base.specs.declared.cell.Cell.TheVariants as cell
 use Rattle.qd_base.specs.Dictionary.{id_for, with_text}
-use Rattle.qd_base.specs.Rows.{Row}
 use Rattle.qd_fields.specs.Spelling.{u32_bytes, u64_bytes}
-use Rattle.qd_fields.specs.Layout.{◌>>=◌, kept, coded, items, each, byte_at, number_at}
-use Rattle.qd_fields.proofs.Steps.{AreBytes, bind_ok, bind_again, ok_is, kept_ok, kept_again, coded_ok, coded_again, Takes, wide32, wide64, number_takes, number_again, byte_takes, find_passes}
+use Rattle.qd_fields.specs.Layout.{kept, coded, items, each, byte_at, number_at}
+use Rattle.qd_fields.proofs.Steps.{bind_ok, bind_again, ok_is, kept_ok, kept_again, coded_ok, coded_again, wide32, wide64, number_takes, number_again, byte_takes, find_passes}
 use Rattle.qd_entry.specs.declared.pieces.CellTag.{CellTag}
 use Rattle.qd_entry.specs.declared.pieces.CellTag.TheVariants as tag
 use Rattle.qd_entry.specs.declared.pieces.EntryCell.{EntryCell}
 use Rattle.qd_entry.specs.declared.pieces.EntryCell.TheVariants as stored
 use Rattle.qd_entry.specs.Spelling.{text_of, texts_of_row, with_texts, cell_bytes, row_bytes, FitsCell, FitsRow}
 use Rattle.qd_entry.specs.Cursor.{Cursor, moved}
-use Rattle.qd_entry.specs.Layout.{ReadOn, code_of_cell, cell_of_code, may_be_id, used_at, cell_behind, stored_at, cell_of, cell_at, row_at, rows_at}
+use Rattle.qd_entry.specs.Layout.{ReadOn, code_of_cell, cell_of_code, may_be_id, used_at, cell_behind, stored_at, cell_of, cell_at, row_at}
 use Rattle.qd_entry.proofs.DictionaryLemmas.{Texts, texts_more, texts_then, Joins, joins, id_of_place, next_used}
 use Rattle.qd_entry.proofs.Places.{IsPlace, Moves, place_after, moves_none, moves_past, moves_then, GivesSpelled, items_spelled, standing, TakesSpelled, items_taken}
 

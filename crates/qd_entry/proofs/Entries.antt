@@ -1,5 +1,5 @@
 -- Entries: what is read is spelled so, what is spelled is read, and nothing else follows from that.
-use Rattle.std.proofs.Common.{◌≡◌, ℕ, ◌+◌, ◌-◌, ◌^◌, ◌<◌, ◌≤◌, Bool, true, false, cond, eqb, ltb, zero, suc, inl, inr, List, [], ◌∷◌, ◌++◌, length, take, get_or, All, Result, Ok, Err, Option, Some, None, is_none, refl, sym, ap, subst, ◌∙◌, append_assoc, append-nil, arith}
+use Rattle.std.proofs.Common.{◌≡◌, ℕ, ◌-◌, ◌^◌, ◌<◌, ◌≤◌, Bool, true, false, cond, eqb, ltb, zero, suc, inl, inr, List, [], ◌∷◌, ◌++◌, length, take, get_or, All, Result, Ok, Err, Option, Some, None, is_none, refl, sym, ap, subst, ◌∙◌, append_assoc, append-nil, arith}
 use Rattle.std.specs.List.{flat_map}
 use Rattle.std.specs.Int.{w32}
 use Rattle.std.proofs.lemmas.Bool.{ltb-false, le-ltb, eqb-true, cases_lt}
@@ -14,8 +14,8 @@ use Rattle.qd_base.specs.declared.op.Op.TheVariants as op
 use Rattle.qd_base.specs.Dictionary.{id_in, id_for, with_text, AreDistinct}
 use Rattle.qd_base.proofs.Texts.{none_distinct, id_not_there, with_text-new, distinct-with_text}
 use Rattle.qd_fields.specs.Spelling.{u32_bytes, text_bytes}
-use Rattle.qd_fields.specs.Layout.{◌>>=◌, kept, items, each, number_at, text_at}
-use Rattle.qd_fields.proofs.Steps.{AreBytes, bind_ok, bind_again, ok_is, test_ok, kept_ok, kept_again, Takes, Takes-then, wide32, number_takes, number_again, text_takes, text_again, items_take, items_again, All-amid}
+use Rattle.qd_fields.specs.Layout.{◌>>=◌, items, each, number_at, text_at}
+use Rattle.qd_fields.proofs.Steps.{AreBytes, bind_ok, bind_again, ok_is, test_ok, kept_ok, kept_again, Takes, wide32, number_takes, number_again, text_takes, text_again, items_take, items_again, All-amid}
 use Rattle.qd_entry.specs.Spelling.{text_of, texts_of_row, texts_of_op, with_texts, dictionary_of, width_of, op_bytes, entry_bytes, FitsCell, FitsRow, FitsOp, IsEntry, SpellsEntry}
 use Rattle.qd_entry.specs.Writing.{AreShort}
 use Rattle.qd_entry.specs.Cursor.{Cursor}

@@ -4,3 +4,4 @@ pub mod Cells
 pub mod Ops
 pub mod Entries
 pub mod DraftLemmas
+mod WriterLemmas

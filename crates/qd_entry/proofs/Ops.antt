@@ -1,5 +1,5 @@
 -- Changes: what is read is spelled so, and what is spelled is read.
-use Rattle.std.proofs.Common.{◌≡◌, ℕ, ◌+◌, ◌^◌, ◌<◌, ◌≤◌, Bool, true, false, cond, eqb, ltb, List, [], ◌∷◌, ◌++◌, length, get_or, All, Ok, Some, inl, inr, refl, sym, ap, subst, ◌∙◌, append_assoc, append-nil, arith}
+use Rattle.std.proofs.Common.{◌≡◌, ℕ, ◌^◌, ◌<◌, Bool, true, cond, eqb, ltb, List, [], ◌∷◌, ◌++◌, length, All, Ok, Some, inl, inr, refl, sym, ap, subst, ◌∙◌, append_assoc, append-nil, arith}
 use Rattle.std.specs.List.{flat_map}
 use Rattle.std.specs.Int.{w16, w32}
 use Rattle.std.proofs.lemmas.Bool.{eqb-true, eq-eqb, ltb-true, lt-ltb}
@@ -9,9 +9,9 @@ use Rattle.qd_base.specs.declared.op.Op.TheVariants as op
 use Rattle.qd_base.specs.declared.schema.Col.{Col}
 use Rattle.qd_base.specs.declared.schema.Schema.{Schema}
 use Rattle.qd_base.specs.Rows.{Row}
-use Rattle.qd_fields.specs.Spelling.{u16_bytes, u32_bytes, name_bytes, column_bytes, schema_bytes, FitsName, FitsColumn, FitsSchema}
-use Rattle.qd_fields.specs.Layout.{◌>>=◌, kept, coded, items, each, byte_at, number_at, name_at, column_at, schema_at}
-use Rattle.qd_fields.proofs.Steps.{AreBytes, bind_ok, bind_again, ok_is, kept_ok, kept_again, coded_ok, coded_again, Takes, Takes-then, wide16, wide32, number_takes, number_again, byte_takes, name_takes, name_again, find_passes}
+use Rattle.qd_fields.specs.Spelling.{u16_bytes, u32_bytes, name_bytes, column_bytes, schema_bytes, FitsSchema}
+use Rattle.qd_fields.specs.Layout.{◌>>=◌, kept, coded, each, byte_at, number_at, name_at, column_at, schema_at}
+use Rattle.qd_fields.proofs.Steps.{bind_ok, bind_again, ok_is, kept_ok, kept_again, coded_ok, coded_again, Takes-then, wide16, wide32, number_takes, number_again, byte_takes, name_takes, name_again, find_passes}
 use Rattle.qd_fields.proofs.SchemaLaws.{column_takes, column_again, schema_takes, schema_again}
 use Rattle.qd_entry.specs.declared.pieces.OpTag.{OpTag}
 use Rattle.qd_entry.specs.declared.pieces.OpTag.TheVariants as kind

@@ -1,5 +1,5 @@
 //! An entry that is written.
-ghost use Rattle.std.specs.Prelude.{◌≡◌, ◌^◌, ◌<◌, ◌≤◌, [], ◌∷◌, ◌++◌, length, All, IfOk, OnOk};
+ghost use Rattle.std.specs.Prelude.{◌≡◌, ◌+◌, ◌^◌, ◌<◌, ◌≤◌, ◌↔◌, [], ◌∷◌, ◌++◌, length, All, IfOk, IsTrue, OnErr, OnOk};
 ghost use Rattle.std.specs.List.{flat_map};
 ghost use Rattle.std.specs.Int.{w64, cast_unsigned};
 ghost use Rattle.qd_base.specs.declared.limits.TheConstants.{MAX_TEXT_BYTES};
@@ -62,11 +62,37 @@ impl EntryDraft {
         requires few { length self.texts < 2 ^ 32 }
         ensures bytes { IfOk result (λ bytes. bytes ≡ u32_bytes (length self.texts) ++ (flat_map text_bytes self.texts ++ (u32_bytes count ++ self.body))) }
     {
+        self.spelled(count, self.body.as_slice())
+    }
+
+    /// The bytes of an entry with these texts, of so many changes.
+    pub(crate) fn spelled(&self, count: u32, changes: &[u8]) -> Result<Txt, Memory>
+        requires few { length self.now.texts < 2 ^ 32 }
+        ensures bytes { IfOk result (λ bytes. bytes ≡ u32_bytes (length self.now.texts) ++ (flat_map text_bytes self.now.texts ++ (u32_bytes count ++ changes.now))) }
+    {
         let mut bytes = Vec::new(*self.body.allocator());
         push_texts(&mut bytes, &self.texts)?;
         push_u32(&mut bytes, count)?;
-        bytes.extend_from_slice(self.body.as_slice())?;
+        bytes.extend_from_slice(changes)?;
         Ok(Txt::from_vec(bytes))
+    }
+
+    /// Whether one more text fits their number.
+    pub(crate) fn has_room(&self) -> bool
+        ensures room { IsTrue result ↔ (length self.now.texts + 1 < 2 ^ 32) }
+    {
+        self.texts.len() < u32::MAX as u64
+    }
+
+    /// Moves the bytes of the changes behind others.
+    pub(crate) fn give_body(&mut self, bytes: &mut Vec<u8>) -> Result<(), Memory>
+        ensures given { OnOk result (bytes.new.items ≡ bytes.old.items ++ self.old.body) }
+        ensures texts { self.new.texts ≡ self.old.texts }
+        ensures body { OnOk result (self.new.body ≡ []) }
+    {
+        bytes.extend_from_slice(self.body.as_slice())?;
+        self.body.clear();
+        Ok(())
     }
 
     /// Adds a change.
@@ -167,29 +193,48 @@ impl EntryDraft {
         }
     }
 
+    /// Adds a number.
+    pub(crate) fn push_signed(&mut self, number: i64) -> Result<(), Memory>
+        ensures added { OnOk result (Adds text_of cell_bytes self.old self.new (cell.Long number)) }
+        ensures same { self.new.texts ≡ self.old.texts }
+    {
+        self.push_number(1, number.cast_unsigned())
+    }
+
+    /// Adds a truth value.
+    pub(crate) fn push_truth(&mut self, truth: bool) -> Result<(), Memory>
+        ensures added { OnOk result (Adds text_of cell_bytes self.old self.new (cell.Bool truth)) }
+        ensures same { self.new.texts ≡ self.old.texts }
+    {
+        self.push_code(if truth { 3 } else { 2 })
+    }
+
     /// Adds a cell that is a code alone.
-    fn push_code(&mut self, code: u8) -> Result<(), Memory>
+    pub(crate) fn push_code(&mut self, code: u8) -> Result<(), Memory>
         ensures texts { OnOk result (self.new.texts ≡ self.old.texts) }
         ensures body { OnOk result (self.new.body ≡ self.old.body ++ code ∷ []) }
+        ensures same { self.new.texts ≡ self.old.texts }
     {
         self.body.push(code)?;
         Ok(())
     }
 
     /// Adds a cell that is a code and a number.
-    fn push_number(&mut self, code: u8, number: u64) -> Result<(), Memory>
+    pub(crate) fn push_number(&mut self, code: u8, number: u64) -> Result<(), Memory>
         ensures texts { OnOk result (self.new.texts ≡ self.old.texts) }
         ensures body { OnOk result (self.new.body ≡ self.old.body ++ (code ∷ u64_bytes number)) }
+        ensures same { self.new.texts ≡ self.old.texts }
     {
         self.body.push(code)?;
         push_u64(&mut self.body, number)
     }
 
     /// Adds a cell with a text.
-    fn push_text(&mut self, text: &[u8]) -> Result<(), Memory>
+    pub(crate) fn push_text(&mut self, text: &[u8]) -> Result<(), Memory>
         requires short { length text.now ≤ MAX_TEXT_BYTES }
         requires few { length (with_texts self.old.texts (text.now ∷ [])) < 2 ^ 32 }
         ensures added { OnOk result (Adds text_of cell_bytes self.old self.new (cell.Text text.now)) }
+        ensures few { length self.new.texts < 2 ^ 32 }
     {
         let id = self.intern(text)?;
         self.push_id(id as u32)
@@ -199,6 +244,7 @@ impl EntryDraft {
     fn push_id(&mut self, id: u32) -> Result<(), Memory>
         ensures texts { OnOk result (self.new.texts ≡ self.old.texts) }
         ensures body { OnOk result (self.new.body ≡ self.old.body ++ (4 ∷ u32_bytes id)) }
+        ensures same { self.new.texts ≡ self.old.texts }
     {
         self.body.push(4)?;
         push_u32(&mut self.body, id)
@@ -210,6 +256,7 @@ impl EntryDraft {
         ensures id { IfOk result (λ id. id ≡ id_for self.old.texts text.now) }
         ensures texts { OnOk result (self.new.texts ≡ with_text self.old.texts text.now) }
         ensures body { self.new.body ≡ self.old.body }
+        ensures err { OnErr result (self.new.texts ≡ self.old.texts) }
     {
         self.texts.intern(text)
     }

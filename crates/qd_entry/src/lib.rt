@@ -16,9 +16,11 @@ mod reader;
 #[cfg(test)]
 mod tests;
 mod texts;
+mod writer;
 
 pub use encode::encode_entry;
 pub use fault::EntryFault;
 pub use pieces::{EntryCell, OpHead};
 pub use read::decode_entry;
 pub use reader::EntryReader;
+pub use writer::EntryWriter;

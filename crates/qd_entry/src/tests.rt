@@ -1,8 +1,12 @@
 //! Tests of what no clause says: bytes of entries that were written by hand, damage where it was looked for by hand and where
-//! a plain reader finds it, and entries of random cells.
+//! a plain reader finds it, entries of random cells, and an entry that is written call by call.
+ghost use Rattle.std.specs.Prelude.{◌≡◌, true, false, All, OnOk};
+ghost use Rattle.qd_entry.specs.Spelling.{FitsCell, FitsOp, FitsRow, FitsRows, width_of};
+ghost use Rattle.qd_fields.specs.Spelling.{FitsName};
+
 use super::*;
 use crate::plain::damage;
-use qd_base::{Cell, Memory, Op};
+use qd_base::{Cell, Memory, Op, Row, Txt};
 use qd_fields::{push_u16, push_u32, push_u64};
 use std::alloc::Global;
 use std::test::Fail;
@@ -199,5 +203,112 @@ fn random_entries_are_read(rt: HostRuntime) -> Result<(), Fail> {
         assert!(rt; decode_entry(rt.alloc(), &bytes).is_ok());
         assert!(rt; agrees(rt.alloc(), &bytes)?);
     }
+    Ok(())
+}
+
+/// Adds a cell.
+fn write_cell(writer: &mut EntryWriter, cell: &Cell) -> Result<(), Fail>
+    requires begun { writer.old.is_open ≡ true }
+    requires fits { FitsCell cell.now }
+    ensures begun { OnOk result (writer.new.is_open ≡ true) }
+{
+    if !writer.has_room() {
+        return Err("there is room".into());
+    }
+    match cell {
+        Cell::Null => writer.push_null()?,
+        Cell::Long(number) => writer.push_long(*number)?,
+        Cell::Bool(truth) => writer.push_bool(*truth)?,
+        Cell::Text(text) => writer.push_text(text.bytes())?,
+        Cell::Time(time) => writer.push_time(*time)?,
+    }
+    Ok(())
+}
+
+/// Adds a row.
+fn write_row(writer: &mut EntryWriter, row: &[Cell]) -> Result<(), Fail>
+    requires begun { writer.old.is_open ≡ true }
+    requires fit { All FitsCell row.now }
+    ensures begun { OnOk result (writer.new.is_open ≡ true) }
+    ensures none { OnOk result (writer.new.cells ≡ 0) }
+{
+    for cell in row {
+        write_cell(writer, cell)?;
+    }
+    if !writer.has_room() || !writer.ends_row() {
+        return Err("a row ends".into());
+    }
+    writer.end_row();
+    Ok(())
+}
+
+/// Adds rows.
+fn write_rows(writer: &mut EntryWriter, rows: &[Row]) -> Result<(), Fail>
+    requires begun { writer.old.is_open ≡ true }
+    requires none { writer.old.cells ≡ 0 }
+    requires fit { All (FitsRow (width_of rows.now)) rows.now }
+    ensures begun { OnOk result (writer.new.is_open ≡ true) }
+    ensures none { OnOk result (writer.new.cells ≡ 0) }
+{
+    for row in rows {
+        write_row(writer, row.as_slice())?;
+    }
+    Ok(())
+}
+
+/// Adds an insertion.
+fn write_insert(writer: &mut EntryWriter, table: &[u8], rows: &[Row]) -> Result<(), Fail>
+    requires closed { writer.old.is_open ≡ false }
+    requires none { writer.old.cells ≡ 0 }
+    requires table { FitsName table.now }
+    requires fit { FitsRows (width_of rows.now) rows.now }
+    ensures closed { OnOk result (writer.new.is_open ≡ false) }
+    ensures none { OnOk result (writer.new.cells ≡ 0) }
+{
+    writer.begin_insert(table)?;
+    write_rows(writer, rows)?;
+    if !writer.has_room() {
+        return Err("there is room".into());
+    }
+    writer.end_insert()?;
+    Ok(())
+}
+
+/// Adds a change.
+fn write_op(writer: &mut EntryWriter, op: &Op) -> Result<(), Fail>
+    requires closed { writer.old.is_open ≡ false }
+    requires none { writer.old.cells ≡ 0 }
+    requires fits { FitsOp op.now }
+    ensures closed { OnOk result (writer.new.is_open ≡ false) }
+    ensures none { OnOk result (writer.new.cells ≡ 0) }
+{
+    if !writer.has_room() {
+        return Err("there is room".into());
+    }
+    match op {
+        Op::Create { schema } => writer.create(schema)?,
+        Op::AddColumn { table, col } => writer.add_column(table.bytes(), col)?,
+        Op::Insert { table, rows } => write_insert(writer, table.bytes(), rows.as_slice())?,
+    }
+    Ok(())
+}
+
+/// Writes changes call by call.
+fn written(alloc: Global, ops: &[Op]) -> Result<Txt, Fail>
+    requires fit { All FitsOp ops.now }
+{
+    let mut writer = EntryWriter::new(alloc)?;
+    for op in ops {
+        write_op(&mut writer, op)?;
+    }
+    Ok(writer.finish()?)
+}
+
+#[test]
+fn an_entry_is_written(rt: HostRuntime) -> Result<(), Fail> {
+    let bytes = pieces(rt.alloc())?;
+    let entry = decode_entry(rt.alloc(), &bytes).ok().ok_or("an entry")?;
+    let text = written(rt.alloc(), entry.ops.as_slice())?;
+    assert_eq!(rt; text.bytes(), bytes.as_slice());
     Ok(())
 }

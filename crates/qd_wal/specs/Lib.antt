@@ -1,0 +1,4 @@
+pub mod Segments
+pub mod Puts
+pub mod Reading
+pub mod Laws

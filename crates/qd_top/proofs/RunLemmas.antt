@@ -1,9 +1,8 @@
 -- From what a session over frames says of itself to what a run says.
-use Rattle.std.proofs.Common.{◌≡◌, ℕ, ◌+◌, ◌<◌, ◌≤◌, ◌⊎◌, inl, inr, List, [], ◌∷◌, ◌++◌, length, take, drop, get_or, codes, Bool, IsTrue, if◌then◌else◌, nat_eq, Option, Some, None, Ok, Err, refl, sym, ◌∙◌, ap, subst, arith, zero, suc, ◌-◌}
+use Rattle.std.proofs.Common.{◌≡◌, ℕ, ◌+◌, ◌<◌, ◌≤◌, ◌⊎◌, ◌↔◌, inl, inr, List, [], ◌∷◌, ◌++◌, length, map, take, drop, if◌then◌else◌, nat_eq, Option, Some, None, Ok, Err, refl, sym, ◌∙◌, ap, subst, arith, zero, suc, ◌-◌}
 use Rattle.std.specs.List.{range_with_len}
 use Rattle.std.proofs.lemmas.List.{append-nil, append_assoc, length-append, take-append-drop, take_all}
 use Rattle.std.proofs.Math.Seq.{take-append-add}
-use Rattle.std.specs.Cmp.Lexicographic.{bytes_decides, pointwise}
 use Rattle.qd_io.specs.Clocks.{Supply, Timeline, Times, after_clock}
 use Rattle.qd_io.specs.Ends.{HasRisen, Stream, WritesAll, counts_together}
 use Rattle.qd_io.specs.declared.fault.IoFault.{IoFault}
@@ -13,25 +12,33 @@ use Rattle.qd_base.specs.declared.request.Request.{Request}
 use Rattle.qd_base.specs.declared.request.Request.TheVariants as request
 use Rattle.qd_base.specs.declared.request.Reply.{Reply}
 use Rattle.qd_base.specs.declared.request.Reply.TheVariants as reply
-use Rattle.qd_base.specs.Script.{Protocol, Turn, Asks, Ending, Waiting, Ended, Malformed}
+use Rattle.qd_base.specs.Script.{Protocol, Script, Turn, Asks as AsksTurn, Ending, Waiting, Ended, Malformed}
 use Rattle.qd_session.specs.declared.ended.Ended.{Ended as EndedBy}
 use Rattle.qd_session.specs.declared.ended.Ended.TheVariants as ended
-use Rattle.qd_frames.specs.Frames.{Frames, Steps, asked, frame, frames_protocol}
+use Rattle.qd_frames.specs.Frames.{Frames, Steps, frame, frames_protocol}
+use Rattle.qd_gen.specs.Framed.{IsReadAsAsked}
+use Rattle.qd_gen.specs.Generated.{requests, input as generated}
 use Rattle.qd_print.specs.Printed.{reply_bytes}
+use Rattle.qd_quiet.specs.Quieted.{quiet_ending, quiet_protocol, quiet_turn, without_done}
+use Rattle.qd_words.specs.Words.{Asks}
+use Rattle.qd_words.specs.declared.command.Command.{Command}
+use Rattle.qd_words.specs.declared.command.Command.TheVariants as command
+use Rattle.qd_words.specs.declared.command.TheConstants.{MAX_GEN_LINES}
 use Rattle.qd_session.specs.Allowed.{Allowed}
 use Rattle.qd_list.specs.Listed.{AllowedAlone, Listed, listed_shown}
 use Rattle.qd_session.specs.Looks.{Look}
 use Rattle.qd_session.specs.Legal.{Legal, LegalRun, done_numbers}
-use Rattle.qd_session.specs.Session.{Dialogue, Faults, IsBad, IsCutShort, Moment, Moves, PutTo, Serves, TakenFrom, moment, refusal, requests_in, transcript}
-use Rattle.qd_top.specs.Run.{AnswersLast, AppliesAll, ByHost, CountsReads, CountsWrites, CutRun, FinishedRun, IsRun, IsWellFramed, Ran, RefusedRun, Replied, Run, StoppedRun, Store, WroteUsage, fresh, look_of, no_store, printed, reached, usage}
+use Rattle.qd_session.specs.Session.{Dialogue, Faults, IsBad, IsClean, IsCutShort, IsWaiting, Moment, Moves, PutTo, Serves, TakenFrom, moment, refusal, requests_in, transcript, with_turns}
+use Rattle.qd_top.specs.Frames.{EndsAs, SaysFrames, SpellsFrames, asked_by}
+use Rattle.qd_top.specs.Run.{Answered, AnswersLast, AppliesAll, ByHost, CountsReads, CountsWrites, CutRun, Did, EndsWith, FinishedRun, IsServedWell, IsWellFramed, OverGenerated, Ran, RefusedRun, Replied, Run, RunKind, Served, ServedBy, StoppedRun, Store, WroteUsage, fresh, look_of, no_store, printed, prints, reached, usage}
 use Rattle.qd_top.specs.Status.{number_of, status_of}
 use Rattle.qd_top.specs.declared.status.Status.{Status}
 use Rattle.qd_top.specs.declared.status.Status.TheVariants as status
 
 -- the requests of turns that ask them
-requests_in-asked : (rs : List Request) → requests_in (asked rs) ≡ rs
-requests_in-asked [] = refl
-requests_in-asked (r ∷ rs) = ap (λ (x : List Request). r ∷ x) (requests_in-asked rs)
+requests_in-asked : (print : Reply → List ℕ) (rs : List Request) → requests_in (asked_by print rs) ≡ rs
+requests_in-asked print [] = refl
+requests_in-asked print (r ∷ rs) = ap (λ (x : List Request). r ∷ x) (requests_in-asked print rs)
 
 -- one reply for each request
 matches : (h : Option (List Entry)) (from : Look) (rs : List Request) (replies : List Reply) (upto : Look) → LegalRun AllowedAlone h from rs replies upto → length replies ≡ length rs
@@ -41,26 +48,26 @@ matches h from [] (t ∷ replies) upto r = absurd r
 matches h from (q ∷ rs) [] upto r = absurd r
 
 -- the transcript of turns that ask requests is the replies, printed
-transcript-asked : (rs : List Request) (replies : List Reply) → length replies ≡ length rs → transcript (asked rs) replies ≡ printed replies
-transcript-asked [] [] e = refl
-transcript-asked [] (t ∷ replies) e = absurd (omega (arith, e))
-transcript-asked (r ∷ rs) [] e = absurd (omega (arith, e))
-transcript-asked (r ∷ rs) (t ∷ replies) e = ap (λ (x : List ℕ). reply_bytes t ++ x) (transcript-asked rs replies (omega (arith, e)))
+transcript-asked : (print : Reply → List ℕ) (rs : List Request) (replies : List Reply) → length replies ≡ length rs → transcript (asked_by print rs) replies ≡ printed print replies
+transcript-asked print [] [] e = refl
+transcript-asked print [] (t ∷ replies) e = absurd (omega (arith, e))
+transcript-asked print (r ∷ rs) [] e = absurd (omega (arith, e))
+transcript-asked print (r ∷ rs) (t ∷ replies) e = ap (λ (x : List ℕ). print t ++ x) (transcript-asked print rs replies (omega (arith, e)))
 
 -- turns that begin those of requests are those of the first of them
-pub record Split (turns : List Turn) (qs : List Request) : Type 0 where
+pub record Split (print : Reply → List ℕ) (turns : List Turn) (qs : List Request) : Type 0 where
   pub front : List Request
   pub later : List Request
-  pub turns_are : turns ≡ asked front
+  pub turns_are : turns ≡ asked_by print front
   pub whole : qs ≡ front ++ later
 
-split_asked : (turns more : List Turn) (qs : List Request) → turns ++ more ≡ asked qs → Split turns qs
-split_asked [] more qs e = record { front = []; later = qs; turns_are = refl; whole = refl }
-split_asked (t ∷ turns) more [] e = absurd (cc (e))
-split_asked (t ∷ turns) more (q ∷ qs) e =
-    let r = split_asked turns more qs (cc (e)) in
-    let head : t ≡ Asks q reply_bytes = cc (e) in
-    record { front = q ∷ r.front; later = r.later; turns_are = ap (λ (x : Turn). x ∷ turns) head ∙ ap (λ (x : List Turn). Asks q reply_bytes ∷ x) r.turns_are; whole = ap (λ (x : List Request). q ∷ x) r.whole }
+split_asked : (print : Reply → List ℕ) (turns more : List Turn) (qs : List Request) → turns ++ more ≡ asked_by print qs → Split print turns qs
+split_asked print [] more qs e = record { front = []; later = qs; turns_are = refl; whole = refl }
+split_asked print (t ∷ turns) more [] e = absurd (cc (e))
+split_asked print (t ∷ turns) more (q ∷ qs) e =
+    let r = split_asked print turns more qs (cc (e)) in
+    let head : t ≡ AsksTurn q print = cc (e) in
+    record { front = q ∷ r.front; later = r.later; turns_are = ap (λ (x : Turn). x ∷ turns) head ∙ ap (λ (x : List Turn). AsksTurn q print ∷ x) r.turns_are; whole = ap (λ (x : List Request). q ∷ x) r.whole }
 
 -- a refusal is printed as replies are
 abbrev PrintsReplies : Ending → Type 0
@@ -68,27 +75,92 @@ PrintsReplies (Waiting rest place f) = f ≡ reply_bytes
 PrintsReplies Ended = Unit {0}
 PrintsReplies (Malformed place f) = f ≡ reply_bytes
 
-prints : (at : ℕ) (bytes : List ℕ) (rs : List Request) (e : Ending) → Steps at bytes rs e → PrintsReplies e
-prints at bytes [] (Waiting rest place f) s = s.2
-prints at bytes [] Ended s = tt
-prints at bytes [] (Malformed place f) s = s.1
-prints at bytes (request.End ∷ rs) e s = subst PrintsReplies (sym s.3) tt
-prints at bytes (request.Write text ∷ rs) e s = prints (at + length (frame (request.Write text))) s.0 rs e s.3
-prints at bytes (request.Sql text ∷ rs) e s = prints (at + length (frame (request.Sql text))) s.0 rs e s.3
-prints at bytes (request.Apply ∷ rs) e s = prints (at + length (frame request.Apply)) s.0 rs e s.3
+prints_replies : (at : ℕ) (bytes : List ℕ) (rs : List Request) (e : Ending) → Steps at bytes rs e → PrintsReplies e
+prints_replies at bytes [] (Waiting rest place f) s = s.2
+prints_replies at bytes [] Ended s = tt
+prints_replies at bytes [] (Malformed place f) s = s.1
+prints_replies at bytes (request.End ∷ rs) e s = subst PrintsReplies (sym s.3) tt
+prints_replies at bytes (request.Write text ∷ rs) e s = prints_replies (at + length (frame (request.Write text))) s.0 rs e s.3
+prints_replies at bytes (request.Sql text ∷ rs) e s = prints_replies (at + length (frame (request.Sql text))) s.0 rs e s.3
+prints_replies at bytes (request.Apply ∷ rs) e s = prints_replies (at + length (frame request.Apply)) s.0 rs e s.3
 
-bad_prints : (input : Option (List ℕ)) (taken : List ℕ) (e : Ending) (place : ℕ) (f : Reply → List ℕ) → PrintsReplies e → IsBad input taken e place f → f ≡ reply_bytes
-bad_prints input taken (Waiting rest at f') place f p b = sym b.3 ∙ p
-bad_prints input taken Ended place f p b = absurd b
-bad_prints input taken (Malformed at f') place f p b = sym b.1 ∙ p
+-- a refusal of the bytes at a place, by a script that ends so, is that of the bytes
+record Refusal (input : Option (List ℕ)) (taken : List ℕ) (e : Ending) (place : ℕ) (f : Reply → List ℕ) : Type 0 where
+  bad : IsBad input taken e place reply_bytes
+  bytes : f (refusal place) ≡ reply_bytes (refusal place)
 
--- nothing was fed
+-- a script of frames ends as its bytes do
+module _ (input : Option (List ℕ)) (taken : List ℕ) where
+  refused_as : (e e' : Ending) (place : ℕ) (f : Reply → List ℕ) → PrintsReplies e → EndsAs e e' → IsBad input taken e' place f → Refusal input taken e place f
+  refused_as (Waiting rest at g) (Waiting rest' at' g') place f p alike bad = record {
+    bad = (subst (λ (x : List ℕ). 0 < length x) alike.0 bad.0, bad.1, sym alike.1 ∙ bad.2, p);
+    bytes = ap (λ (x : Reply → List ℕ). x (refusal place)) (sym bad.3) ∙ alike.2 place;
+  }
+  refused_as (Malformed at g) (Malformed at' g') place f p alike bad = record {
+    bad = (sym alike.0 ∙ bad.0, p);
+    bytes = ap (λ (x : Reply → List ℕ). x (refusal place)) (sym bad.1) ∙ alike.1 place;
+  }
+  refused_as Ended Ended place f p alike bad = absurd bad
+  refused_as (Waiting rest at g) Ended place f p alike bad = absurd alike
+  refused_as (Waiting rest at g) (Malformed at' g') place f p alike bad = absurd alike
+  refused_as Ended (Waiting rest' at' g') place f p alike bad = absurd alike
+  refused_as Ended (Malformed at' g') place f p alike bad = absurd alike
+  refused_as (Malformed at g) (Waiting rest' at' g') place f p alike bad = absurd alike
+  refused_as (Malformed at g) Ended place f p alike bad = absurd alike
+
+  clean_as : (e e' : Ending) → EndsAs e e' → IsClean input taken e' → IsClean input taken e
+  clean_as (Waiting rest at g) (Waiting rest' at' g') alike clean = (sym alike.0 ∙ clean.0, clean.1)
+  clean_as (Malformed at g) (Malformed at' g') alike clean = clean
+  clean_as Ended e' alike clean = tt
+  clean_as (Waiting rest at g) Ended alike clean = absurd alike
+  clean_as (Waiting rest at g) (Malformed at' g') alike clean = absurd alike
+  clean_as (Malformed at g) (Waiting rest' at' g') alike clean = absurd alike
+  clean_as (Malformed at g) Ended alike clean = absurd alike
+
+waiting_as : (e e' : Ending) → EndsAs e e' → IsWaiting e' → IsWaiting e
+waiting_as (Waiting rest at g) e' alike waits = tt
+waiting_as (Malformed at g) (Malformed at' g') alike waits = waits
+waiting_as Ended Ended alike waits = waits
+waiting_as (Malformed at g) (Waiting rest' at' g') alike waits = absurd alike
+waiting_as (Malformed at g) Ended alike waits = absurd alike
+waiting_as Ended (Waiting rest' at' g') alike waits = absurd alike
+waiting_as Ended (Malformed at' g') alike waits = absurd alike
+
+-- a new front of frames, and one that prints no acknowledgements, read frames
 abbrev new_frames : Frames
 new_frames = record { waiting = []; start = 0 }
 
--- every text spells some requests, and ends in some way
-abbrev Total : Type 0
-Total = (at : ℕ) (bytes : List ℕ) → (rs : List Request) × (e : Ending) × Steps at bytes rs e
+as_it_ends : (e : Ending) → PrintsReplies e → EndsAs e e
+as_it_ends (Waiting rest at f) p = (refl, refl, λ place. ap (λ (x : Reply → List ℕ). x (refusal place)) p)
+as_it_ends Ended p = tt
+as_it_ends (Malformed at f) p = (refl, λ place. ap (λ (x : Reply → List ℕ). x (refusal place)) p)
+
+as_it_ends_quietly : (e : Ending) → PrintsReplies e → EndsAs e (quiet_ending e)
+as_it_ends_quietly (Waiting rest at f) p = (refl, refl, λ place. ap (λ (x : Reply → List ℕ). x (refusal place)) p)
+as_it_ends_quietly Ended p = tt
+as_it_ends_quietly (Malformed at f) p = (refl, λ place. ap (λ (x : Reply → List ℕ). x (refusal place)) p)
+
+quiet_asked : (rs : List Request) → map quiet_turn (asked_by reply_bytes rs) ≡ asked_by (without_done reply_bytes) rs
+quiet_asked [] = refl
+quiet_asked (r ∷ rs) = ap (λ (x : List Turn). AsksTurn r (without_done reply_bytes) ∷ x) (quiet_asked rs)
+
+pub frames_spell-frames : (f : Frames) → f ≡ new_frames → SpellsFrames reply_bytes (frames_protocol f)
+frames_spell-frames f new = subst (λ (x : Frames). SpellsFrames reply_bytes (frames_protocol x)) (sym new) (λ bytes said h. record {
+  requests = h.0;
+  ending = said.ending;
+  turns_are = h.1;
+  ends_as = as_it_ends said.ending (prints_replies 0 bytes h.0 said.ending h.2);
+  spelled = h.2;
+})
+
+pub quiet-spell-frames : (f : Frames) → f ≡ new_frames → SpellsFrames (without_done reply_bytes) (quiet_protocol (frames_protocol f))
+quiet-spell-frames f new = subst (λ (x : Frames). SpellsFrames (without_done reply_bytes) (quiet_protocol (frames_protocol x))) (sym new) (λ bytes said h. record {
+  requests = h.1.0;
+  ending = h.0.ending;
+  turns_are = ap (λ (x : Script). x.turns) h.2 ∙ ap (λ (x : List Turn). map quiet_turn x) h.1.1 ∙ quiet_asked h.1.0;
+  ends_as = subst (λ (x : Ending). EndsAs h.0.ending x) (sym (ap (λ (x : Script). x.ending) h.2)) (as_it_ends_quietly h.0.ending (prints_replies 0 bytes h.1.0 h.0.ending h.1.2));
+  spelled = h.1.2;
+})
 
 -- What is there of a history behind its first c transactions, and how far the session has looked: no further than its own
 -- transactions go, so each apply gives the number of these.
@@ -189,62 +261,84 @@ replied-from_legal start after requests replies l own =
       answers = answers-last (Some after.history) (look_of (no_store start)) requests replies (look_of after) l.run;
     }
 
-module _ (total : Total) (later : Frames) (start : Timeline) (after : Store) (wire wire' : Stream) where
+-- every text goes on to some script
+abbrev Total : Protocol → Type 0
+Total p = (more : List ℕ) → (s : Script) × p.spells more s
+
+module _ (print : Reply → List ℕ) (first later : Protocol) (reads : SpellsFrames print first) (total : Total later) (start : Timeline) (after : Store) (wire wire' : Stream) where
   abbrev first_moment : Moment
-  first_moment = moment (frames_protocol new_frames) (listed_shown (stored (no_store start))) wire start
+  first_moment = moment first (listed_shown (stored (no_store start))) wire start
 
   abbrev last_moment : Moment
-  last_moment = moment (frames_protocol later) (listed_shown (stored after)) wire' after.clock
+  last_moment = moment later (listed_shown (stored after)) wire' after.clock
+
+  abbrev Whole : List ℕ → Type 0
+  Whole taken = Dialogue AllowedAlone first_moment last_moment taken
+
+  -- what a whole session read
+  abbrev said : (taken : List ℕ) (d : Whole taken) → SaysFrames print taken d.script
+  said taken d = reads taken d.script d.spelled
+
+  legal_of : (turns : List Turn) (rs : List Request) (replies : List Reply) → turns ≡ asked_by print rs
+      → Legal AllowedAlone (Some after.history) (look_of (no_store start)) (look_of after) (requests_in turns) replies → Legal AllowedAlone (Some after.history) (look_of (no_store start)) (look_of after) rs replies
+  legal_of turns rs replies e l = subst (λ (x : List Request). Legal AllowedAlone (Some after.history) (look_of (no_store start)) (look_of after) x replies) (ap requests_in e ∙ requests_in-asked print rs) l
 
   -- a whole session is a run
-  abbrev run_of : (taken : List ℕ) → TakenFrom wire.input wire'.input taken → length taken ≤ LAST_OFFSET → Dialogue AllowedAlone first_moment last_moment taken → Run (no_store start) after.clock wire.input wire'.input
+  abbrev run_of : (taken : List ℕ) → TakenFrom wire.input wire'.input taken → length taken ≤ LAST_OFFSET → Whole taken → Run (no_store start) after.clock wire.input wire'.input
   run_of taken from short d = record {
     taken = taken;
-    requests = d.spelled.0;
-    ending = d.script.ending;
+    requests = (said taken d).requests;
+    ending = (said taken d).ending;
     replies = d.replies;
     after = after;
     from = from;
     short = short;
-    spelled = d.spelled.2;
-    replied = replied-from_legal start after d.spelled.0 d.replies
-        (subst (λ (rs : List Request). Legal AllowedAlone (Some after.history) (look_of (no_store start)) (look_of after) rs d.replies) (ap requests_in d.spelled.1 ∙ requests_in-asked d.spelled.0) d.legal) d.own;
+    spelled = (said taken d).spelled;
+    replied = replied-from_legal start after (said taken d).requests d.replies (legal_of d.script.turns (said taken d).requests d.replies (said taken d).turns_are d.legal) d.own;
     clock_is = refl;
   }
 
-  written_is : (taken : List ℕ) (d : Dialogue AllowedAlone first_moment last_moment taken) → transcript d.script.turns d.replies ≡ printed d.replies
-  written_is taken d =
-      let legal : Legal AllowedAlone (Some after.history) (look_of (no_store start)) (look_of after) d.spelled.0 d.replies =
-      subst (λ (rs : List Request). Legal AllowedAlone (Some after.history) (look_of (no_store start)) (look_of after) rs d.replies) (ap requests_in d.spelled.1 ∙ requests_in-asked d.spelled.0) d.legal in
-      ap (λ (ts : List Turn). transcript ts d.replies) d.spelled.1 ∙ transcript-asked d.spelled.0 d.replies (matches (Some after.history) (look_of (no_store start)) d.spelled.0 d.replies (look_of after) legal.run)
+  -- the bytes of turns with their replies are the replies, printed
+  written_as : (turns : List Turn) (rs : List Request) (replies : List Reply) → turns ≡ asked_by print rs
+      → Legal AllowedAlone (Some after.history) (look_of (no_store start)) (look_of after) (requests_in turns) replies → transcript turns replies ≡ printed print replies
+  written_as turns rs replies e l =
+      ap (λ (ts : List Turn). transcript ts replies) e ∙ transcript-asked print rs replies (matches (Some after.history) (look_of (no_store start)) rs replies (look_of after) (legal_of turns rs replies e l).run)
 
-  bad_of : (taken : List ℕ) (d : Dialogue AllowedAlone first_moment last_moment taken) (place : ℕ) (f : Reply → List ℕ) → IsBad wire.input taken d.script.ending place f → f ≡ reply_bytes
-  bad_of taken d place f bad = bad_prints wire.input taken d.script.ending place f (prints 0 taken d.spelled.0 d.script.ending d.spelled.2) bad
+  written_is : (taken : List ℕ) (d : Whole taken) → transcript d.script.turns d.replies ≡ printed print d.replies
+  written_is taken d = written_as d.script.turns (said taken d).requests d.replies (said taken d).turns_are d.legal
+
+  refusal_of : (taken : List ℕ) (d : Whole taken) (place : ℕ) (f : Reply → List ℕ) → IsBad wire.input taken d.script.ending place f → Refusal wire.input taken (said taken d).ending place f
+  refusal_of taken d place f bad =
+      let s = said taken d in
+      refused_as wire.input taken s.ending d.script.ending place f (prints_replies 0 taken s.requests s.ending s.spelled) s.ends_as bad
+
+  -- the bytes of a session that ended badly are the replies and the refusal
+  refused_is : (taken : List ℕ) (d : Whole taken) (place : ℕ) (f : Reply → List ℕ) → f (refusal place) ≡ reply_bytes (refusal place)
+      → transcript d.script.turns d.replies ++ f (refusal place) ≡ printed print d.replies ++ reply_bytes (refusal place)
+  refused_is taken d place f e = ap (λ (x : List ℕ). x ++ f (refusal place)) (written_is taken d) ∙ ap (λ (x : List ℕ). printed print d.replies ++ x) e
 
   cut_of : (taken written : List ℕ) → Moves wire wire' taken written → length taken ≤ LAST_OFFSET
-      → IsCutShort AllowedAlone first_moment last_moment taken written → CutRun (no_store start) after.clock wire.input wire'.input wire.output wire'.output
+      → IsCutShort AllowedAlone first_moment last_moment taken written → CutRun print (no_store start) after.clock wire.input wire'.input wire.output wire'.output
   cut_of taken written moved short (inl (b, missing, e)) =
-      let t = total later.start (later.waiting ++ (b.unfed ++ [])) in
-      let q = b.begins [] (record { turns = asked t.0; ending = t.1 }) (t.0, refl, t.2) in
-      let s = split_asked b.turns (asked t.0) q.0 q.1 in
-      let legal : Legal AllowedAlone (Some after.history) (look_of (no_store start)) (look_of after) s.front b.replies =
-      subst (λ (rs : List Request). Legal AllowedAlone (Some after.history) (look_of (no_store start)) (look_of after) rs b.replies) (ap requests_in s.turns_are ∙ requests_in-asked s.front) b.legal in
+      let t = total (b.unfed ++ []) in
+      let q = reads (taken ++ []) (with_turns b.turns t.0) (b.begins [] t.0 t.1) in
+      let s = split_asked print b.turns t.0.turns q.requests q.turns_are in
       record {
         taken = taken;
         requests = s.front;
         later = s.later;
-        ending = t.1;
+        ending = q.ending;
         replies = b.replies;
         after = after;
         written = written;
         missing = missing;
         from = moved.from;
         short = short;
-        spelled = subst (λ (rs : List Request). Steps 0 taken rs t.1) s.whole (subst (λ (x : List ℕ). Steps 0 x q.0 t.1) (append-nil taken) q.2);
-        replied = replied-from_legal start after s.front b.replies legal b.own;
+        spelled = subst (λ (rs : List Request). Steps 0 taken rs q.ending) s.whole (subst (λ (x : List ℕ). Steps 0 x q.requests q.ending) (append-nil taken) q.spelled);
+        replied = replied-from_legal start after s.front b.replies (legal_of b.turns s.front b.replies s.turns_are b.legal) b.own;
         clock_is = refl;
         put = moved.to;
-        front = inl (sym (ap (λ (ts : List Turn). transcript ts b.replies) s.turns_are ∙ transcript-asked s.front b.replies (matches (Some after.history) (look_of (no_store start)) s.front b.replies (look_of after) legal.run)) ∙ e);
+        front = inl (sym (written_as b.turns s.front b.replies s.turns_are b.legal) ∙ e);
       }
   cut_of taken written moved short (inr (inl (d, missing, e))) =
       let r = run_of taken moved.from short d in
@@ -259,7 +353,7 @@ module _ (total : Total) (later : Frames) (start : Timeline) (after : Store) (wi
         missing = missing;
         from = moved.from;
         short = short;
-        spelled = subst (λ (rs : List Request). Steps 0 taken rs d.script.ending) (sym (append-nil r.requests)) r.spelled;
+        spelled = subst (λ (rs : List Request). Steps 0 taken rs r.ending) (sym (append-nil r.requests)) r.spelled;
         replied = r.replied;
         clock_is = refl;
         put = moved.to;
@@ -267,7 +361,7 @@ module _ (total : Total) (later : Frames) (start : Timeline) (after : Store) (wi
       }
   cut_of taken written moved short (inr (inr (d, place, f, missing, bad, e))) =
       let r = run_of taken moved.from short d in
-      let f_is = bad_of taken d place f bad in
+      let refused = refusal_of taken d place f bad in
       record {
         taken = taken;
         requests = r.requests;
@@ -279,56 +373,45 @@ module _ (total : Total) (later : Frames) (start : Timeline) (after : Store) (wi
         missing = missing;
         from = moved.from;
         short = short;
-        spelled = subst (λ (rs : List Request). Steps 0 taken rs d.script.ending) (sym (append-nil r.requests)) r.spelled;
+        spelled = subst (λ (rs : List Request). Steps 0 taken rs r.ending) (sym (append-nil r.requests)) r.spelled;
         replied = r.replied;
         clock_is = refl;
         put = moved.to;
-        front = inr (
-          refl,
-          place,
-          subst (λ (x : Reply → List ℕ). IsBad wire.input taken d.script.ending place x) f_is bad,
-          ap (λ (x : List ℕ). x ++ reply_bytes (refusal place)) (sym (written_is taken d)) ∙ ap (λ (x : Reply → List ℕ). transcript d.script.turns d.replies ++ x (refusal place)) (sym f_is) ∙ e,
-        );
+        front = inr (refl, place, refused.bad, sym (refused_is taken d place f refused.bytes) ∙ e);
       }
 
-  ran : (how : EndedBy) → Serves AllowedAlone first_moment last_moment how → Ran (no_store start) after.clock wire.input wire'.input wire.output wire'.output (status_of how)
+  ran : (how : EndedBy) → Serves AllowedAlone first_moment last_moment how → Ran print (no_store start) after.clock wire.input wire'.input wire.output wire'.output (status_of how)
   ran ended.Finished s =
-      let c = s.concluded in
-      (run_of s.taken s.moved.from s.short c.0, c.1, subst (λ (x : List ℕ). PutTo wire.output wire'.output x) (c.2 ∙ written_is s.taken c.0) s.moved.to)
+      let c = s.concluded in (
+        run_of s.taken s.moved.from s.short c.0,
+        clean_as wire.input s.taken (said s.taken c.0).ending c.0.script.ending (said s.taken c.0).ends_as c.1,
+        subst (λ (x : List ℕ). PutTo wire.output wire'.output x) (c.2 ∙ written_is s.taken c.0) s.moved.to,
+      )
   ran ended.BadFrame s =
       let c = s.concluded in
-      let f_is = bad_of s.taken c.0 c.1 c.2 c.3 in (
+      let refused = refusal_of s.taken c.0 c.1 c.2 c.3 in (
         run_of s.taken s.moved.from s.short c.0,
         c.1,
-        subst (λ (x : Reply → List ℕ). IsBad wire.input s.taken c.0.script.ending c.1 x) f_is c.3,
-        subst (λ (x : List ℕ). PutTo wire.output wire'.output x) (c.4 ∙ ap (λ (x : Reply → List ℕ). transcript c.0.script.turns c.0.replies ++ x (refusal c.1)) f_is ∙ ap (λ (x : List ℕ). x ++ reply_bytes (refusal c.1)) (written_is s.taken c.0)) s.moved.to,
+        refused.bad,
+        subst (λ (x : List ℕ). PutTo wire.output wire'.output x) (c.4 ∙ refused_is s.taken c.0 c.1 c.2 refused.bytes) s.moved.to,
       )
   ran ended.ReadFault s =
-      let c = s.concluded in
-      (run_of s.taken s.moved.from s.short c.0, c.1, subst (λ (x : List ℕ). PutTo wire.output wire'.output x) (c.2 ∙ written_is s.taken c.0) s.moved.to)
+      let c = s.concluded in (
+        run_of s.taken s.moved.from s.short c.0,
+        waiting_as (said s.taken c.0).ending c.0.script.ending (said s.taken c.0).ends_as c.1,
+        subst (λ (x : List ℕ). PutTo wire.output wire'.output x) (c.2 ∙ written_is s.taken c.0) s.moved.to,
+      )
   ran ended.WriteFault s = cut_of s.taken s.written s.moved s.short s.concluded
   ran ended.Memory s = cut_of s.taken s.written s.moved s.short s.concluded
 
-  -- the same, where the front and the list are known to be new by equations
-  pub ran-from_serves : (f : Frames) (l : Listed) (how : EndedBy) → f ≡ new_frames → l.history ≡ [] → l.applied ≡ 0
-      → Serves AllowedAlone (moment (frames_protocol f) (listed_shown l) wire start) last_moment how
-      → Ran (no_store start) after.clock wire.input wire'.input wire.output wire'.output (status_of how)
-  ran-from_serves f l how ef eh en s =
+  -- the same, where the list is known to be new by equations
+  pub ran-from_serves : (l : Listed) (how : EndedBy) → l.history ≡ [] → l.applied ≡ 0
+      → Serves AllowedAlone (moment first (listed_shown l) wire start) last_moment how
+      → Ran print (no_store start) after.clock wire.input wire'.input wire.output wire'.output (status_of how)
+  ran-from_serves l how eh en s =
       ran how
-      (subst (λ (x : List Entry). Serves AllowedAlone (moment (frames_protocol new_frames) (listed_shown (record { history = x; applied = 0 })) wire start) last_moment how) eh
-      (subst (λ (x : ℕ). Serves AllowedAlone (moment (frames_protocol new_frames) (listed_shown (record { history = l.history; applied = x })) wire start) last_moment how) en
-      (subst (λ (x : Frames). Serves AllowedAlone (moment (frames_protocol x) (listed_shown l) wire start) last_moment how) ef s)))
-
--- one word is `run`
-pub word_is_run : (words : List (List ℕ)) (only : List ℕ) (r : Bool) → 1 ≤ length words → length words < 2 → only ≡ get_or words 0 only → r ≡ pointwise nat_eq only (codes "run") → (IsTrue r → IsRun words) × (IsRun words → IsTrue r)
-word_is_run [] only r some one is e = absurd (omega (arith, some))
-word_is_run (w ∷ []) only r some one is e =
-    let d = bytes_decides only (codes "run") in
-    (λ t. ap (λ (x : List ℕ). x ∷ []) (sym is ∙ d.0 (sym e ∙ t)), λ same. e ∙ d.1 (is ∙ head same))
-  where
-    head : IsRun (w ∷ []) → w ≡ codes "run"
-    head same = cc (same)
-word_is_run (w ∷ v ∷ words) only r some one is e = absurd (omega (arith, one))
+      (subst (λ (x : List Entry). Serves AllowedAlone (moment first (listed_shown (record { history = x; applied = 0 })) wire start) last_moment how) eh
+      (subst (λ (x : ℕ). Serves AllowedAlone (moment first (listed_shown (record { history = l.history; applied = x })) wire start) last_moment how) en s))
 
 -- the usage line was written, or a prefix of it
 pub usage-from_writes_all : (before now : Option (List ℕ)) (line : List ℕ) → line ≡ usage → WritesAll {T = Unit {0}} {E = IoFault} before now line (Ok tt) → WroteUsage before now []
@@ -374,9 +457,9 @@ module _ (bytes taken left : List ℕ) (rs : List Request) (place : ℕ) (whole 
   not_bad (Malformed at f) s bad =
       well rs (Malformed at f) (subst (λ (x : List ℕ). Steps 0 x rs (Malformed at f)) (sym reached_is) (malformed_more 0 taken (take (LAST_OFFSET - length taken) left) rs at f s))
 
-not_refused : (before : Store) (clock : Timeline) (input input' output output' : Option (List ℕ)) → IsWellFramed input → RefusedRun before clock input input' output output' → ⊥
-not_refused before clock None input' output output' well r = well
-not_refused before clock (Some bytes) input' output output' well (r, place, bad, put) = not_bad bytes r.taken r.from.0 r.requests place r.from.2 r.short well r.ending r.spelled bad
+not_refused : (print : Reply → List ℕ) (before : Store) (clock : Timeline) (input input' output output' : Option (List ℕ)) → IsWellFramed input → RefusedRun print before clock input input' output output' → ⊥
+not_refused print before clock None input' output output' well r = well
+not_refused print before clock (Some bytes) input' output output' well (r, place, bad, put) = not_bad bytes r.taken r.from.0 r.requests place r.from.2 r.short well r.ending r.spelled bad
 
 -- the status of a number
 status_with : ℕ → Status
@@ -406,40 +489,54 @@ status_with-number_of status.NoMemory = refl
 one_status : (s t : Status) → number_of s ≡ number_of t → s ≡ t
 one_status s t e = sym (status_with-number_of s) ∙ ap status_with e ∙ status_with-number_of t
 
-module _ (before : Store) (clock : Timeline) (input input' output output' : Option (List ℕ)) where
+module _ (print : Reply → List ℕ) (before : Store) (clock : Timeline) (input input' output output' : Option (List ℕ)) where
   -- what a run with the number of a status is
-  is_run_of : (s t : Status) → number_of s ≡ number_of t → Ran before clock input input' output output' s → Ran before clock input input' output output' t
-  is_run_of s t e r = subst (λ (u : Status). Ran before clock input input' output output' u) (one_status s t e) r
+  is_run_of : (s t : Status) → number_of s ≡ number_of t → Ran print before clock input input' output output' s → Ran print before clock input input' output output' t
+  is_run_of s t e r = subst (λ (u : Status). Ran print before clock input input' output output' u) (one_status s t e) r
 
-  pub finished-from : (s : Status) → number_of s ≡ 0 → Ran before clock input input' output output' s → FinishedRun before clock input input' output output'
+  pub finished-from : (s : Status) → number_of s ≡ 0 → Ran print before clock input input' output output' s → FinishedRun print before clock input input' output output'
   finished-from s e r = is_run_of s status.Finished e r
 
-  pub refused-from : (s : Status) → number_of s ≡ 2 → Ran before clock input input' output output' s → RefusedRun before clock input input' output output'
+  pub refused-from : (s : Status) → number_of s ≡ 2 → Ran print before clock input input' output output' s → RefusedRun print before clock input input' output output'
   refused-from s e r = is_run_of s status.BadFrame e r
 
-  pub stopped-from : (s : Status) → number_of s ≡ 3 → Ran before clock input input' output output' s → StoppedRun before clock input input' output output'
+  pub stopped-from : (s : Status) → number_of s ≡ 3 → Ran print before clock input input' output output' s → StoppedRun print before clock input input' output output'
   stopped-from s e r = is_run_of s status.ReadFault e r
 
-  pub cut-from : (s : Status) → (number_of s ≡ 4) ⊎ (number_of s ≡ 7) → Ran before clock input input' output output' s → CutRun before clock input input' output output'
-  cut-from status.WriteFault e r = r
-  cut-from status.NoMemory e r = r
-  cut-from status.Finished (inl e) r = absurd (omega (arith, e))
-  cut-from status.Finished (inr e) r = absurd (omega (arith, e))
-  cut-from status.Usage e r = absurd r
-  cut-from status.BadFrame (inl e) r = absurd (omega (arith, e))
-  cut-from status.BadFrame (inr e) r = absurd (omega (arith, e))
-  cut-from status.ReadFault (inl e) r = absurd (omega (arith, e))
-  cut-from status.ReadFault (inr e) r = absurd (omega (arith, e))
+  pub written-from : (s : Status) → number_of s ≡ 4 → Ran print before clock input input' output output' s → CutRun print before clock input input' output output'
+  written-from s e r = is_run_of s status.WriteFault e r
+
+  pub out_of_memory-from : (s : Status) → number_of s ≡ 7 → Ran print before clock input input' output output' s → CutRun print before clock input input' output output'
+  out_of_memory-from s e r = is_run_of s status.NoMemory e r
 
   -- over whole frames, and where no count rises, a run finishes or finds no memory
-  pub complete-from : (s : Status) (reads reads' writes writes' : ℕ) → Ran before clock input input' output output' s → CountsReads reads reads' s → CountsWrites writes writes' s
+  pub complete-from : (s : Status) (reads reads' writes writes' : ℕ) → Ran print before clock input input' output output' s → CountsReads reads reads' s → CountsWrites writes writes' s
       → IsWellFramed input → (HasRisen reads reads' → ⊥) → (HasRisen writes writes' → ⊥) → (number_of s ≡ 0) ⊎ (number_of s ≡ 7)
   complete-from status.Finished reads reads' writes writes' r read write well no_read no_write = inl refl
   complete-from status.Usage reads reads' writes writes' r read write well no_read no_write = absurd r
-  complete-from status.BadFrame reads reads' writes writes' r read write well no_read no_write = absurd (not_refused before clock input input' output output' well r)
+  complete-from status.BadFrame reads reads' writes writes' r read write well no_read no_write = absurd (not_refused print before clock input input' output output' well r)
   complete-from status.ReadFault reads reads' writes writes' r read write well no_read no_write = absurd (no_read read.1)
   complete-from status.WriteFault reads reads' writes writes' r read write well no_read no_write = absurd (no_write write.1)
   complete-from status.NoMemory reads reads' writes writes' r read write well no_read no_write = inr refl
+
+  -- a run doesn't end with the status of other words
+  pub ends-from : (s : Status) → Ran print before clock input input' output output' s → EndsWith command.Run (number_of s)
+  ends-from status.Finished r = inl refl
+  ends-from status.Usage r = absurd r
+  ends-from status.BadFrame r = inr (inl refl)
+  ends-from status.ReadFault r = inr (inr (inl refl))
+  ends-from status.WriteFault r = inr (inr (inr (inl refl)))
+  ends-from status.NoMemory r = inr (inr (inr (inr refl)))
+
+  -- over whole frames, and where no read can fail, neither a frame nor a read ends it
+  pub ends_well-from : (s : Status) (number lines : ℕ) → Ran print before clock input input' output output' s → CountsReads 0 0 s → IsWellFramed input → EndsWith (command.Gen number lines) (number_of s)
+  ends_well-from status.Finished number lines r read well = inl refl
+  ends_well-from status.Usage number lines r read well = absurd r
+  ends_well-from status.BadFrame number lines r read well = absurd (not_refused print before clock input input' output output' well r)
+  ends_well-from status.ReadFault number lines r (most, inl less) well = absurd (omega (arith, less))
+  ends_well-from status.ReadFault number lines r (most, inr last) well = absurd (omega (arith, last))
+  ends_well-from status.WriteFault number lines r read well = inr (inl refl)
+  ends_well-from status.NoMemory number lines r read well = inr (inr refl)
 
 -- the counts of a session are those of its status
 pub reads-from_faults : (a b : Stream) (how : EndedBy) → Faults a b (Some how) → CountsReads a.reads_failed b.reads_failed (status_of how)
@@ -493,17 +590,3 @@ by-host host middle host' c c' R a f same back run = (
   ap (λ (h : Supply). h.clock_faults) back ∙ ap (λ (n : ℕ). counts_together n c'.faults) same,
   subst (λ (x : Timeline). R (no_store x) c') (fresh-from host c a f) run,
 )
-
--- what a run says, by the number of its status
-module _ (host host' : Supply) (input input' output output' : Option (List ℕ)) (s : Status) (run : ByHost host host' (λ before clock. Ran before clock input input' output output' s)) where
-  pub host-finished : number_of s ≡ 0 → ByHost host host' (λ before clock. FinishedRun before clock input input' output output')
-  host-finished e = (run.0, run.1, finished-from (no_store (fresh host)) run.0 input input' output output' s e run.2)
-
-  pub host-refused : number_of s ≡ 2 → ByHost host host' (λ before clock. RefusedRun before clock input input' output output')
-  host-refused e = (run.0, run.1, refused-from (no_store (fresh host)) run.0 input input' output output' s e run.2)
-
-  pub host-stopped : number_of s ≡ 3 → ByHost host host' (λ before clock. StoppedRun before clock input input' output output')
-  host-stopped e = (run.0, run.1, stopped-from (no_store (fresh host)) run.0 input input' output output' s e run.2)
-
-  pub host-cut : (number_of s ≡ 4) ⊎ (number_of s ≡ 7) → ByHost host host' (λ before clock. CutRun before clock input input' output output')
-  host-cut e = (run.0, run.1, cut-from (no_store (fresh host)) run.0 input input' output output' s e run.2)

@@ -10,25 +10,40 @@ use Rattle.qd_base.specs.Script.{Ending}
 use Rattle.qd_io.specs.Clocks.{Supply, Timeline}
 use Rattle.qd_io.specs.Ends.{HasRisen, Stream, counts_together}
 use Rattle.qd_frames.specs.Frames.{Steps}
+use Rattle.qd_gen.specs.Generated.{input as generated}
 use Rattle.qd_print.specs.Printed.{reply_bytes}
+use Rattle.qd_quiet.specs.Quieted.{without_done}
 use Rattle.qd_session.specs.Allowed.{Allowed}
 use Rattle.qd_session.specs.Legal.{Legal, done_numbers}
 use Rattle.qd_session.specs.Looks.{Extends, Look}
 use Rattle.qd_session.specs.Session.{IsBad, IsClean, IsWaiting, PutTo, TakenFrom, refusal}
 use Rattle.qd_top.specs.declared.status.Status.{Status}
 use Rattle.qd_top.specs.declared.status.Status.TheVariants as status
-
--- the words of the one command that the program has: `run`
-abbrev pub IsRun : List (List ℕ) → Type 0
-IsRun words = words ≡ codes "run" ∷ []
+use Rattle.qd_words.specs.declared.command.Command.{Command}
+use Rattle.qd_words.specs.declared.command.Command.TheVariants as command
+use Rattle.qd_words.specs.Words.{Asks, IsCommand}
 
 -- the line that other words are answered with
 abbrev pub usage : List ℕ
 usage = codes "usage: tsdb run [--dir D] | gen NUMBER LINES | serve PORT --dir D [--connections N]" ++ 10 ∷ []
 
+-- how a command prints replies: `gen` prints none of those that acknowledge a write
+abbrev pub prints : Command → Reply → List ℕ
+prints command.Run = reply_bytes
+prints (command.Gen number lines) = without_done reply_bytes
+
 -- replies, printed one behind the other
-abbrev pub printed : List Reply → List ℕ
-printed replies = flat_map reply_bytes replies
+abbrev pub printed : (Reply → List ℕ) → List Reply → List ℕ
+printed print replies = flat_map print replies
+
+-- the generated input was served, and this is left of it
+abbrev pub OverGenerated : (number lines : ℕ) → (Option (List ℕ) → Option (List ℕ) → Type 0) → Type 0
+OverGenerated number lines R = (left : Option (List ℕ)) × R (Some (generated number lines)) left
+
+-- what a command serves, and what it leaves of it: the input that is given, or the generated one
+abbrev pub ServedBy : Command → (input input' : Option (List ℕ)) → (Option (List ℕ) → Option (List ℕ) → Type 0) → Type 0
+ServedBy command.Run input input' R = R input input'
+ServedBy (command.Gen number lines) input input' R = OverGenerated number lines R
 
 -- what a run begins with, and what it ends with: the transactions, how many of them are applied, and its clock
 pub record Store : Type 0 where
@@ -96,24 +111,24 @@ pub record Run (before : Store) (clock : Timeline) (input input' : Option (List 
 
 -- Status 0: the bytes taken are whole frames up to the end of the input or to a request for the end, and the bytes
 -- written are the replies.
-abbrev pub FinishedRun : Store → Timeline → (input input' output output' : Option (List ℕ)) → Type 0
-FinishedRun before clock input input' output output' =
-    (r : Run before clock input input') × IsClean input r.taken r.ending × PutTo output output' (printed r.replies)
+abbrev pub FinishedRun : (Reply → List ℕ) → Store → Timeline → (input input' output output' : Option (List ℕ)) → Type 0
+FinishedRun print before clock input input' output output' =
+    (r : Run before clock input input') × IsClean input r.taken r.ending × PutTo output output' (printed print r.replies)
 
 -- Status 2: the same up to the first bytes that are no frame, or to a frame inside which the input ended; its place is
 -- answered, and nothing after it.
-abbrev pub RefusedRun : Store → Timeline → (input input' output output' : Option (List ℕ)) → Type 0
-RefusedRun before clock input input' output output' =
-    (r : Run before clock input input') × (place : ℕ) × IsBad input r.taken r.ending place reply_bytes × PutTo output output' (printed r.replies ++ reply_bytes (refusal place))
+abbrev pub RefusedRun : (Reply → List ℕ) → Store → Timeline → (input input' output output' : Option (List ℕ)) → Type 0
+RefusedRun print before clock input input' output output' =
+    (r : Run before clock input input') × (place : ℕ) × IsBad input r.taken r.ending place reply_bytes × PutTo output output' (printed print r.replies ++ reply_bytes (refusal place))
 
 -- Status 3: the bytes written are the replies to all requests of the bytes taken.
-abbrev pub StoppedRun : Store → Timeline → (input input' output output' : Option (List ℕ)) → Type 0
-StoppedRun before clock input input' output output' =
-    (r : Run before clock input input') × IsWaiting r.ending × PutTo output output' (printed r.replies)
+abbrev pub StoppedRun : (Reply → List ℕ) → Store → Timeline → (input input' output output' : Option (List ℕ)) → Type 0
+StoppedRun print before clock input input' output output' =
+    (r : Run before clock input input') × IsWaiting r.ending × PutTo output output' (printed print r.replies)
 
 -- Statuses 4 and 7: the bytes written are a prefix of such a transcript. The replies are those to the first requests of
 -- the bytes taken; where there is no later one, the refusal of a bad frame may stand behind them.
-pub record CutRun (before : Store) (clock : Timeline) (input input' output output' : Option (List ℕ)) : Type 0 where
+pub record CutRun (print : Reply → List ℕ) (before : Store) (clock : Timeline) (input input' output output' : Option (List ℕ)) : Type 0 where
   pub taken : List ℕ
   pub requests : List Request
   pub later : List Request
@@ -128,17 +143,17 @@ pub record CutRun (before : Store) (clock : Timeline) (input input' output outpu
   pub replied : Replied before after requests replies
   pub clock_is : after.clock ≡ clock
   pub put : PutTo output output' written
-  pub front : (printed replies ≡ written ++ missing)
-      ⊎ ((later ≡ []) × (place : ℕ) × IsBad input taken ending place reply_bytes × (printed replies ++ reply_bytes (refusal place) ≡ written ++ missing))
+  pub front : (printed print replies ≡ written ++ missing)
+      ⊎ ((later ≡ []) × (place : ℕ) × IsBad input taken ending place reply_bytes × (printed print replies ++ reply_bytes (refusal place) ≡ written ++ missing))
 
 -- a run that ended with a status
-abbrev pub Ran : Store → Timeline → (input input' output output' : Option (List ℕ)) → Status → Type 0
-Ran before clock input input' output output' status.Finished = FinishedRun before clock input input' output output'
-Ran before clock input input' output output' status.Usage = ⊥
-Ran before clock input input' output output' status.BadFrame = RefusedRun before clock input input' output output'
-Ran before clock input input' output output' status.ReadFault = StoppedRun before clock input input' output output'
-Ran before clock input input' output output' status.WriteFault = CutRun before clock input input' output output'
-Ran before clock input input' output output' status.NoMemory = CutRun before clock input input' output output'
+abbrev pub Ran : (Reply → List ℕ) → Store → Timeline → (input input' output output' : Option (List ℕ)) → Status → Type 0
+Ran print before clock input input' output output' status.Finished = FinishedRun print before clock input input' output output'
+Ran print before clock input input' output output' status.Usage = ⊥
+Ran print before clock input input' output output' status.BadFrame = RefusedRun print before clock input input' output output'
+Ran print before clock input input' output output' status.ReadFault = StoppedRun print before clock input input' output output'
+Ran print before clock input input' output output' status.WriteFault = CutRun print before clock input input' output output'
+Ran print before clock input input' output output' status.NoMemory = CutRun print before clock input input' output output'
 
 -- the usage line was written, or a prefix of it
 abbrev pub WroteUsage : (output output' : Option (List ℕ)) (missing : List ℕ) → Type 0
@@ -165,26 +180,50 @@ CountsWrites before now status.WriteFault = (before ≤ now) × HasRisen before 
 CountsWrites before now status.Usage = before ≤ now
 CountsWrites before now s = now ≡ before
 
+-- what a run may be, over two ends and from a store and its clock: one of the relations above
+abbrev pub RunKind : Type 1
+RunKind = (Reply → List ℕ) → Store → Timeline → (input input' output output' : Option (List ℕ)) → Type 0
+
+-- a command served what it is to serve, with a clock of the host, and printed its replies: it was a run of this kind
+abbrev pub Served : Command → (input input' output output' : Stream) → (host host' : Supply) → RunKind → Type 0
+Served asked input input' output output' host host' R =
+    ByHost host host' (λ before clock. ServedBy asked input.input input'.input (λ served left. R (prints asked) before clock served left output.output output'.output))
+
+-- the numbers that a command may end with: over the generated input, which is whole frames in memory, no frame is bad and
+-- no read fails
+abbrev pub EndsWith : Command → ℕ → Type 0
+EndsWith command.Run number = (number ≡ 0) ⊎ (number ≡ 2) ⊎ (number ≡ 3) ⊎ (number ≡ 4) ⊎ (number ≡ 7)
+EndsWith (command.Gen number_given lines) number = (number ≡ 0) ⊎ (number ≡ 4) ⊎ (number ≡ 7)
+
+-- what `run` serves is whole frames, where that is told; what `gen` serves always is
+abbrev pub IsServedWell : Command → Option (List ℕ) → Type 0
+IsServedWell command.Run input = IsWellFramed input
+IsServedWell (command.Gen number lines) input = Unit {0}
+
+-- What a command did, with an input, an output and a host before it and after it, where the program ended with a number.
+pub record Did (asked : Command) (input input' output output' : Stream) (host host' : Supply) (number : ℕ) : Type 0 where
+  pub ends : EndsWith asked number
+  pub finished : number ≡ 0 → Served asked input input' output output' host host' FinishedRun
+  pub bad_frame : number ≡ 2 → Served asked input input' output output' host host' RefusedRun
+  pub read_fault : number ≡ 3 → Served asked input input' output output' host host' StoppedRun
+  pub write_fault : number ≡ 4 → Served asked input input' output output' host host' CutRun
+  pub no_memory : number ≡ 7 → Served asked input input' output output' host host' CutRun
+  pub complete : IsServedWell asked input.input → (HasRisen input.reads_failed input'.reads_failed → ⊥) → (HasRisen output.writes_failed output'.writes_failed → ⊥) → (number ≡ 0) ⊎ (number ≡ 7)
+
 -- What the top call says of these words, with an input, an output and a host before it and after it, and a status.
 pub record Answered (given : List (List ℕ)) (input input' output output' : Stream) (host host' : Supply) (number : ℕ) : Type 0 where
   pub statuses : (number ≡ 0) ⊎ (number ≡ 1) ⊎ (number ≡ 2) ⊎ (number ≡ 3) ⊎ (number ≡ 4) ⊎ (number ≡ 7)
-  -- only words that are not known are answered with the usage line, and with nothing else
-  pub words : number ≡ 1 → IsRun given → ⊥
-  pub other_words : (IsRun given → ⊥) → (number ≡ 1) ⊎ (number ≡ 7)
+  -- only words that ask for no command are answered with the usage line, and with nothing else
+  pub words : number ≡ 1 → IsCommand given → ⊥
+  pub other_words : (IsCommand given → ⊥) → (number ≡ 1) ⊎ (number ≡ 7)
   pub usage : number ≡ 1 → (missing : List ℕ) × WroteUsage output.output output'.output missing × ((missing ≡ []) ⊎ HasRisen output.writes_failed output'.writes_failed)
-  pub other_output : (IsRun given → ⊥) → (missing : List ℕ) × WroteUsage output.output output'.output missing
-  pub unread : (IsRun given → ⊥) → input' ≡ input
-  pub unused : (IsRun given → ⊥) → host' ≡ host
-  -- what a run took and wrote
-  pub finished : number ≡ 0 → ByHost host host' (λ before clock. FinishedRun before clock input.input input'.input output.output output'.output)
-  pub bad_frame : number ≡ 2 → ByHost host host' (λ before clock. RefusedRun before clock input.input input'.input output.output output'.output)
-  pub read_fault : number ≡ 3 → ByHost host host' (λ before clock. StoppedRun before clock input.input input'.input output.output output'.output)
-  pub write_fault : number ≡ 4 → ByHost host host' (λ before clock. CutRun before clock input.input input'.input output.output output'.output)
-  pub no_memory : number ≡ 7 → IsRun given → ByHost host host' (λ before clock. CutRun before clock input.input input'.input output.output output'.output)
+  pub other_output : (IsCommand given → ⊥) → (missing : List ℕ) × WroteUsage output.output output'.output missing
+  pub unread : (Asks command.Run given → ⊥) → input' ≡ input
+  pub unused : (IsCommand given → ⊥) → host' ≡ host
+  -- what the command that the words ask for took and wrote
+  pub did : (asked : Command) → Asks asked given → Did asked input input' output output' host host' number
   -- causes
   pub read_cause : number ≡ 3 → HasRisen input.reads_failed input'.reads_failed
   pub reads_stay : (number ≡ 3 → ⊥) → input'.reads_failed ≡ input.reads_failed
   pub write_cause : number ≡ 4 → HasRisen output.writes_failed output'.writes_failed
   pub writes_stay : (number ≡ 4 → ⊥) → (number ≡ 1 → ⊥) → output'.writes_failed ≡ output.writes_failed
-  -- completeness
-  pub complete : IsRun given → IsWellFramed input.input → (HasRisen input.reads_failed input'.reads_failed → ⊥) → (HasRisen output.writes_failed output'.writes_failed → ⊥) → (number ≡ 0) ⊎ (number ≡ 7)

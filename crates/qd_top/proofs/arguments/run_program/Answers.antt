@@ -17,16 +17,19 @@ returns-in-Ok-words_of g c =
       other_output = e.other_output;
       unread = λ other. ap g.S.Ends.stream (e.unread other);
       unused = λ other. ap g.H.Host.supply (e.unused other);
-      finished = e.finished;
-      bad_frame = e.bad_frame;
-      read_fault = e.read_fault;
-      write_fault = e.write_fault;
-      no_memory = e.no_memory;
+      did = λ asked words. record {
+        ends = e.ends asked words;
+        finished = e.finished asked words;
+        bad_frame = e.bad_frame asked words;
+        read_fault = e.read_fault asked words;
+        write_fault = e.write_fault asked words;
+        no_memory = e.no_memory asked words;
+        complete = e.complete asked words;
+      };
       read_cause = e.read_cause;
       reads_stay = e.reads_stay;
       write_cause = e.write_cause;
       writes_stay = e.writes_stay;
-      complete = e.complete;
     } in
     let words = c.as_slice.ensures.value ∙ c.in-Ok-words_of.ensures.words in
     record { answered = inr (rw c.in-Ok.is (subst Says words said)) }

@@ -1,0 +1,4 @@
+pub mod Keys
+pub mod Grouping
+pub mod Tallies
+pub mod Tallied

@@ -1,0 +1,80 @@
+//! Which rows are one group: those that are equal on all of the keys.
+ghost use Rattle.std.specs.Prelude.{◌≡◌, ◌<◌, ◌+◌, ◌==◌, Some, if◌then◌else◌, IfOk, is_some, length, unwrap_or};
+ghost use Rattle.std.specs.BTreeMap.{btree_map_len, get, is_at};
+ghost use Rattle.qd_group.specs.Grouping.{AreGroups, same_items, same_numbers, same_rows, same_values};
+
+use crate::groups::Groups;
+use crate::keys::keys_of;
+use qd_base::{Dictionary, Memory};
+use qd_rows::RowSet;
+use qd_value::Bound;
+use std::alloc::Global;
+use std::collections::BTreeMap;
+
+/// The groups of rows that are equal on all of some keys, NULL being equal to NULL.
+///
+/// It costs n log n comparisons for each key, whatever the values are, and takes some 50 bytes a row.
+pub(crate) fn grouped_rows<D: Dictionary>(
+    alloc: Global,
+    keys: &[Bound],
+    rows: &RowSet<D>,
+) -> Result<Groups, Memory>
+    requires { 0 < length keys.now }
+    ensures groups { IfOk result (λ g. AreGroups (same_rows keys.now rows.now) (length rows.now.places) g.numbers.items g.firsts.items) }
+{
+    let mut groups = grouped_by(alloc, &keys[0], rows)?;
+    for k in 1..keys.len() {
+        let further = grouped_by(alloc, &keys[k], rows)?;
+        groups = refined(alloc, groups.numbers.as_slice(), further.numbers.as_slice())?;
+    }
+    Ok(groups)
+}
+
+/// The groups of rows that are equal on one key.
+fn grouped_by<D: Dictionary>(alloc: Global, key: &Bound, rows: &RowSet<D>) -> Result<Groups, Memory>
+    ensures groups { IfOk result (λ g. AreGroups (same_values key.now rows.now) (length rows.now.places) g.numbers.items g.firsts.items) }
+{
+    let keys = keys_of(alloc, key, rows)?;
+    numbered(alloc, keys.as_slice())
+}
+
+/// Tells groups apart further: two rows are of one group then where they are of one in both.
+fn refined(alloc: Global, numbers: &[usize], further: &[usize]) -> Result<Groups, Memory>
+    requires { length numbers.now ≡ length further.now }
+    ensures groups { IfOk result (λ g. AreGroups (same_numbers numbers.now further.now) (length numbers.now) g.numbers.items g.firsts.items) }
+{
+    let mut pairs = Vec::with_capacity(alloc, numbers.len())?;
+    for i in 0..numbers.len() {
+        pairs.push((numbers[i], further[i]))?;
+    }
+    numbered(alloc, pairs.as_slice())
+}
+
+/// The groups of equal keys. It costs n log n comparisons, whatever the keys are.
+fn numbered<K: Ord + Copy>(alloc: Global, keys: &[K]) -> Result<Groups, Memory>
+    ensures groups { IfOk result (λ g. (d : K) → AreGroups (same_items K.cmp keys.now d) (length keys.now) g.numbers.items g.firsts.items) }
+{
+    let mut numbers = BTreeMap::new(alloc);
+    let mut groups = Groups::new(alloc);
+    for key in keys {
+        let number = number_of(&mut numbers, *key)?;
+        groups.push(number)?;
+    }
+    Ok(groups)
+}
+
+/// Gives the number of a key: the one that it has, or the next one.
+fn number_of<K: Ord + Copy>(numbers: &mut BTreeMap<K, usize>, key: K) -> Result<usize, Memory>
+    ensures number { IfOk result (λ n. n ≡ unwrap_or (get K.cmp numbers.old key) (btree_map_len numbers.old)) }
+    ensures known { IfOk result (λ n. (q : K) → get K.cmp numbers.new q ≡ (if is_at (K.cmp key) q then Some n else get K.cmp numbers.old q)) }
+    ensures count { IfOk result (λ n. btree_map_len numbers.new ≡ btree_map_len numbers.old + (if is_some (get K.cmp numbers.old key) then 0 else 1)) }
+{
+    match numbers.get(&key) {
+        Some(number) => Ok(*number),
+        None => {
+            let number = numbers.len();
+            numbers.insert(key, number)?;
+            Ok(number)
+        }
+    }
+}

@@ -1,0 +1,6 @@
+mod MetLemmas
+mod JudgeLemmas
+mod PlaceLemmas
+mod TableLemmas
+mod CreateLawful
+mod InsertLawful

@@ -5,7 +5,7 @@ use Rattle.qd_volume.specs.Files.{Change, File, IsImageOf, Spoiled, Synced, Wrot
 use Rattle.qd_volume.specs.Disk.{Disk, Image, changed, file_of, images_now, images_since, moment, reads_of}
 use Rattle.qd_volume.proofs.Sound.{image_of_reads, sound_file}
 use Rattle.qd_volume.proofs.Moments.{only_now}
-use Rattle.qd_durable.specs.Moments.{ComesFrom, EachNow, LeavesOnly, Moves, SameBut, SameOutside, Touches}
+use Rattle.qd_durable.specs.Moments.{ComesFrom, EachNow, LeavesEarlier, LeavesOnly, Moves, SameBut, SameOutside, Touches}
 use Rattle.qd_durable.specs.Places.{StandsAt}
 use Rattle.qd_durable.proofs.Standing.{stands_kept}
 use Rattle.qd_durable.proofs.Named.{HasEarlier, has_earlier}
@@ -226,6 +226,32 @@ touched_synced disk file at size =
 pub synced_reads : (disk : Disk) (file : ℕ) → EachNow (changed disk file Synced) (λ image. image file ≡ reads_of disk file)
 synced_reads disk file image now =
     synced_only disk file (image file) (subst (λ b. IsImageOf (cond b (after_change (file_of disk file) Synced) (file_of disk file)) (image file)) (eq-eqb file file refl) (now file))
+
+-- it changes nothing that is read, and leaves no image that wasn't there
+pub sync_reads : (disk : Disk) (file other : ℕ) → reads_of (changed disk file Synced) other ≡ reads_of disk other
+sync_reads disk file other = by (nat_eq file other)
+  where
+    by : (same : Bool) → (cond same (after_change (file_of disk other) Synced) (file_of disk other)).reads ≡ reads_of disk other
+    by true = refl
+    by false = refl
+
+image_before : (disk : Disk) (file : ℕ) (image : Image) → images_now (changed disk file Synced) image → images_now disk image
+image_before disk file image now other = by (nat_eq file other) refl
+  where
+    by : (same : Bool) → nat_eq file other ≡ same → IsImageOf (file_of disk other) (image other)
+    by true e =
+        let is : image other ≡ reads_of disk other = subst (λ n. image n ≡ reads_of disk n) (eqb-true file other e) (synced_reads disk file image now) in
+        subst (λ (l : List ℕ). IsImageOf (file_of disk other) l) (sym is) (image_of_reads (file_of disk other) (sound_file disk other))
+    by false e = subst (λ b. IsImageOf (cond b (after_change (file_of disk other) Synced) (file_of disk other)) (image other)) e (now other)
+
+pub earlier_synced : (disk : Disk) (file : ℕ) → LeavesEarlier disk (changed disk file Synced)
+earlier_synced disk file = moves_change (SameBut (λ file. false)) disk file Synced (but_same (λ file. false)) (λ image now. (image, image_before disk file image now, but_same (λ file. false) image))
+
+pub earlier_still : (disk : Disk) → LeavesEarlier disk disk
+earlier_still disk = moves_still (SameBut (λ file. false)) disk (but_same (λ file. false))
+
+pub earlier_both : (a b c : Disk) → LeavesEarlier a b → LeavesEarlier b c → LeavesEarlier a c
+earlier_both a b c first second = moves_both (SameBut (λ file. false)) (SameBut (λ file. false)) (SameBut (λ file. false)) a b c (λ x y r. r) (but_both (λ file. false)) first second
 
 -- what a file reads after a write
 pub reads_wrote : (disk : Disk) (file at : ℕ) (bytes : List ℕ) → reads_of (changed disk file (Wrote at bytes)) file ≡ written (reads_of disk file) at bytes

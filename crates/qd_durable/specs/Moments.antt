@@ -42,3 +42,7 @@ pub record SameOutside (file at size : ℕ) (earlier image : Image) : Type 0 whe
 -- a call changes nothing but so many bytes of one file from a place on
 abbrev pub Touches : ℕ → ℕ → ℕ → Disk → Disk → Type 0
 Touches file at size before after = Moves (SameOutside file at size) before after
+
+-- a call leaves only images that one before it might have left, at each moment of it and behind it
+abbrev pub LeavesEarlier : Disk → Disk → Type 0
+LeavesEarlier before after = Moves (SameBut (λ file. false)) before after

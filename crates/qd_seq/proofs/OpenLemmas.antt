@@ -1,42 +1,19 @@
 -- A log that is synced and read.
-use Rattle.std.proofs.Common.{◌≡◌, ℕ, nat_eq, Bool, true, false, cond, List, Option, None, Some, IfSome, Ok, Err, refl, sym, ◌∙◌, subst}
+use Rattle.std.proofs.Common.{◌≡◌, ℕ, List, Option, None, Some, IfSome, Ok, Err, refl, sym, ◌∙◌, subst}
 use Rattle.qd_volume.specs.Calls.{Syncs}
-use Rattle.std.proofs.lemmas.Bool.{eqb-true}
-use Rattle.qd_volume.specs.Files.{IsImageOf, Synced, after_change}
-use Rattle.qd_volume.specs.Disk.{Disk, Image, changed, file_of, images_now, reads_of}
-use Rattle.qd_volume.proofs.Sound.{image_of_reads, sound_file}
-use Rattle.qd_durable.specs.Moments.{EachNow, SameBut, Told}
+use Rattle.qd_volume.specs.Files.{Synced}
+use Rattle.qd_volume.specs.Disk.{Disk, changed, reads_of}
+use Rattle.qd_durable.specs.Moments.{EachNow, Told}
 use Rattle.qd_durable.specs.declared.fault.LogFault.{LogFault}
 use Rattle.qd_durable.specs.declared.fault.LogFault.TheVariants as fault
 use Rattle.qd_durable.specs.Faults.{vol_of}
-use Rattle.qd_durable.proofs.Moved.{but_same, moves_change, moves_still, synced_reads}
+use Rattle.qd_durable.proofs.Moved.{earlier_still, earlier_synced, sync_reads, synced_reads}
 use Rattle.qd_io.specs.declared.fault.IoFault.{IoFault}
 use Rattle.qd_io.specs.declared.fault.IoFault.TheVariants as io
 use Rattle.qd_seq.specs.Layout.{GivesList, SpellsLog}
 use Rattle.qd_seq.specs.States.{Knows, Log}
 use Rattle.qd_seq.specs.Reading.{IsBroken}
-use Rattle.qd_seq.specs.Opening.{IsOpened, LeavesEarlier, Opens}
-
--- a sync changes nothing that is read
-sync_reads : (disk : Disk) (file other : ℕ) → reads_of (changed disk file Synced) other ≡ reads_of disk other
-sync_reads disk file other = by (nat_eq file other)
-  where
-    by : (same : Bool) → (cond same (after_change (file_of disk other) Synced) (file_of disk other)).reads ≡ reads_of disk other
-    by true = refl
-    by false = refl
-
--- an image behind a sync is one from before it
-image_before : (disk : Disk) (image : Image) → images_now (changed disk 1 Synced) image → images_now disk image
-image_before disk image now file = by (nat_eq 1 file) refl
-  where
-    by : (same : Bool) → nat_eq 1 file ≡ same → IsImageOf (file_of disk file) (image file)
-    by true e =
-        let is : image file ≡ reads_of disk file = subst (λ n. image n ≡ reads_of disk n) (eqb-true 1 file e) (synced_reads disk 1 image now) in
-        subst (λ (l : List ℕ). IsImageOf (file_of disk file) l) (sym is) (image_of_reads (file_of disk file) (sound_file disk file))
-    by false e = subst (λ b. IsImageOf (cond b (after_change (file_of disk file) Synced) (file_of disk file)) (image file)) e (now file)
-
-synced_earlier : (disk : Disk) → LeavesEarlier disk (changed disk 1 Synced)
-synced_earlier disk = moves_change (SameBut (λ file. false)) disk 1 Synced (but_same (λ file. false)) (λ image now. (image, image_before disk image now, but_same (λ file. false) image))
+use Rattle.qd_seq.specs.Opening.{IsOpened, Opens}
 
 -- a fault tells nothing, or where the log is damaged
 broken_opened : (cause : LogFault) (after : Disk) → IsBroken (reads_of after 1) cause → IsOpened (Err cause) after
@@ -61,7 +38,7 @@ list_opened disk log spells = (spells, each, knows)
 module _ (T : Type 0) where
   pub opens_not_synced : (old new : Option Disk) (cause answer : IoFault) → Syncs {T = T} {E = IoFault} old new 1 (Err cause) → Told old new (Opens (Err (vol_of answer)))
   opens_not_synced None new cause answer synced = synced
-  opens_not_synced (Some disk) new cause answer synced = (disk, synced, record { found = volume_opened answer disk; reads = λ file. refl; images = moves_still (SameBut (λ file. false)) disk (but_same (λ file. false)) })
+  opens_not_synced (Some disk) new cause answer synced = (disk, synced, record { found = volume_opened answer disk; reads = λ file. refl; images = earlier_still disk })
 
   module _ (old mid new : Option Disk) (done : T) (synced : Syncs {T = T} {E = IoFault} old mid 1 (Ok done)) (same : new ≡ mid) where
     pub opens_broken : (cause : LogFault) → IfSome mid (λ disk. IsBroken (reads_of disk 1) cause) → Told old new (Opens (Err cause))
@@ -75,7 +52,7 @@ module _ (T : Type 0) where
           record {
             found = broken_opened cause (changed disk 1 Synced) (subst (λ m. IfSome m (λ d. IsBroken (reads_of d 1) cause)) is broken);
             reads = sync_reads disk 1;
-            images = synced_earlier disk;
+            images = earlier_synced disk 1;
           },
         )
 
@@ -90,6 +67,6 @@ module _ (T : Type 0) where
           record {
             found = list_opened disk log (subst (λ m. IfSome m (λ d. SpellsLog log.refs (reads_of d 1))) is spells);
             reads = sync_reads disk 1;
-            images = synced_earlier disk;
+            images = earlier_synced disk 1;
           },
         )

@@ -1,9 +1,9 @@
 -- What is found when a log is opened.
-use Rattle.std.specs.Prelude.{◌≡◌, ℕ, false, None, Result, Ok, Err}
+use Rattle.std.specs.Prelude.{◌≡◌, ℕ, None, Result, Ok, Err}
 use Rattle.qd_volume.specs.Disk.{Disk, reads_of}
 use Rattle.qd_durable.specs.declared.fault.LogFault.{LogFault}
 use Rattle.qd_durable.specs.declared.fault.LogFault.TheVariants as fault
-use Rattle.qd_durable.specs.Moments.{EachNow, Moves, SameBut}
+use Rattle.qd_durable.specs.Moments.{EachNow, LeavesEarlier}
 use Rattle.qd_seq.specs.Layout.{GivesList}
 use Rattle.qd_seq.specs.Damage.{IsDamaged}
 use Rattle.qd_seq.specs.States.{Knows, Log}
@@ -14,10 +14,6 @@ IsOpened (Ok log) after = GivesList log.refs (reads_of after) × EachNow after (
 IsOpened (Err (fault.Damaged file at)) after = (file ≡ 1) × IsDamaged (reads_of after 1) at
 IsOpened (Err fault.Vol) after = Unit {0}
 IsOpened (Err fault.Memory) after = Unit {0}
-
--- each image of a call is one from before it
-abbrev pub LeavesEarlier : Disk → Disk → Type 0
-LeavesEarlier before after = Moves (SameBut (λ file. false)) before after
 
 -- The log is synced and read, as it was before the call. At each moment, and whatever is answered, a crash leaves only what one
 -- before the call might have left.

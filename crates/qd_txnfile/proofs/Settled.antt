@@ -1,15 +1,15 @@
 -- Both files synced, and what a root knows of them then.
-use Rattle.std.proofs.Common.{◌≡◌, ◌⊎◌, ℕ, nat_eq, Bool, true, false, cond, List, Option, None, Some, IfSome, Result, Ok, Err, refl, sym, ◌∙◌, subst}
+use Rattle.std.proofs.Common.{◌≡◌, ◌⊎◌, ℕ, List, Option, None, Some, IfSome, Result, Ok, Err, refl, sym, ◌∙◌, subst}
 use Rattle.qd_volume.specs.Calls.{Syncs}
-use Rattle.qd_volume.specs.Files.{IsImageOf, Synced, after_change, settled}
-use Rattle.qd_volume.specs.Disk.{Disk, Image, changed, file_of as file_in, images_now, reads_of}
+use Rattle.qd_volume.specs.Files.{IsImageOf, Synced, settled}
+use Rattle.qd_volume.specs.Disk.{Disk, Image, changed, images_now, reads_of}
 use Rattle.qd_durable.specs.Moments.{EachNow, Told}
 use Rattle.qd_durable.specs.declared.fault.LogFault.{LogFault}
 use Rattle.qd_durable.specs.declared.fault.LogFault.TheVariants as fault
 use Rattle.qd_durable.specs.Faults.{vol_of}
 use Rattle.qd_io.specs.declared.fault.IoFault.{IoFault}
 use Rattle.qd_io.specs.declared.fault.IoFault.TheVariants as io
-use Rattle.qd_durable.proofs.Moved.{touched_synced}
+use Rattle.qd_durable.proofs.Moved.{earlier_both, earlier_still, earlier_synced, sync_reads}
 use Rattle.qd_txnfile.specs.declared.half.Half.{Half}
 use Rattle.qd_txnfile.specs.declared.half.Half.TheVariants.{First, Second}
 use Rattle.qd_txnfile.specs.declared.half.Other.{Other}
@@ -17,24 +17,11 @@ use Rattle.qd_txnfile.specs.declared.half.Other.TheVariants as other
 use Rattle.qd_txnfile.specs.declared.opening.Found.{Found}
 use Rattle.qd_txnfile.specs.Versions.{GivesVersion, HoldsVersion, IsClosed, IsOpenBelow, Version, file_of, limit_of, other_of}
 use Rattle.qd_txnfile.specs.States.{HasNext, IsKnown, Knows}
-use Rattle.qd_txnfile.specs.Calls.{ChangesVersionFiles}
 use Rattle.qd_txnfile.specs.Reading.{IsOtherFound}
 use Rattle.qd_txnfile.specs.Opening.{IsKnownAs, IsOpened, IsRead, Opens, Settles, version_of}
 use Rattle.qd_txnfile.proofs.Files.{behind_gate}
-use Rattle.qd_txnfile.proofs.Steps.{elsewhere_both, elsewhere_of, elsewhere_still}
 
--- a sync changes nothing that is read
-sync_reads : (disk : Disk) (file other : ℕ) → reads_of (changed disk file Synced) other ≡ reads_of disk other
-sync_reads disk file other = by (nat_eq file other)
-  where
-    by : (same : Bool) → (cond same (after_change (file_in disk other) Synced) (file_in disk other)).reads ≡ reads_of disk other
-    by true = refl
-    by false = refl
-
--- the first file was synced
-half_settled : (disk : Disk) → ChangesVersionFiles disk (changed disk 2 Synced)
-half_settled disk = elsewhere_of First 0 0 disk (changed disk 2 Synced) (touched_synced disk 2 0 0)
-
+-- both files were synced
 both_settled : (disk : Disk) (image : Image) → images_now (changed (changed disk 2 Synced) 3 Synced) image → (image 2 ≡ reads_of disk 2) × (image 3 ≡ reads_of disk 3)
 both_settled disk image now =
     let first : IsImageOf (settled (reads_of disk 2)) (image 2) = now 2 in
@@ -44,13 +31,13 @@ both_settled disk image now =
 module _ (T U E : Type 0) where
   pub settle_failed : (old new : Option Disk) (fault answer : E) → Syncs {T = T} {E = E} old new 2 (Err fault) → Told old new (Settles {T = U} {E = E} (Err answer))
   settle_failed None new fault answer synced = synced
-  settle_failed (Some disk) new fault answer synced = (disk, synced, record { settled = tt; reads = λ file. refl; elsewhere = elsewhere_still disk })
+  settle_failed (Some disk) new fault answer synced = (disk, synced, record { settled = tt; reads = λ file. refl; images = earlier_still disk })
 
   pub settle_both : (old mid new : Option Disk) (done : T) (result : Result U E) → Syncs {T = T} {E = E} old mid 2 (Ok done) → Syncs mid new 3 result → Told old new (Settles result)
   settle_both None mid new done result first second = subst (λ m. Syncs m new 3 result) first second
   settle_both (Some disk) mid new done (Err fault) first second =
       let late : new ≡ Some (changed disk 2 Synced) = subst (λ m. Syncs {T = U} {E = E} m new 3 (Err fault)) first second in
-      (changed disk 2 Synced, late, record { settled = tt; reads = sync_reads disk 2; elsewhere = half_settled disk })
+      (changed disk 2 Synced, late, record { settled = tt; reads = sync_reads disk 2; images = earlier_synced disk 2 })
   settle_both (Some disk) mid new done (Ok answer) first second =
       let once = changed disk 2 Synced in
       let twice = changed once 3 Synced in
@@ -60,7 +47,7 @@ module _ (T U E : Type 0) where
         record {
           settled = both_settled disk;
           reads = λ file. sync_reads once 3 file ∙ sync_reads disk 2 file;
-          elsewhere = elsewhere_both disk once twice (half_settled disk) (elsewhere_of Second 0 0 once twice (touched_synced once 3 0 0));
+          images = earlier_both disk once twice (earlier_synced disk 2) (earlier_synced once 3);
         },
       )
 
@@ -112,7 +99,7 @@ module _ (before after : Disk) (reads : (file : ℕ) → reads_of after file ≡
 module _ (T : Type 0) where
   pub opens_not_settled : (old new : Option Disk) (cause answer : IoFault) → Told old new (Settles {T = T} {E = IoFault} (Err cause)) → Told old new (Opens (Err (vol_of answer)))
   opens_not_settled None new cause answer told = told
-  opens_not_settled (Some disk) new cause answer told = (told.0, told.1, record { found = by answer; reads = told.2.reads; elsewhere = told.2.elsewhere })
+  opens_not_settled (Some disk) new cause answer told = (told.0, told.1, record { found = by answer; reads = told.2.reads; images = told.2.images })
     where
       by : (answer : IoFault) → IsOpened (Err (vol_of answer)) told.0
       by io.Failed = tt
@@ -122,4 +109,4 @@ module _ (T : Type 0) where
   opens_read None mid new done result told same read = same ∙ told
   opens_read (Some disk) mid new done result told same read =
       let is : IsRead result told.0 = subst (λ m. IfSome m (λ d. IsRead result d)) told.1 read in
-      (told.0, same ∙ told.1, record { found = opened_by disk told.0 told.2.reads told.2.settled result is; reads = told.2.reads; elsewhere = told.2.elsewhere })
+      (told.0, same ∙ told.1, record { found = opened_by disk told.0 told.2.reads told.2.settled result is; reads = told.2.reads; images = told.2.images })

@@ -4,12 +4,11 @@ use Rattle.qd_volume.specs.Disk.{Disk, reads_of}
 use Rattle.qd_durable.specs.declared.fault.LogFault.{LogFault}
 use Rattle.qd_durable.specs.declared.fault.LogFault.TheVariants as fault
 use Rattle.qd_txnfile.specs.declared.opening.Found.{Found}
-use Rattle.qd_durable.specs.Moments.{EachNow}
+use Rattle.qd_durable.specs.Moments.{EachNow, LeavesEarlier}
 use Rattle.qd_txnfile.specs.Versions.{GivesFrom, GivesVersion, Version, file_of, limit_of, other_of}
 use Rattle.qd_txnfile.specs.Reading.{IsOtherFound}
 use Rattle.qd_txnfile.specs.Damage.{IsDamaged}
 use Rattle.qd_txnfile.specs.States.{Knows}
-use Rattle.qd_txnfile.specs.Calls.{ChangesVersionFiles}
 
 -- the version that was found
 abbrev pub version_of : Found → Version
@@ -22,12 +21,13 @@ IsOpened (Err (fault.Damaged file at)) after = IsDamaged (reads_of after) file a
 IsOpened (Err fault.Vol) after = Unit {0}
 IsOpened (Err fault.Memory) after = Unit {0}
 
--- The files are synced and read, as they were before the call.
+-- The files are synced and read, as they were before the call. At each moment, and whatever is answered, a crash leaves only what
+-- one before the call might have left.
 pub record Opens (result : Result Found LogFault) (before after : Disk) : Type 0 where
   pub found : IsOpened result after
   -- what each file reads stays
   pub reads : (file : ℕ) → reads_of after file ≡ reads_of before file
-  pub elsewhere : ChangesVersionFiles before after
+  pub images : LeavesEarlier before after
 
 -- Both files are synced.
 abbrev pub AreSettled : {T E : Type 0} → Result T E → Disk → Disk → Type 0
@@ -37,7 +37,7 @@ AreSettled (Err fault) before after = Unit {0}
 pub record Settles {T E : Type 0} (result : Result T E) (before after : Disk) : Type 0 where
   pub settled : AreSettled result before after
   pub reads : (file : ℕ) → reads_of after file ≡ reads_of before file
-  pub elsewhere : ChangesVersionFiles before after
+  pub images : LeavesEarlier before after
 
 -- the files as they read are those of the root
 abbrev pub IsKnownAs : Found → Disk → Type 0

@@ -29,9 +29,9 @@ impl TxnFile {
     /// Opens the version files: it syncs both and reads the version that they give. It costs two syncs and at most four reads,
     /// and time and memory linear in the manifest; no memory is taken for bytes that aren't there.
     ///
-    /// After an `Ok` a crash leaves only that version. An `Err` is [`LogFault::Damaged`] exactly where the files give no version,
-    /// at the first byte of the first field that breaks the layout, or at a file's length where bytes are missing. What files read
-    /// stays as it was, whatever is answered.
+    /// At every moment, and whatever is answered, a crash leaves only what it might have left before the call, and after an `Ok`
+    /// only that version. What files read stays as it was. An `Err` is [`LogFault::Damaged`] exactly where the files give no
+    /// version, at the first byte of the first field that breaks the layout, or at a file's length where bytes are missing.
     pub fn open_versions<V: Volume>(alloc: Global, volume: &mut V) -> Result<Found, LogFault>
         ensures told { Told (V.storage volume.old).disk (V.storage volume.new).disk (Opens result) }
 

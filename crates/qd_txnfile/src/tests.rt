@@ -2,7 +2,8 @@
 use super::*;
 use qd_io::IoFault;
 use qd_volume::{FuseVolume, MemVolume, Volume};
-use std::alloc::Global;
+use std::alloc::{AllocGlobal, Global};
+use std::process::Abort;
 use std::test::Fail;
 
 /// Makes a version the current one, as a store does: it repairs first where that is due.
@@ -30,28 +31,106 @@ fn with_two(alloc: Global, fails: &[u64]) -> Result<(MemVolume, TxnFile), IoFaul
     Ok((volume, root))
 }
 
-/// What a crash leaves of a change to version 7 that is stopped behind some calls: the number of the version, and the first byte
-/// of its manifest.
-fn left_behind(alloc: Global, passes: u64, pick: u64) -> Result<(u64, u8), LogFault> {
-    let (volume, mut root) = with_two(alloc, &[])?;
+/// What is stopped: the making of version files, a change to version 7, or the repair or an opening after the last sync of that
+/// change failed.
+#[derive(Clone, Copy)]
+enum Call {
+    Create,
+    Change,
+    Repair,
+    Open,
+}
+
+/// The volume that a call begins with, and the root over it.
+fn before(alloc: Global, call: Call) -> Result<(MemVolume, TxnFile), IoFault> {
+    let (mut volume, mut root) = with_two(alloc, &[16])?;
+    match call {
+        Call::Create => volume = MemVolume::new(alloc, &[])?,
+        Call::Change => volume = with_two(alloc, &[])?.0,
+        Call::Repair | Call::Open => {
+            let _failed = change(&mut root, &mut volume, 7, b"more");
+        }
+    }
+    Ok((volume, root))
+}
+
+/// What a crash leaves of a call that is stopped behind some device calls: the number of the version, and the first byte of its
+/// manifest.
+fn left_behind(alloc: Global, call: Call, passes: u64, pick: u64) -> Result<(u64, u8), LogFault> {
+    let (volume, mut root) = before(alloc, call)?;
     let mut fuse = FuseVolume::new(volume, passes);
-    let _outcome = change(&mut root, &mut fuse, 7, b"more");
+    let _done = match call {
+        Call::Create => TxnFile::create(&mut fuse, b"none").is_ok(),
+        Call::Change => change(&mut root, &mut fuse, 7, b"more").is_ok(),
+        Call::Repair => root.repair(&mut fuse).is_ok(),
+        Call::Open => TxnFile::open_versions(alloc, &mut fuse).is_ok(),
+    };
     let mut left = fuse.into_inner().crash(pick)?;
     let found = TxnFile::open_versions(alloc, &mut left)?;
     let first = found.manifest.bytes().first().copied().unwrap_or(0);
     Ok((found.n, first))
 }
 
+/// The first byte of a version's manifest; 0 where it is no version.
+fn first_of(n: u64) -> u8 {
+    match n {
+        0 => b'n',
+        5 => b't',
+        7 => b'm',
+        _ => 0,
+    }
+}
+
+/// Compares what a call leaves, by the picks 0, 1 and 2, with the number of a version, 0, 5 or 7, or of the file that is damaged
+/// at its start, 2 or 3.
+fn leaves(
+    rt: &(impl Abort + AllocGlobal),
+    call: Call,
+    passes: u64,
+    wanted: [u64; 3],
+) -> Result<(), Fail> {
+    for pick in 0..3 {
+        let left = match left_behind(rt.alloc(), call, passes, pick) {
+            Err(LogFault::Damaged { file, at: 0 }) => (file, 0),
+            other => other?,
+        };
+        let n = wanted[pick as usize];
+        assert_eq!(rt; left, (n, first_of(n)));
+    }
+    Ok(())
+}
+
+#[test]
+fn creations_stopped_at_each_call(rt: HostRuntime) -> Result<(), Fail> {
+    // The calls are: head, manifest, sync; gate, sync.
+    leaves(&rt, Call::Create, 0, [2, 2, 2])?;
+    leaves(&rt, Call::Create, 1, [2, 3, 3])?;
+    leaves(&rt, Call::Create, 2, [2, 3, 3])?;
+    leaves(&rt, Call::Create, 3, [3, 3, 3])?;
+    leaves(&rt, Call::Create, 4, [3, 0, 0])?;
+    leaves(&rt, Call::Create, 5, [0, 0, 0])
+}
+
 #[test]
 fn changes_stopped_at_each_call(rt: HostRuntime) -> Result<(), Fail> {
     // The calls are: gate, sync; head, manifest, sync; gate, sync.
-    for passes in 0..9 {
-        for pick in 0..3 {
-            let left = left_behind(rt.alloc(), passes, pick);
-            let is_new = passes > 6 || (passes == 6 && pick == 1);
-            let wanted = if is_new { (7, b'm') } else { (5, b't') };
-            assert_eq!(rt; left, Ok(wanted));
-        }
+    for passes in 0..6 {
+        leaves(&rt, Call::Change, passes, [5, 5, 5])?;
+    }
+    leaves(&rt, Call::Change, 6, [5, 7, 5])?;
+    leaves(&rt, Call::Change, 7, [7, 7, 7])
+}
+
+#[test]
+fn repairs_and_openings_stopped_at_each_call(rt: HostRuntime) -> Result<(), Fail> {
+    // A repair's calls are: gate, sync.
+    leaves(&rt, Call::Repair, 0, [5, 7, 5])?;
+    leaves(&rt, Call::Repair, 1, [5, 5, 5])?;
+    leaves(&rt, Call::Repair, 2, [5, 5, 5])?;
+    // Those of an opening: two syncs, three reads and a length.
+    leaves(&rt, Call::Open, 0, [5, 7, 5])?;
+    for passes in 1..7 {
+        leaves(&rt, Call::Open, passes, [7, 7, 7])?;
     }
     Ok(())
 }

@@ -22,6 +22,9 @@ pub type ReadFault = LogFault;
 ///
 /// An `Err` is [`LogFault::Damaged`] exactly where the bytes there spell no transaction: at the first byte of the first
 /// field that breaks the layout, or at the file's length where bytes are missing. What the volume holds stays as it was.
+///
+/// The file is the one that [`segment_file`] names, whatever the segment's number is. No place that a log of references gives
+/// has one of 2^24 or more, which would name a later log's segment: such a log is damaged.
 pub fn read_entry<V: Volume>(alloc: Global, volume: &mut V, at: WalRef) -> Result<Entry, ReadFault>
     ensures told { IfSome (V.storage volume.old).disk (λ disk. IsEntryRead result at (reads_of disk (file_in at))) }
     ensures stays { (V.storage volume.new).disk ≡ (V.storage volume.old).disk }

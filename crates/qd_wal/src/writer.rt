@@ -80,7 +80,8 @@ impl WalWriter {
     }
 }
 
-/// The number of the file that holds a segment of a log.
+/// The number of the file that holds a segment of a log. Segments have numbers below 2^24: from there on it is the file of a
+/// later log's segment.
 pub fn segment_file(wal: u32, segment: u32) -> u64
     ensures number { result ≡ segment_file wal segment }
 {

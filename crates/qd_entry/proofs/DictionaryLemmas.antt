@@ -1,9 +1,10 @@
 -- Texts in order of first use: which are there, and what their positions are.
-use Rattle.std.proofs.Common.{◌≡◌, ℕ, zero, suc, ◌+◌, ◌<◌, ◌≤◌, max, inl, inr, Bool, true, false, not, cond, ltb, List, [], ◌∷◌, ◌++◌, length, take, drop, get_or, refl, sym, ap, ◌∙◌, subst, arith, append_assoc, append-nil, length-append}
+use Rattle.std.proofs.Common.{◌≡◌, ℕ, zero, suc, ◌+◌, ◌<◌, ◌≤◌, max, inl, inr, Bool, true, false, not, cond, ltb, List, [], ◌∷◌, ◌++◌, length, take, drop, get_or, slice_get, Some, refl, sym, ap, ◌∙◌, subst, arith, append_assoc, append-nil, length-append}
 use Rattle.std.specs.List.{IsDistinct}
 use Rattle.std.proofs.lemmas.Bool.{cases_lt}
 use Rattle.std.proofs.lemmas.Cmp.{nat_list_eq_equiv}
 use Rattle.std.proofs.lemmas.List.{get_or-take, take-append-drop, take_more, length-take-le, get_or_append_left}
+use Rattle.std.proofs.lemmas.Option.{get_or_from_slice_get}
 use Rattle.std.proofs.lemmas.List.Elements.{All-from_recursion}
 use Rattle.std.proofs.lemmas.List.Sums.{fold-append}
 use Rattle.qd_base.specs.Dictionary.{same_text, id_for, with_text, AreDistinct}
@@ -102,6 +103,13 @@ id_of_place (x ∷ xs) (suc k) h lt =
     let other : same_text x (get_or xs k []) ≡ false = (All-from_recursion (λ y. same_text x y ≡ false) xs h.0) k [] (omega arith) in
     let turned : same_text (get_or xs k []) x ≡ false = nat_list_eq_equiv.symm (get_or xs k []) x ∙ other in
     rw turned (let e = id_of_place xs k h.1 (omega arith) in omega arith)
+
+-- a text that stands at a place of distinct texts has its number, and joins none
+pub found_there : (texts : Texts) (id : ℕ) (t : List ℕ) → AreDistinct texts → id < length texts → slice_get texts id ≡ Some t → (id ≡ id_for texts t) × (texts ≡ with_text texts t)
+found_there texts id t distinct lt is =
+    let at : get_or texts id [] ≡ t = get_or_from_slice_get texts id t [] is in
+    let place : id_for texts t ≡ id = subst (λ u. id_for texts u ≡ id) at (id_of_place texts id distinct lt) in
+    (sym place, sym (with_text-there texts t (omega arith)))
 
 -- where some of distinct texts were used, one of them or the next is used
 pub next_used : (texts : Texts) (m id : ℕ) → AreDistinct texts → id ≤ m → max m (id + 1) ≤ length texts → with_text (take m texts) (get_or texts id []) ≡ take (max m (id + 1)) texts

@@ -10,8 +10,9 @@ ghost use Rattle.qd_fields.specs.Spelling.{u32_bytes, u16_bytes, u64_bytes, name
 ghost use Rattle.qd_entry.specs.Spelling.{text_of, texts_of_row, texts_of_op, with_texts, width_of, cell_bytes, row_bytes, rows_bytes, op_bytes, FitsCell, FitsRow, FitsRows, FitsOp};
 ghost use Rattle.qd_entry.specs.Writing.{Adds, AreShort, FewWith};
 
+use crate::recent::Recent;
 use qd_base::{Cell, Col, Memory, Op, Row, Schema, Txt};
-use qd_fields::{push_column, push_name, push_schema, push_text, push_u16, push_u32, push_u64};
+use qd_fields::{push_column, push_name, push_schema, push_text, push_u16, push_u32};
 use qd_symbols::SymbolMap;
 use std::alloc::Global;
 use std::marker::Model;
@@ -20,6 +21,8 @@ use std::marker::Model;
 #[derive(Drop)]
 pub(crate) struct EntryDraft {
     texts: SymbolMap,
+    /// Where the texts that came last stand: most texts come again, and are found there without a hash.
+    recent: Recent,
     /// The bytes of the changes.
     body: Vec<u8>,
 }
@@ -41,6 +44,7 @@ impl EntryDraft {
     {
         Ok(EntryDraft {
             texts: SymbolMap::new(alloc)?,
+            recent: Recent::new(),
             body: Vec::new(alloc),
         })
     }
@@ -225,8 +229,7 @@ impl EntryDraft {
         ensures body { OnOk result (self.new.body ≡ self.old.body ++ (code ∷ u64_bytes number)) }
         ensures same { self.new.texts ≡ self.old.texts }
     {
-        self.body.push(code)?;
-        push_u64(&mut self.body, number)
+        self.body.extend_from_slice(&number_cell(code, number))
     }
 
     /// Adds a cell with a text.
@@ -246,8 +249,7 @@ impl EntryDraft {
         ensures body { OnOk result (self.new.body ≡ self.old.body ++ (4 ∷ u32_bytes id)) }
         ensures same { self.new.texts ≡ self.old.texts }
     {
-        self.body.push(4)?;
-        push_u32(&mut self.body, id)
+        self.body.extend_from_slice(&text_cell(id))
     }
 
     /// Gives the position of a text, which joins the others where it isn't among them.
@@ -258,8 +260,39 @@ impl EntryDraft {
         ensures body { self.new.body ≡ self.old.body }
         ensures err { OnErr result (self.new.texts ≡ self.old.texts) }
     {
-        self.texts.intern(text)
+        let guess = self.recent.guess(text);
+        if stands_at(&self.texts, guess, text) {
+            return Ok(guess);
+        }
+        let id = self.texts.intern(text)?;
+        self.recent.note(text, id);
+        Ok(id)
     }
+}
+
+/// Whether a text stands at a position.
+fn stands_at(texts: &SymbolMap, id: u64, text: &[u8]) -> bool
+    ensures there { IsTrue result → (id ≡ id_for texts.now text.now) × (texts.now ≡ with_text texts.now text.now) }
+{
+    id < texts.len() && texts.text_of(id) == text
+}
+
+/// A cell that is a code and a number.
+fn number_cell(code: u8, number: u64) -> [u8; 9]
+    ensures bytes { result ≡ code ∷ u64_bytes number }
+{
+    let mut cell = [code; 9];
+    cell[1..].copy_from_slice(&number.to_le_bytes());
+    cell
+}
+
+/// The cell with the text at a position.
+fn text_cell(id: u32) -> [u8; 5]
+    ensures bytes { result ≡ 4 ∷ u32_bytes id }
+{
+    let mut cell = [4; 5];
+    cell[1..].copy_from_slice(&id.to_le_bytes());
+    cell
 }
 
 /// Adds the number of texts, and the texts.

@@ -13,6 +13,7 @@ mod pieces;
 mod plain;
 mod read;
 mod reader;
+mod recent;
 #[cfg(test)]
 mod tests;
 mod texts;

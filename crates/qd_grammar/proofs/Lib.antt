@@ -15,3 +15,4 @@ pub mod QueryExact
 pub mod ShownExact
 pub mod WholeExact
 pub mod Decided
+pub mod Sizes

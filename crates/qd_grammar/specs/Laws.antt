@@ -1,7 +1,9 @@
 -- What holds of every list of tokens, and of every text.
-use Rattle.std.specs.Prelude.{◌≡◌, ℕ, ◌⊎◌, ◌↔◌, true, false, List, [], ◌∷◌, ◌++◌, length, None}
+use Rattle.std.specs.Prelude.{◌≡◌, ◌≤◌, ◌*◌, ℕ, ◌⊎◌, ◌↔◌, true, false, List, [], ◌∷◌, ◌++◌, length, None}
 use Rattle.qd_base.specs.declared.code.Code.TheVariants as code
+use Rattle.qd_trees.specs.declared.tree.Insert.{Insert}
 use Rattle.qd_trees.specs.declared.tree.Stmt.{Stmt}
+use Rattle.qd_trees.specs.declared.tree.Stmt.TheVariants as is
 use Rattle.qd_tokens.specs.declared.token.Kind.TheVariants as kind
 use Rattle.qd_tokens.specs.Tokens.{Lexeme, tokens}
 use Rattle.qd_trees.specs.Steps.{same_kind}
@@ -51,3 +53,7 @@ pub record PlacesAreExact : Type 0 where
   pub refused : (text : List ℕ) (place : ℕ) → is_unbuilt (tokens text) ≡ false → StopsAt (tokens text) (length text) place
       → IsRefused text code.SqlSyntax place ⊎ IsTooDeep text
   pub bad_token : (front : List Lexeme) (t : Lexeme) → same_kind t.kind kind.Bad ≡ true → CanGoOnDeep (front ++ t ∷ []) → ⊥
+
+-- An INSERT has no more rows than a quarter of its text's bytes: each row is a bracket, a literal, a bracket and a comma at least.
+abbrev pub InsertsAreShort : Type 0
+InsertsAreShort = (text : List ℕ) (i : Insert) → IsStatement text (is.Insert i) → 4 * length i.tuples ≤ length text

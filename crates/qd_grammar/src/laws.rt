@@ -1,6 +1,6 @@
 //! Laws of the grammar: each holds for all lists of tokens and all texts, and is the contract of a function that does
 //! nothing.
-ghost use Rattle.qd_grammar.specs.Laws.{GrammarDecides, PlacesAreExact};
+ghost use Rattle.qd_grammar.specs.Laws.{GrammarDecides, InsertsAreShort, PlacesAreExact};
 
 /// A list of tokens is one statement by the grammar or none, and a text is a statement exactly where its tokens are that
 /// one; no text that is refused has one.
@@ -12,4 +12,9 @@ pub fn grammar_decides()
 /// it they begin none; at its length, where all its tokens do.
 pub fn places_are_exact()
     ensures law { PlacesAreExact }
+{}
+
+/// An INSERT has no more rows than a quarter of its text's bytes.
+pub fn inserts_are_short()
+    ensures law { InsertsAreShort }
 {}

@@ -4,4 +4,4 @@
 
 mod laws;
 
-pub use laws::{grammar_decides, places_are_exact};
+pub use laws::{grammar_decides, inserts_are_short, places_are_exact};

@@ -20,8 +20,8 @@ pub(super) fn csv_len(table: &Table) -> usize
     len
 }
 
-/// The length of the line of the columns' names.
-fn header_len(cols: &[Col]) -> usize
+/// The length of the line of the columns' names. It costs time linear in the names.
+pub fn header_len(cols: &[Col]) -> usize
     ensures { result
         ≡ min (length (csv_line (map (λ (c : Col). csv_text c.name) cols.now))) usize.MAX }
 {
@@ -50,7 +50,7 @@ fn cell_len(cell: &Cell) -> usize
 {
     match cell {
         Cell::Null => 0,
-        Cell::Long(value) => signed_len(*value),
+        Cell::Long(value) => long_len(*value),
         Cell::Bool(true) => 4,
         Cell::Bool(false) => 5,
         Cell::Text(text) => text_len(text.bytes()),
@@ -58,8 +58,8 @@ fn cell_len(cell: &Cell) -> usize
     }
 }
 
-/// The length of a text, with its quotes.
-fn text_len(text: &[u8]) -> usize
+/// The length of a text, with its quotes. It costs time linear in the text.
+pub fn text_len(text: &[u8]) -> usize
     ensures { result ≡ min (length (csv_text text.now)) usize.MAX }
 {
     if is_quoted(text) {
@@ -76,7 +76,8 @@ fn quotes_in(text: &[u8]) -> usize
     text.iter().filter(|b| **b == b'"').count()
 }
 
-fn signed_len(n: i64) -> usize
+/// The length of a LONG in decimal, with its sign.
+pub fn long_len(n: i64) -> usize
     ensures { result ≡ length (signed_decimal n) }
 {
     let digits = decimal_len(n.unsigned_abs());

@@ -13,6 +13,7 @@ mod tests;
 
 use itoa::{Buffer, Integer};
 use lengths::csv_len;
+pub use lengths::{header_len, long_len, text_len};
 use qd_base::{Cell, Col, MAX_TIME, Memory, Reply, Row, Table, Txt};
 use qd_time::print_time;
 use std::alloc::Global;

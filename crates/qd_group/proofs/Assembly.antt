@@ -1,10 +1,10 @@
 -- The rows of groups, put together.
-use Rattle.std.proofs.Common.{◌≡◌, ℕ, zero, suc, ◌+◌, ◌<◌, ◌≤◌, Bool, true, false, cond, eqb, List, [], ◌∷◌, ◌++◌, length, map, take, filter, get_or, refl, sym, ap, ap₂, ◌∙◌, arith, subst, All, slice_get}
-use Rattle.std.specs.Prelude.{◌&&◌, Option, Some, None}
+use Rattle.std.proofs.Common.{◌≡◌, ℕ, zero, suc, ◌+◌, ◌<◌, Bool, true, false, List, [], ◌∷◌, ◌++◌, length, map, take, get_or, refl, sym, ap, ap₂, ◌∙◌, arith, All, slice_get}
+use Rattle.std.specs.Prelude.{◌&&◌, Some}
 use Rattle.std.specs.List.{range_with_len}
 use Rattle.std.specs.Cmp.{IsEquivalence, unsigned_tied}
 use Rattle.std.specs.Cmp.Lexicographic.{texts_ties}
-use Rattle.std.specs.Ordering.{nat_cmp, int_cmp, bool_cmp, is_eq, ordering_then}
+use Rattle.std.specs.Ordering.{nat_cmp, bool_cmp, is_eq, ordering_then}
 use Rattle.std.specs.declared.cmp.Ordering.{Ordering}
 use Rattle.std.specs.declared.cmp.Ordering.TheVariants.{Less, Equal, Greater}
 use Rattle.std.proofs.lemmas.Cmp.{on_equiv}
@@ -26,16 +26,13 @@ use Rattle.qd_meaning.specs.declared.parts.GroupSpec.{GroupSpec}
 use Rattle.qd_meaning.specs.Grouped.{aggregate, aggregates, distinct, grouped, groups_of, key_of, rows_of, same_key}
 use Rattle.qd_group.specs.declared.keys.Key.{Key}
 use Rattle.qd_group.specs.declared.keys.Key.TheVariants as key
-use Rattle.qd_group.specs.contracts.keys.KeyOrd.TheImpl as key_ord
 use Rattle.qd_group.specs.Keys.{lent}
+pub use Rattle.qd_group.specs.Numbering.{key_cmp}
 use Rattle.qd_group.specs.Grouping.{answers_of, members, same_items, same_numbers, same_rows, same_values, AreGroups}
-use Rattle.qd_group.proofs.Leaders.{first_below, groups_turned, number_below, tells, told}
+use Rattle.qd_group.proofs.Leaders.{first_below, groups_turned, tells, told}
 use Rattle.qd_group.proofs.Distincts.{cells_equiv, keys_equiv, leaders_distinct, members-filter}
 
 -- ---- keys
-
-abbrev pub key_cmp : Key → Key → Ordering
-key_cmp = (key_ord.ghosts).cmp
 
 truths_tied : (x y : Bool) → is_eq (bool_cmp x y) ≡ cell_eq (cell.Bool x) (cell.Bool y)
 truths_tied true true = refl
@@ -155,7 +152,7 @@ next_key keys i k s n ns fs more_ns more_fs given further both_ns both_fs low is
 abbrev pub row_of_group : List Bound → List Agg → List ℕ → List ℕ → ResultRows → ℕ → Row
 row_of_group keys aggs ns fs s n = key_of keys (row_in s (get_or fs n 0)) ++ aggregates aggs (members n ns (rows_in s))
 
-key_rows : (keys : List Bound) (s : ResultRows) (i : ℕ) → i < length (rows_in s) → get_or (map (key_of keys) (rows_in s)) i [] ≡ key_of keys (row_in s i)
+pub key_rows : (keys : List Bound) (s : ResultRows) (i : ℕ) → i < length (rows_in s) → get_or (map (key_of keys) (rows_in s)) i [] ≡ key_of keys (row_in s i)
 key_rows keys s i low = get_or-map (key_of keys) (rows_in s) i [] [] low
 
 groups_some : (keys : List Bound) (rows : List Row) → 0 < length keys → groups_of keys rows ≡ distinct (map (key_of keys) rows)
@@ -164,7 +161,7 @@ groups_some (k ∷ ks) rows some = refl
 
 module _ (keys : List Bound) (s : ResultRows) (ns fs : List ℕ) (are : AreGroups (same_rows keys s) (length s.places) ns fs) where
   -- the groups' keys are those of their first rows
-  heads : map (λ i. get_or (map (key_of keys) (rows_in s)) i []) fs ≡ distinct (map (key_of keys) (rows_in s))
+  pub heads : map (λ i. get_or (map (key_of keys) (rows_in s)) i []) fs ≡ distinct (map (key_of keys) (rows_in s))
   heads =
       let all : List Row = map (key_of keys) (rows_in s) in
       let size : length (map (key_of keys) (rows_in s)) ≡ length s.places = length-map (rows_in s) (key_of keys) ∙ length_rows s in

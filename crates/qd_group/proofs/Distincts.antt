@@ -1,13 +1,12 @@
 -- The distinct ones of some keys, from the front, and the rows of a group.
 use Rattle.std.proofs.Common.{◌≡◌, ℕ, zero, suc, ◌+◌, ◌<◌, ◌≤◌, Bool, true, false, cond, eqb, List, [], ◌∷◌, ◌++◌, length, map, filter, take, get_or, refl, sym, ap, ap₂, ◌∙◌, arith, add-one}
-use Rattle.std.specs.Prelude.{not, ◌||◌, ◌&&◌}
+use Rattle.std.specs.Prelude.{not, ◌||◌}
 use Rattle.std.specs.List.{list_any}
 use Rattle.std.specs.Cmp.{IsEquivalence}
 use Rattle.std.proofs.lemmas.Bool.Decides.{same_from_decides, Decides-like}
 use Rattle.std.proofs.lemmas.Cmp.{lists_equiv}
 use Rattle.std.proofs.lemmas.List.{append-nil, length-take-le, take_more, map-append}
 use Rattle.std.proofs.lemmas.List.Elements.{filter-append}
-use Rattle.qd_base.specs.declared.cell.Cell.{Cell}
 use Rattle.qd_base.specs.Rows.{Row, cell_eq}
 use Rattle.qd_value.proofs.Orders.{cells-equal}
 use Rattle.qd_meaning.specs.Grouped.{distinct, same_key}

@@ -5,3 +5,8 @@ pub mod Distincts
 pub mod Bests
 pub mod TallyLemmas
 pub mod Assembly
+pub mod SumLemmas
+pub mod SymbolLemmas
+pub mod RunLemmas
+pub mod ExtremeLemmas
+pub mod GroupTallies

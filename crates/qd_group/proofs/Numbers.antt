@@ -11,13 +11,13 @@ use Rattle.std.proofs.lemmas.Bool.{eq-eqb, ne_eqb, cond-true, cond-false}
 use Rattle.std.proofs.lemmas.List.{get_or_default, length_push}
 use Rattle.std.proofs.lemmas.Cmp.{tied_itself}
 use Rattle.qd_group.specs.Grouping.{same_items, spot, AreGroups}
+use Rattle.qd_group.specs.Numbering.{Knows}
 use Rattle.qd_group.proofs.Leaders.{groups_none, groups_more}
 use Rattle.qd_group.proofs.Spots.{or_last, spot-push, spot-some}
 
--- the number of each key is the position among the first ones of the one that is equal to it
-pub record Knows {K : Type 0} (cmp : K → K → Ordering) (m : BTreeMap K ℕ) (keys : List K) (d : K) (firsts : List ℕ) : Type 0 where
-  pub found : (q : K) → get cmp m q ≡ spot (λ f. is_eq (cmp (get_or keys f d) q)) firsts
-  pub count : btree_map_len m ≡ length firsts
+-- the item of a place is equal to a key
+abbrev pub is_item_of : {K : Type 0} → (K → K → Ordering) → List K → K → ℕ → K → Bool
+is_item_of cmp keys d f q = is_eq (cmp (get_or keys f d) q)
 
 equal_of : (o : Ordering) → is_eq o ≡ true → o ≡ Equal
 equal_of Less e = cc
@@ -28,8 +28,8 @@ lookup_same : {K X : Type 0} (p q : K → Bool) → ((k : K) → p k ≡ q k) �
 lookup_same p q same [] = refl
 lookup_same p q same (e ∷ es) = ap (λ b. cond b (Some e.1) (lookup p es)) (same e.0) ∙ ap (λ r. cond (q e.0) (Some e.1) r) (lookup_same p q same es)
 
-pub knows_none : {K : Type 0} (cmp : K → K → Ordering) (m : BTreeMap K ℕ) (keys : List K) (d : K) → m.entries ≡ [] → Knows cmp m keys d []
-knows_none cmp m keys d empty = record { found = λ q. ap (lookup (is_at (cmp q))) empty; count = ap length empty }
+pub knows_none : {K : Type 0} (cmp : K → K → Ordering) (m : BTreeMap K ℕ) (tells : ℕ → K → Bool) → m.entries ≡ [] → Knows cmp m tells []
+knows_none cmp m tells empty = record { found = λ q. ap (lookup (is_at (cmp q))) empty; count = ap length empty }
 
 module _ {K : Type 0} (cmp : K → K → Ordering) (total : IsTotalOrder cmp) where
   -- equal keys find the same
@@ -44,36 +44,49 @@ module _ {K : Type 0} (cmp : K → K → Ordering) (total : IsTotalOrder cmp) wh
       by true e = sym (got_same m key q e) ∙ at
       by false e = refl
 
-  -- one key more
-  pub knows_more : (old new : BTreeMap K ℕ) (keys : List K) (d key : K) (i number : ℕ) (fs more_fs : List ℕ) → key ≡ get_or keys i d → Knows cmp old keys d fs → number ≡ unwrap_or (get cmp old key) (btree_map_len old)
-      → ((q : K) → get cmp new q ≡ cond (is_at (cmp key) q) (Some number) (get cmp old q)) → btree_map_len new ≡ btree_map_len old + cond (is_some (get cmp old key)) 0 1
-      → more_fs ≡ cond (eqb number (length fs)) (fs ++ i ∷ []) fs → Knows cmp new keys d more_fs
-  knows_more old new keys d key i number fs more_fs key_is knows number_is known count fs_is = by (get cmp old key) refl number_is count
+  -- what is known stays known
+  pub known_kept : (old new : BTreeMap K ℕ) (key q : K) (number n : ℕ) → number ≡ unwrap_or (get cmp old key) (btree_map_len old) → ((p : K) → get cmp new p ≡ cond (is_at (cmp key) p) (Some number) (get cmp old p))
+      → get cmp old q ≡ Some n → get cmp new q ≡ Some n
+  known_kept old new key q number n number_is known at = by (is_at (cmp key) q) refl
     where
-      by : (o : Option ℕ) → get cmp old key ≡ o → number ≡ unwrap_or o (btree_map_len old) → btree_map_len new ≡ btree_map_len old + cond (is_some o) 0 1 → Knows cmp new keys d more_fs
+      by : (b : Bool) → is_at (cmp key) q ≡ b → get cmp new q ≡ Some n
+      by true e = known q ∙ ap (λ b. cond b (Some number) (get cmp old q)) e ∙ ap Some (number_is ∙ ap (λ o. unwrap_or o (btree_map_len old)) (got_same old key q e ∙ at))
+      by false e = known q ∙ ap (λ b. cond b (Some number) (get cmp old q)) e ∙ at
+
+  -- a key that was added is known
+  pub known_itself : (old new : BTreeMap K ℕ) (key : K) (number : ℕ) → ((p : K) → get cmp new p ≡ cond (is_at (cmp key) p) (Some number) (get cmp old p)) → get cmp new key ≡ Some number
+  known_itself old new key number known = known key ∙ ap (λ b. cond b (Some number) (get cmp old key)) (ap is_eq (tied_itself total key))
+
+  -- one key more
+  pub knows_more : (old new : BTreeMap K ℕ) (tells : ℕ → K → Bool) (key : K) (i number : ℕ) (fs more_fs : List ℕ) → ((q : K) → tells i q ≡ is_at (cmp key) q) → Knows cmp old tells fs → number ≡ unwrap_or (get cmp old key) (btree_map_len old)
+      → ((q : K) → get cmp new q ≡ cond (is_at (cmp key) q) (Some number) (get cmp old q)) → btree_map_len new ≡ btree_map_len old + cond (is_some (get cmp old key)) 0 1
+      → more_fs ≡ cond (eqb number (length fs)) (fs ++ i ∷ []) fs → Knows cmp new tells more_fs
+  knows_more old new tells key i number fs more_fs told knows number_is known count fs_is = by (get cmp old key) refl number_is count
+    where
+      by : (o : Option ℕ) → get cmp old key ≡ o → number ≡ unwrap_or o (btree_map_len old) → btree_map_len new ≡ btree_map_len old + cond (is_some o) 0 1 → Knows cmp new tells more_fs
       by (Some k) at is size =
-          let there = spot-some (λ f. is_eq (cmp (get_or keys f d) key)) fs k 0 (sym (knows.found key) ∙ at) in
+          let there = spot-some (λ f. tells f key) fs k 0 (sym (knows.found key) ∙ at) in
           let whole : more_fs ≡ fs = fs_is ∙ cond-false (eqb number (length fs)) (fs ++ i ∷ []) fs (ne_eqb number (length fs) (λ e. omega (arith, there.0, is, e))) in
           record {
-            found = λ q. known q ∙ ap (λ n. cond (is_at (cmp key) q) (Some n) (get cmp old q)) is ∙ sym (known_same old key k q at) ∙ knows.found q ∙ ap (spot (λ f. is_eq (cmp (get_or keys f d) q))) (sym whole);
+            found = λ q. known q ∙ ap (λ n. cond (is_at (cmp key) q) (Some n) (get cmp old q)) is ∙ sym (known_same old key k q at) ∙ knows.found q ∙ ap (spot (λ f. tells f q)) (sym whole);
             count = omega (arith, size, knows.count, ap length whole);
           }
       by None at is size =
           let next : number ≡ length fs = is ∙ knows.count in
           let whole : more_fs ≡ fs ++ i ∷ [] = fs_is ∙ cond-true (eqb number (length fs)) (fs ++ i ∷ []) fs (eq-eqb number (length fs) next) in
           record {
-            found = λ q. known q ∙ step q next (is_at (cmp key) q) refl ∙ ap (spot (λ f. is_eq (cmp (get_or keys f d) q))) (sym whole);
+            found = λ q. known q ∙ step q next (is_at (cmp key) q) refl ∙ ap (spot (λ f. tells f q)) (sym whole);
             count = omega (arith, size, knows.count, ap length whole, length_push fs i);
           }
         where
-          step : (q : K) → number ≡ length fs → (b : Bool) → is_at (cmp key) q ≡ b → cond b (Some number) (get cmp old q) ≡ spot (λ f. is_eq (cmp (get_or keys f d) q)) (fs ++ i ∷ [])
+          step : (q : K) → number ≡ length fs → (b : Bool) → is_at (cmp key) q ≡ b → cond b (Some number) (get cmp old q) ≡ spot (λ f. tells f q) (fs ++ i ∷ [])
           step q next true e =
-              sym (spot-push (λ f. is_eq (cmp (get_or keys f d) q)) fs i
-              ∙ ap₂ (λ o b. or_last o b (length fs)) (sym (knows.found q) ∙ sym (got_same old key q e) ∙ at) (ap (λ k. is_eq (cmp k q)) (sym key_is) ∙ e)
+              sym (spot-push (λ f. tells f q) fs i
+              ∙ ap₂ (λ o b. or_last o b (length fs)) (sym (knows.found q) ∙ sym (got_same old key q e) ∙ at) (told q ∙ e)
               ∙ ap Some (sym next))
           step q next false e =
-              sym (spot-push (λ f. is_eq (cmp (get_or keys f d) q)) fs i
-              ∙ ap₂ (λ o b. or_last o b (length fs)) (sym (knows.found q)) (ap (λ k. is_eq (cmp k q)) (sym key_is) ∙ e)
+              sym (spot-push (λ f. tells f q) fs i
+              ∙ ap₂ (λ o b. or_last o b (length fs)) (sym (knows.found q)) (told q ∙ e)
               ∙ unlasted (get cmp old q) (length fs))
             where
               unlasted : (o : Option ℕ) (n : ℕ) → or_last o false n ≡ o
@@ -83,12 +96,12 @@ module _ {K : Type 0} (cmp : K → K → Ordering) (total : IsTotalOrder cmp) wh
 -- the keys so far are grouped, and the map knows their numbers
 pub record AreNumbered {K : Type 0} (cmp : K → K → Ordering) (m : BTreeMap K ℕ) (keys : List K) (n : ℕ) (ns fs : List ℕ) : Type 0 where
   pub groups : (d : K) → AreGroups (same_items cmp keys d) n ns fs
-  pub knows : (d : K) → Knows cmp m keys d fs
+  pub knows : (d : K) → Knows cmp m (is_item_of cmp keys d) fs
 
 pub numbered_none : {K : Type 0} (cmp : K → K → Ordering) (m : BTreeMap K ℕ) (keys : List K) (ns fs : List ℕ) → m.entries ≡ [] → ns ≡ [] → fs ≡ [] → AreNumbered cmp m keys 0 ns fs
 numbered_none cmp m keys ns fs empty no_ns no_fs = record {
   groups = λ d. subst (λ (l : List ℕ). AreGroups (same_items cmp keys d) 0 l fs) (sym no_ns) (subst (λ (l : List ℕ). AreGroups (same_items cmp keys d) 0 [] l) (sym no_fs) (groups_none (same_items cmp keys d)));
-  knows = λ d. subst (λ (l : List ℕ). Knows cmp m keys d l) (sym no_fs) (knows_none cmp m keys d empty);
+  knows = λ d. subst (λ (l : List ℕ). Knows cmp m (is_item_of cmp keys d) l) (sym no_fs) (knows_none cmp m (is_item_of cmp keys d) empty);
 }
 
 pub numbered_more : {K : Type 0} (cmp : K → K → Ordering) (total : IsTotalOrder cmp) (old new : BTreeMap K ℕ) (keys : List K) (key : K) (i number : ℕ) (ns fs more_ns more_fs : List ℕ) → i < length keys → key ≡ get_or keys i key
@@ -106,5 +119,5 @@ numbered_more {K} cmp total old new keys key i number ns fs more_ns more_fs low 
         (number_is ∙ ap₂ (λ o n. unwrap_or o n) ((are.knows d).found key ∙ ap (λ k. spot (λ f. is_eq (cmp (get_or keys f d) k)) fs) (at d)) (are.knows d).count)
         ns_is fs_is
 
-    knows : (d : K) → Knows cmp new keys d more_fs
-    knows d = knows_more cmp total old new keys d key i number fs more_fs (at d) (are.knows d) number_is known count (fs_is ∙ ap (λ n. cond (eqb number (length fs)) (fs ++ n ∷ []) fs) (are.groups d).count)
+    knows : (d : K) → Knows cmp new (is_item_of cmp keys d) more_fs
+    knows d = knows_more cmp total old new (is_item_of cmp keys d) key i number fs more_fs (λ q. ap (λ k. is_eq (cmp k q)) (sym (at d))) (are.knows d) number_is known count (fs_is ∙ ap (λ n. cond (eqb number (length fs)) (fs ++ n ∷ []) fs) (are.groups d).count)

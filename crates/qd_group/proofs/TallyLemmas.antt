@@ -1,5 +1,5 @@
 -- What is kept of the values of rows answers as the aggregate does.
-use Rattle.std.proofs.Common.{◌≡◌, ℕ, zero, suc, ◌+◌, ◌<◌, ◌≤◌, Bool, cond, eqb, List, [], ◌∷◌, ◌++◌, length, map, take, set, get_or, refl, sym, ap, ap₂, ◌∙◌, subst, arith, inl, inr, replicate}
+use Rattle.std.proofs.Common.{◌≡◌, ℕ, zero, suc, ◌+◌, ◌<◌, ◌≤◌, cond, List, [], ◌∷◌, ◌++◌, length, map, take, set, get_or, refl, sym, ap, ap₂, ◌∙◌, subst, arith, inl, inr, replicate}
 use Rattle.std.specs.Prelude.{◌^◌, Option, Some, None, fold, unwrap_or, ℤ, pos, ◌+ℤ◌, unsigned_abs, FitsSigned}
 use Rattle.std.specs.Int.{w64}
 use Rattle.std.proofs.lemmas.Int.{fits_signed_from_abs}
@@ -15,15 +15,14 @@ use Rattle.std.proofs.lemmas.List.Sums.{fold_push}
 use Rattle.qd_base.specs.declared.cell.Cell.{Cell}
 use Rattle.qd_base.specs.declared.cell.Cell.TheVariants as cell
 use Rattle.qd_base.specs.Rows.{Row}
-use Rattle.qd_value.specs.declared.bound.Bound.{Bound}
-use Rattle.qd_value.specs.Value.{value}
 use Rattle.qd_meaning.specs.declared.parts.Agg.{Agg}
 use Rattle.qd_meaning.specs.declared.parts.Agg.TheVariants as agg
-use Rattle.qd_meaning.specs.Grouped.{plus, total, sum_cell, is_less, best, first_cell, last_cell, aggregate, values}
+use Rattle.qd_meaning.specs.Grouped.{plus, total, sum_cell, is_less, first_cell, last_cell, aggregate, values}
 use Rattle.qd_expr.proofs.ListLemmas.{map-map}
 use Rattle.qd_group.specs.declared.tallies.Tally.{Tally}
 use Rattle.qd_group.specs.Tallied.{state_of}
 use Rattle.qd_group.specs.Grouping.{answers_of, members}
+use Rattle.qd_group.specs.Kept.{kept}
 use Rattle.qd_group.specs.Tallies.{Leading, State, counted, summed, least, greatest, first, last, nothing, lead_after, start, next, answer, argument, tallied}
 use Rattle.qd_group.proofs.Bests.{best_of, takes_less, takes_greater}
 use Rattle.qd_group.proofs.Distincts.{members_more}
@@ -101,10 +100,6 @@ tallied-push a rows row = ap (fold next (start a)) (map_push (argument a) rows r
 pub tallied_more : (a : Agg) (rows : List Row) (i : ℕ) (before after : State) (c : Cell) → i < length rows → before ≡ tallied a (take i rows) → c ≡ argument a (get_or rows i []) → after ≡ next before c → after ≡ tallied a (take (i + 1) rows)
 tallied_more a rows i before after c low was taken is =
     is ∙ ap₂ next was taken ∙ sym (tallied-push a (take i rows) (get_or rows i [])) ∙ ap (tallied a) (sym (take_more rows i [] low))
-
--- what is kept of each group's rows, of the first ones
-abbrev pub kept : Agg → List ℕ → List Row → ℕ → ℕ → State
-kept a ns rows i n = tallied a (members n (take i ns) (take i rows))
 
 kept_here : (a : Agg) (ns : List ℕ) (rows : List Row) (i n : ℕ) → i < length ns → i < length rows → get_or ns i 0 ≡ n → kept a ns rows (i + 1) n ≡ next (kept a ns rows i n) (argument a (get_or rows i []))
 kept_here a ns rows i n low there is =

@@ -2,3 +2,5 @@ pub mod Keys
 pub mod Grouping
 pub mod Tallies
 pub mod Tallied
+pub mod Numbering
+pub mod Kept

@@ -1,5 +1,8 @@
 -- What an aggregate keeps of the values of a group's rows, one row after another.
-use Rattle.std.specs.Prelude.{Bool, true, false, ◌||◌, List, Option, Some, None, fold, map, if◌then◌else◌, is_none, unwrap_or, ℤ, pos, ◌+ℤ◌}
+use Rattle.std.specs.Prelude.{Bool, false, ◌||◌, List, Option, Some, None, fold, map, if◌then◌else◌, is_none, unwrap_or, ℤ, pos, ◌+ℤ◌, int_lt}
+use Rattle.std.specs.Ordering.{int_eq}
+use Rattle.qd_base.specs.declared.limits.TheConstants.{NULL_LONG}
+use Rattle.qd_column.specs.Cells.{long_cell}
 use Rattle.qd_base.specs.declared.cell.Cell.{Cell}
 use Rattle.qd_base.specs.declared.cell.Cell.TheVariants as cell
 use Rattle.qd_base.specs.Rows.{Row}
@@ -13,6 +16,17 @@ use Rattle.qd_value.specs.Value.{value}
 pub record Leading : Type 0 where
   pub best : Cell
   pub ended : Bool
+
+-- what leads, of numbers as a LONG column keeps them
+abbrev pub leading : ℤ → Leading
+leading b = record { best = long_cell b; ended = false }
+
+-- the lesser, and the greater, of two such numbers: NULL is passed over
+abbrev pub lesser : ℤ → ℤ → ℤ
+lesser b x = if int_eq x NULL_LONG then b else (if int_eq b NULL_LONG || int_lt x b then x else b)
+
+abbrev pub greater : ℤ → ℤ → ℤ
+greater b x = if int_eq x NULL_LONG then b else (if int_eq b NULL_LONG || int_lt b x then x else b)
 
 pub data State : Type 0 where
   counted : ℤ → State

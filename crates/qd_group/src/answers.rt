@@ -25,7 +25,9 @@ use std::alloc::Global;
 /// pass NULL over; the first and the last are those of the first and the last row, NULL or not.
 ///
 /// It costs the time of an expression a row for each key and each aggregate, and n log n comparisons for each key,
-/// whatever the values are. It takes some 50 bytes a row, and 48 a group and aggregate; texts are copied and cells made
+/// whatever the values are. In a set without right columns less is enough: a key that is a SYMBOL column costs a look into
+/// a table a row, and a sum, the least and the greatest value of a LONG column go over the column's numbers; a count goes
+/// over no column. It takes some 50 bytes a row, and 48 a group and aggregate; texts are copied and cells made
 /// for the answer alone.
 pub fn group<D: Dictionary>(
     alloc: Global,
@@ -61,8 +63,9 @@ fn row_of_all<D: Dictionary>(alloc: Global, aggs: &[Agg], rows: &RowSet<D>) -> R
     Ok(row)
 }
 
-/// What each aggregate makes of each group's rows.
-fn columns_of<'a, D: Dictionary>(
+/// What each aggregate makes of each group's rows: for each aggregate a column with one value a group. It costs the time of
+/// an expression a row and aggregate, and takes 24 bytes a group and aggregate beside the tallies of one aggregate.
+pub fn columns_of<'a, D: Dictionary>(
     alloc: Global,
     aggs: &'a [Agg],
     rows: &'a RowSet<D>,

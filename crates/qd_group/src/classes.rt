@@ -5,6 +5,8 @@ ghost use Rattle.qd_group.specs.Grouping.{AreGroups, same_items, same_numbers, s
 
 use crate::groups::Groups;
 use crate::keys::keys_of;
+use crate::symbols::grouped_by_column;
+use crate::tallying::column_of;
 use qd_base::{Dictionary, Memory};
 use qd_rows::RowSet;
 use qd_value::Bound;
@@ -13,8 +15,10 @@ use std::collections::BTreeMap;
 
 /// The groups of rows that are equal on all of some keys, NULL being equal to NULL.
 ///
-/// It costs n log n comparisons for each key, whatever the values are, and takes some 50 bytes a row.
-pub(crate) fn grouped_rows<D: Dictionary>(
+/// It costs n log n comparisons for each key, whatever the values are, and takes some 50 bytes a row. In a set without right
+/// columns a key that is a SYMBOL column costs a look into a table a row; texts are compared where an id of a block is met
+/// for the first time.
+pub fn grouped_rows<D: Dictionary>(
     alloc: Global,
     keys: &[Bound],
     rows: &RowSet<D>,
@@ -34,12 +38,31 @@ pub(crate) fn grouped_rows<D: Dictionary>(
 fn grouped_by<D: Dictionary>(alloc: Global, key: &Bound, rows: &RowSet<D>) -> Result<Groups, Memory>
     ensures groups { IfOk result (λ g. AreGroups (same_values key.now rows.now) (length rows.now.places) g.numbers.items g.firsts.items) }
 {
+    match rows.right_cols() {
+        Some(_) => grouped_by_keys(alloc, key, rows),
+        None => match column_of(key) {
+            Some(at) => grouped_by_column(alloc, key, at, rows),
+            None => grouped_by_keys(alloc, key, rows),
+        },
+    }
+}
+
+/// The groups of rows that are equal on one key, by the order of its values.
+fn grouped_by_keys<D: Dictionary>(
+    alloc: Global,
+    key: &Bound,
+    rows: &RowSet<D>,
+) -> Result<Groups, Memory>
+    ensures groups { IfOk result (λ g. AreGroups (same_values key.now rows.now) (length rows.now.places) g.numbers.items g.firsts.items) }
+{
     let keys = keys_of(alloc, key, rows)?;
     numbered(alloc, keys.as_slice())
 }
 
 /// Tells groups apart further: two rows are of one group then where they are of one in both.
-fn refined(alloc: Global, numbers: &[usize], further: &[usize]) -> Result<Groups, Memory>
+///
+/// It costs n log n comparisons, and takes some 50 bytes a row.
+pub fn refined(alloc: Global, numbers: &[usize], further: &[usize]) -> Result<Groups, Memory>
     requires { length numbers.now ≡ length further.now }
     ensures groups { IfOk result (λ g. AreGroups (same_numbers numbers.now further.now) (length numbers.now) g.numbers.items g.firsts.items) }
 {
@@ -50,8 +73,9 @@ fn refined(alloc: Global, numbers: &[usize], further: &[usize]) -> Result<Groups
     numbered(alloc, pairs.as_slice())
 }
 
-/// The groups of equal keys. It costs n log n comparisons, whatever the keys are.
-fn numbered<K: Ord + Copy>(alloc: Global, keys: &[K]) -> Result<Groups, Memory>
+/// The groups of equal keys, by the order of their type. It costs n log n comparisons, whatever the keys are, and takes
+/// some 50 bytes a key.
+pub fn numbered<K: Ord + Copy>(alloc: Global, keys: &[K]) -> Result<Groups, Memory>
     ensures groups { IfOk result (λ g. (d : K) → AreGroups (same_items K.cmp keys.now d) (length keys.now) g.numbers.items g.firsts.items) }
 {
     let mut numbers = BTreeMap::new(alloc);
@@ -64,7 +88,10 @@ fn numbered<K: Ord + Copy>(alloc: Global, keys: &[K]) -> Result<Groups, Memory>
 }
 
 /// Gives the number of a key: the one that it has, or the next one.
-fn number_of<K: Ord + Copy>(numbers: &mut BTreeMap<K, usize>, key: K) -> Result<usize, Memory>
+pub(crate) fn number_of<K: Ord + Copy>(
+    numbers: &mut BTreeMap<K, usize>,
+    key: K,
+) -> Result<usize, Memory>
     ensures number { IfOk result (λ n. n ≡ unwrap_or (get K.cmp numbers.old key) (btree_map_len numbers.old)) }
     ensures known { IfOk result (λ n. (q : K) → get K.cmp numbers.new q ≡ (if is_at (K.cmp key) q then Some n else get K.cmp numbers.old q)) }
     ensures count { IfOk result (λ n. btree_map_len numbers.new ≡ btree_map_len numbers.old + (if is_some (get K.cmp numbers.old key) then 0 else 1)) }

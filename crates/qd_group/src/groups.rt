@@ -8,16 +8,16 @@ use std::alloc::Global;
 ///
 /// It takes 8 bytes a row and 8 a group.
 #[derive(Drop)]
-pub(crate) struct Groups {
+pub struct Groups {
     /// For each row the number of its group.
-    pub(crate) numbers: Vec<usize>,
+    pub numbers: Vec<usize>,
     /// For each group the position of its first row.
-    pub(crate) firsts: Vec<usize>,
+    pub firsts: Vec<usize>,
 }
 
 impl Groups {
     /// Without rows there is no group. It takes no memory until a row is added.
-    pub(crate) fn new(alloc: Global) -> Groups
+    pub fn new(alloc: Global) -> Groups
         ensures numbers { result.numbers.items ≡ [] }
         ensures firsts { result.firsts.items ≡ [] }
     {
@@ -29,7 +29,7 @@ impl Groups {
 
     /// Adds a row to a group, or, where it has the next number, as the first row of a new one. It takes amortised
     /// constant time.
-    pub(crate) fn push(&mut self, number: usize) -> Result<(), Memory>
+    pub fn push(&mut self, number: usize) -> Result<(), Memory>
         ensures numbers { OnOk result (self.new.numbers.items ≡ self.old.numbers.items ++ number ∷ []) }
         ensures firsts { OnOk result (self.new.firsts.items ≡ (if number == length self.old.firsts.items then self.old.firsts.items ++ length self.old.numbers.items ∷ [] else self.old.firsts.items)) }
     {

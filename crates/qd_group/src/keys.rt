@@ -13,7 +13,7 @@ use std::alloc::Global;
 
 /// A value that is lent, and can be ordered.
 #[derive(Clone, Copy, PartialEq, Eq, PartialOrd, Ord)]
-pub(crate) enum Key<'a> {
+pub enum Key<'a> {
     /// NULL.
     Null,
     /// A number.
@@ -27,7 +27,7 @@ pub(crate) enum Key<'a> {
 }
 
 /// The values of an expression on the rows of a set, in order. No cell is made. It takes 24 bytes a row.
-pub(crate) fn keys_of<'a, D: Dictionary>(
+pub fn keys_of<'a, D: Dictionary>(
     alloc: Global,
     expr: &'a Bound,
     rows: &'a RowSet<D>,
@@ -42,7 +42,7 @@ pub(crate) fn keys_of<'a, D: Dictionary>(
 }
 
 /// A value as a key.
-fn key_of<'a>(value: Scalar<'a>) -> Key<'a>
+pub(crate) fn key_of<'a>(value: Scalar<'a>) -> Key<'a>
     ensures same { lent result ≡ cell_of value.entry }
 {
     match value {

@@ -2,12 +2,20 @@
 #![tactic(auto)]
 
 mod answers;
+mod by_groups;
 mod classes;
+mod extremes;
 mod groups;
 mod keys;
+mod longs;
+mod sums;
+mod symbols;
 mod tallies;
 mod tallying;
 #[cfg(test)]
 mod tests;
 
-pub use answers::group;
+pub use answers::{columns_of, group};
+pub use classes::{grouped_rows, numbered, refined};
+pub use groups::Groups;
+pub use keys::{Key, keys_of};

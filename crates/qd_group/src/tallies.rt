@@ -1,12 +1,16 @@
 //! What an aggregate keeps of the values that it has seen, and its answer.
-ghost use Rattle.std.specs.Prelude.{◌≡◌, IfOk, pos, ◌+ℤ◌};
+ghost use Rattle.std.specs.Prelude.{◌≡◌, IfOk, IfSome, fold, map, pos, ◌+ℤ◌};
+ghost use Rattle.qd_base.specs.declared.cell.Cell.TheVariants as cell;
+ghost use Rattle.qd_column.specs.Cells.{long_cell};
 ghost use Rattle.qd_group.specs.Tallies as spec;
 ghost use Rattle.qd_group.specs.Tallied.{lead_of, state_of};
 ghost use Rattle.qd_meaning.specs.Grouped.{is_less, plus, sum_cell};
 ghost use Rattle.qd_value.specs.Cells.{long};
 ghost use Rattle.qd_value.specs.Scalars.{cell_of};
 
-use qd_base::{MAX_NUMBER, Memory};
+use crate::extremes::{greatest_of, least_of};
+use crate::sums::total_after_longs;
+use qd_base::{MAX_NUMBER, Memory, NULL_LONG};
 use qd_meaning::Agg;
 use qd_value::{Scalar, order};
 use std::alloc::AllocError;
@@ -72,6 +76,35 @@ impl<'a> Tally<'a> {
         }
     }
 
+    /// After numbers more, as a LONG column keeps them, in their order. Sums are made in a loop of their own.
+    pub(crate) fn after_longs(self, numbers: &[i64]) -> Result<Tally<'a>, Memory>
+        ensures next { IfOk result (λ t. state_of t ≡ fold spec.next (state_of self.entry) (map long_cell numbers.now)) }
+    {
+        match self {
+            Tally::Sum(total) => Ok(Tally::Sum(total_after_longs(total, numbers)?)),
+            Tally::Min(lead) => match lead.number() {
+                Some(first) => Ok(Tally::Min(Lead::of_number(least_of(first, numbers)))),
+                None => self.after_each(numbers),
+            },
+            Tally::Max(lead) => match lead.number() {
+                Some(first) => Ok(Tally::Max(Lead::of_number(greatest_of(first, numbers)))),
+                None => self.after_each(numbers),
+            },
+            _ => self.after_each(numbers),
+        }
+    }
+
+    /// After numbers more, one after another.
+    fn after_each(self, numbers: &[i64]) -> Result<Tally<'a>, Memory>
+        ensures next { IfOk result (λ t. state_of t ≡ fold spec.next (state_of self.entry) (map long_cell numbers.now)) }
+    {
+        let mut tally = self;
+        for number in numbers {
+            tally = tally.after(of_long(*number))?;
+        }
+        Ok(tally)
+    }
+
     /// What the aggregate answers.
     pub(crate) fn answer(self) -> Scalar<'a>
         ensures answer { cell_of result ≡ spec.answer (state_of self.entry) }
@@ -88,6 +121,30 @@ impl<'a> Tally<'a> {
 }
 
 impl<'a> Lead<'a> {
+    /// Where nothing has ended it and the best value is a number or none: that number, as a LONG column keeps it.
+    fn number(self) -> Option<i64>
+        ensures { IfSome result (λ b. lead_of self.entry ≡ spec.leading b) }
+    {
+        if self.ended {
+            return None;
+        }
+        match self.best {
+            Scalar::Null => Some(NULL_LONG),
+            Scalar::Long(number) => some_number(number),
+            _ => None,
+        }
+    }
+
+    /// What leads where the best value is a number, as a LONG column keeps it.
+    fn of_number(number: i64) -> Lead<'a>
+        ensures { lead_of result ≡ spec.leading number }
+    {
+        Lead {
+            best: of_long(number),
+            ended: false,
+        }
+    }
+
     /// After one value more, of which is said whether it is better than the best one.
     fn after(self, value: Scalar<'a>, better: bool) -> Lead<'a>
         ensures { lead_of result ≡ spec.lead_after better (lead_of self.entry) (cell_of value.entry) }
@@ -105,6 +162,30 @@ impl<'a> Lead<'a> {
             best: self.best,
             ended: order(value, self.best).is_none(),
         }
+    }
+}
+
+/// A number, if a LONG column keeps it as itself.
+fn some_number(number: i64) -> Option<i64>
+    ensures cell { IfSome result (λ b. long_cell b ≡ cell.Long number) }
+    ensures same { IfSome result (λ b. b ≡ number) }
+{
+    if number == NULL_LONG {
+        None
+    } else {
+        Some(number)
+    }
+}
+
+/// The value of a number as a LONG column keeps it.
+#[inline(always)]
+pub(crate) fn of_long<'a>(number: i64) -> Scalar<'a>
+    ensures { cell_of result ≡ long_cell number }
+{
+    if number == NULL_LONG {
+        Scalar::Null
+    } else {
+        Scalar::Long(number)
     }
 }
 

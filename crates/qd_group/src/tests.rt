@@ -1,6 +1,6 @@
 //! Tests of what no clause says: that calls succeed where memory is found. The wanted rows are by hand from the written
 //! meaning.
-ghost use Rattle.std.specs.Prelude.{◌≡◌, ◌≢◌, ◌+◌, ◌<◌, [], ◌∷◌, Some, length, IfOk, OnOk, slice_get};
+ghost use Rattle.std.specs.Prelude.{◌≡◌, ◌≢◌, ◌+◌, ◌<◌, [], ◌∷◌, None, Some, length, IfOk, OnOk, slice_get};
 ghost use Rattle.qd_base.specs.declared.schema.ColType.TheVariants as kind;
 ghost use Rattle.qd_block.specs.Blocks.{kinds_in};
 
@@ -117,6 +117,46 @@ fn table(alloc: Global, most: u64) -> Result<RowSet<SymbolMap>, Memory> {
     Ok(set)
 }
 
+/// Four rows of times 7 to 10, whose symbols come in another order.
+fn other_block(alloc: Global) -> Result<Block<SymbolMap>, Memory>
+    ensures { IfOk result (λ b. b.kinds ≡ kind.Long ∷ kind.Time ∷ kind.Symbol ∷ kind.Long ∷ []) }
+{
+    let mut rows = Builder::new(alloc, &columns(alloc)?, 1)?;
+    add_row(&mut rows, 10, 7, b'b', 1)?;
+    add_row(&mut rows, 20, 8, b' ', 2)?;
+    add_row(&mut rows, 30, 9, b'a', 3)?;
+    add_row(&mut rows, 40, 10, b'c', 4)?;
+    rows.finish()
+}
+
+/// Adds the rows of a block to a set.
+fn add_block(
+    alloc: Global,
+    set: &mut RowSet<SymbolMap>,
+    block: Block<SymbolMap>,
+) -> Result<(), Memory>
+    requires single { set.old.right ≡ None }
+    requires block { block.kinds ≡ kind.Long ∷ kind.Time ∷ kind.Symbol ∷ kind.Long ∷ [] }
+    requires set { kinds_in set.old.left ≡ kind.Long ∷ kind.Time ∷ kind.Symbol ∷ kind.Long ∷ [] }
+    ensures single { OnOk result (set.new.right ≡ None) }
+    ensures set { OnOk result (set.new.left ≡ set.old.left) }
+{
+    let count = block.rows();
+    let b = set.add_block(Arc::new(alloc, block)?)?;
+    if 0 < count {
+        set.push_run(b, 0, count)?;
+    }
+    Ok(())
+}
+
+/// The rows of both blocks.
+fn two_blocks(alloc: Global) -> Result<RowSet<SymbolMap>, Memory> {
+    let mut set = RowSet::over(alloc, &columns(alloc)?, None)?;
+    add_block(alloc, &mut set, block(alloc)?)?;
+    add_block(alloc, &mut set, other_block(alloc)?)?;
+    Ok(set)
+}
+
 /// An aggregate, by its letter and its column.
 fn aggregate(letter: u8, at: usize) -> Agg {
     match letter {
@@ -210,6 +250,18 @@ fn groups_are_as_the_meaning_says(rt: HostRuntime) -> Result<(), Fail> {
     let by_two = "a,7,1,;b,,3,;,0,1,;a,2,1,;";
     gives(&rt, 6, &[2, 3], &[(b'#', 0)], by_two)?;
     gives(&rt, 6, &[3], &[(b']', 1)], "7,1,;,6,;0,3,;2,5,;")
+}
+
+#[test]
+fn groups_go_over_blocks(rt: HostRuntime) -> Result<(), Fail> {
+    let alloc = rt.alloc();
+    let set = two_blocks(alloc)?;
+    let aggs = [(b'#', 0), (b'+', 0), (b'<', 0), (b'>', 0)];
+    let made = group(alloc, &set, &asked(alloc, &[2], &aggs)?)?;
+    let text = shown(alloc, &made)?;
+    let wanted = "a,3,537,7,500,;b,4,,1,9223372036854775807,;,2,18,-2,20,;c,1,40,40,40,;";
+    assert_eq!(rt; text.as_str(), wanted);
+    Ok(())
 }
 
 #[test]

@@ -1,4 +1,4 @@
-use Rattle.std.proofs.Common.{◌≡◌, ◌∙◌, ◌<◌, ◌≤◌, ◌++◌, ◌∷◌, [], List, ap, ap₂, sym, arith, map, length}
+use Rattle.std.proofs.Common.{◌∙◌, ◌<◌, ◌≤◌, ◌++◌, ◌∷◌, [], List, ap, ap₂, sym, arith, map, length}
 use Rattle.std.proofs.lemmas.List.{map_push, map_more, take_all}
 use Rattle.qd_base.specs.declared.cell.Cell.{Cell}
 use Rattle.qd_rows.specs.Sets.{rows_in}

@@ -1,6 +1,5 @@
 use Rattle.std.proofs.Common.{◌≡◌, map}
 use Rattle.std.specs.List.{range_with_len}
-use Rattle.qd_rows.specs.Sets.{rows_in}
 use Rattle.qd_group.proofs.Assembly.{row_of_group}
 use Rattle.qd_group.proofs.answers.group.Given as goal
 

@@ -1,4 +1,4 @@
-use Rattle.std.proofs.Common.{◌∙◌, ℕ, List, arith, subst, length, take}
+use Rattle.std.proofs.Common.{List, arith, subst, length}
 use Rattle.std.proofs.lemmas.List.{take_all}
 use Rattle.qd_value.specs.declared.bound.Bound.{Bound}
 use Rattle.qd_group.specs.Grouping.{same_rows, AreGroups}

@@ -1,5 +1,4 @@
-use Rattle.std.proofs.Common.{◌≡◌, ◌∙◌, ◌+◌, None, Some, sym, ap, arith}
-use Rattle.std.specs.BTreeMap.{get, btree_map_len}
+use Rattle.std.proofs.Common.{sym}
 use Rattle.qd_group.proofs.Numbers.{known_same}
 use Rattle.qd_group.proofs.classes.number_of.Goals as goal
 

@@ -1,4 +1,4 @@
-use Rattle.std.proofs.Common.{arith, length, subst, ℕ}
+use Rattle.std.proofs.Common.{arith, subst, ℕ}
 use Rattle.qd_group.specs.Grouping.{same_items, AreGroups}
 use Rattle.qd_group.proofs.Numbers.{numbered_none, numbered_more}
 use Rattle.qd_group.proofs.classes.numbered.Goals as goal

@@ -1,6 +1,6 @@
 use Rattle.std.proofs.lemmas.Result.{IfOk-weaker}
 use Rattle.qd_group.proofs.Assembly.{values_grouped}
-use Rattle.qd_group.proofs.classes.grouped_by.Goals as goal
+use Rattle.qd_group.proofs.classes.grouped_by_keys.Goals as goal
 
 pub returns : goal.returns
 returns g c =

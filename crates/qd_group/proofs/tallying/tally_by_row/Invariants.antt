@@ -2,7 +2,7 @@ use Rattle.std.proofs.Common.{◌≡◌, take}
 use Rattle.qd_rows.specs.Sets.{rows_in}
 use Rattle.qd_group.specs.Tallied.{state_of}
 use Rattle.qd_group.specs.Tallies.{tallied}
-use Rattle.qd_group.proofs.tallying.tally_of_all.Given as goal
+use Rattle.qd_group.proofs.tallying.tally_by_row.Given as goal
 
 -- the tally of the rows so far
 abbrev pub invariant-loop-i : goal.invariant-loop-i

@@ -2,8 +2,8 @@ use Rattle.std.proofs.Common.{◌≡◌, length, map}
 use Rattle.std.specs.List.{range_with_len}
 use Rattle.qd_rows.specs.Sets.{rows_in}
 use Rattle.qd_group.specs.Tallied.{state_of}
-use Rattle.qd_group.proofs.TallyLemmas.{kept}
-use Rattle.qd_group.proofs.tallying.tallies_of_groups.Given as goal
+use Rattle.qd_group.specs.Kept.{kept}
+use Rattle.qd_group.proofs.tallying.tallies_by_row.Given as goal
 
 -- the tallies of the rows so far
 abbrev pub invariant-loop-i : goal.invariant-loop-i

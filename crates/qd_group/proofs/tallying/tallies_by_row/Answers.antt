@@ -1,15 +1,15 @@
-use Rattle.std.proofs.Common.{◌≡◌, ◌∙◌, ◌<◌, ◌≤◌, ℕ, List, ap, ap₂, sym, arith, length, map, get_or, set, replicate}
-use Rattle.std.specs.List.{range_with_len}
+use Rattle.std.proofs.Common.{◌≡◌, ◌∙◌, ◌<◌, ◌≤◌, ℕ, ap, sym, arith, length, map, get_or, set, replicate}
 use Rattle.std.proofs.lemmas.List.{length-map, map-set, get_or-map, get_or_default}
 use Rattle.std.proofs.lemmas.List.FromFn.{length-map-range_with_len}
 use Rattle.qd_expr.proofs.CellLemmas.{row_found}
 use Rattle.qd_rows.specs.Sets.{rows_in}
 use Rattle.qd_value.specs.Scalars.{cell_of}
+use Rattle.qd_group.specs.Kept.{kept}
 use Rattle.qd_group.specs.Tallied.{state_of}
-use Rattle.qd_group.specs.Tallies.{State, argument, next, start}
+use Rattle.qd_group.specs.Tallies.{argument, next, start}
 use Rattle.qd_group.proofs.Assembly.{length_rows}
-use Rattle.qd_group.proofs.TallyLemmas.{kept, kept_more, kept_none, kept_all}
-use Rattle.qd_group.proofs.tallying.tallies_of_groups.Goals as goal
+use Rattle.qd_group.proofs.TallyLemmas.{kept_more, kept_none, kept_all}
+use Rattle.qd_group.proofs.tallying.tallies_by_row.Goals as goal
 
 pub loop-i-init : goal.loop-i-init
 loop-i-init g c =

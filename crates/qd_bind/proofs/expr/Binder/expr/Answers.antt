@@ -1,0 +1,24 @@
+use Rattle.std.proofs.Common.{◌≡◌, List, map, sym, ap, ap₂, ◌∙◌}
+use Rattle.qd_trees.specs.declared.tree.Expr.{out-Expr}
+use Rattle.qd_trees.specs.declared.tree.OrConj.{OrConj}
+use Rattle.qd_bind.specs.declared.typed.Typed.{Typed}
+use Rattle.qd_value.specs.declared.bound.Bound.TheVariants as bound
+use Rattle.qd_bind.specs.Joined.{joined}
+use Rattle.qd_bind.specs.Scoped.{scope}
+use Rattle.qd_bind.specs.Seen.{typed}
+use Rattle.qd_bind.specs.Steps.{junction_of, junction_typed}
+use Rattle.qd_meaning.specs.Binding as binding
+use Rattle.qd_bind.proofs.ChainLemmas.{junction_whole, not_empty}
+use Rattle.qd_bind.proofs.FoldLemmas.{expr_out}
+use Rattle.qd_bind.proofs.StepLemmas.{ok_same}
+use Rattle.qd_bind.proofs.expr.Binder.expr.Goals as goal
+
+pub returns : goal.returns
+returns g c =
+    let columns = scope c.args.self.now.columns.now in
+    let layer = out-Expr c.args.expr.now in
+    ok_same c.ors.result _ _
+    (ap₂ (λ (x : Typed) (ps : List OrConj). junction_typed bound.Any (joined (junction_of x) (map (binding.typed_or_conj columns) ps))) c.in_ok-first.ensures c.as_slice.ensures
+    ∙ junction_whole (binding.typed_or_conj columns) bound.Any (binding.typed_conj columns layer.first) layer.more (not_empty layer.more c.is_empty.result c.is_empty.ensures c.if-is_empty.false)
+    ∙ ap typed (sym (expr_out columns c.args.expr.now)))
+    c.ors.ensures

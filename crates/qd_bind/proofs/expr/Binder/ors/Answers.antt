@@ -1,0 +1,20 @@
+use Rattle.std.proofs.Common.{◌≡◌, sym, ap, ◌∙◌}
+use Rattle.qd_trees.specs.declared.tree.OrConj.{out-OrConj}
+use Rattle.qd_bind.specs.declared.typed.Typed.{Typed}
+use Rattle.qd_bind.specs.Joined.{join_part}
+use Rattle.qd_bind.specs.Scoped.{scope}
+use Rattle.qd_bind.specs.Steps.{joined_on}
+use Rattle.qd_meaning.specs.Binding as binding
+use Rattle.qd_meaning.specs.Typing.{Part}
+use Rattle.qd_bind.proofs.ChainLemmas.{junction_step}
+use Rattle.qd_bind.proofs.FoldLemmas.{or_conj_out}
+use Rattle.qd_bind.proofs.expr.Binder.ors.Goals as goal
+
+pub loop-part-preserved : goal.loop-part-preserved
+loop-part-preserved g c =
+    let columns = scope c.args.self.now.columns.now in
+    junction_step (binding.typed_or_conj columns) c.loop-part.found _ c.args.parts.now c.loop-part.part-index c.part-item.result c.push.new.self c.loop-part-test.true c.part-item.is
+    (c.in_ok-push.ensures.pushed
+    ∙ ap (λ (x : Typed). joined_on c.loop-part.found (out-OrConj c.part-item.result).at x) c.in_ok-right.ensures
+    ∙ ap (λ (p : Part). join_part c.loop-part.found p) (sym (or_conj_out columns c.part-item.result)))
+    c.loop-part.invariant

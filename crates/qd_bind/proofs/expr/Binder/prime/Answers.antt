@@ -1,0 +1,17 @@
+use Rattle.std.proofs.Common.{◌≡◌, sym, ap, ◌∙◌}
+use Rattle.qd_trees.specs.declared.tree.Column.{Column}
+use Rattle.qd_trees.specs.declared.tree.Prime.{Prime}
+use Rattle.qd_meaning.specs.Binding as binding
+use Rattle.qd_meaning.specs.Scopes.{resolved}
+use Rattle.qd_bind.specs.Scoped.{scope}
+use Rattle.qd_bind.specs.Seen.{typed}
+use Rattle.qd_bind.proofs.FoldLemmas.{column_typed}
+use Rattle.qd_bind.proofs.StepLemmas.{ok_same}
+use Rattle.qd_bind.proofs.expr.Binder.prime.Goals as goal
+
+pub returns-in-Column : goal.returns-in-Column
+returns-in-Column g c =
+    let columns = scope c.args.self.now.columns.now in
+    ok_same c.named.result _ _
+    (ap (λ (n : Column). typed (binding.named_column (resolved columns n))) c.get.ensures ∙ ap typed (sym (column_typed columns c.in-Column.name)) ∙ ap (λ (p : Prime). typed (binding.typed_prime columns p)) (sym c.in-Column.is))
+    c.named.ensures.named

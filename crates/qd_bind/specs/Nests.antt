@@ -1,0 +1,14 @@
+-- A function value that binds expressions which nest no deeper than a number.
+use Rattle.std.specs.Prelude.{◌≡◌, ℕ, ◌≤◌, Result, IfOk}
+use Rattle.std.specs.Borrow.{Bor}
+use Rattle.std.specs.declared.alloc.Global.{Global}
+use Rattle.qd_trees.specs.declared.tree.Expr.{Expr}
+use Rattle.qd_meaning.specs.Binding as binding
+use Rattle.qd_bind.specs.declared.scope.Scope.{Scope}
+use Rattle.qd_bind.specs.declared.typed.Typed.{Typed}
+use Rattle.qd_bind.specs.Scoped.{scope}
+use Rattle.qd_bind.specs.Seen.{typed}
+
+pub record Nests {E : Type 0} (depth : ℕ) (pre : Global → Bor Scope → Bor Expr → ℕ → Type 0) (post : Global → Bor Scope → Bor Expr → ℕ → Result Typed E → Type 0) : Type 0 where
+  pub callable : (alloc : Global) (columns : Bor Scope) (e : Bor Expr) (d : ℕ) → d ≤ depth → pre alloc columns e d
+  pub binds : (alloc : Global) (columns : Bor Scope) (e : Bor Expr) (d : ℕ) (r : Result Typed E) → post alloc columns e d r → IfOk r (λ made. made ≡ typed (binding.typed (scope columns.now) e.now))

@@ -1,0 +1,11 @@
+mod FaultLemmas
+mod TakenLemmas
+mod TriedLemmas
+mod OutLemmas
+mod ItemLemmas
+mod SeatLemmas
+mod WorkLemmas
+mod TableLemmas
+mod QueryLemmas
+mod SampleLemmas
+mod PlanLemmas

@@ -1,0 +1,9 @@
+pub mod Plans
+pub mod Names
+pub mod Showing
+pub mod Listing
+pub mod Kinds
+pub mod Ordering
+pub mod Joining
+pub mod Filling
+pub mod Shaping

@@ -1,0 +1,5 @@
+pub mod Rises
+pub mod FirstOnes
+pub mod Standing
+pub mod Positions
+pub mod Reading

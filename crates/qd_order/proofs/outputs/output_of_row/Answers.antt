@@ -1,0 +1,22 @@
+use Rattle.std.proofs.Common.{◌∙◌, ap, inl, inr, sym, arith}
+use Rattle.qd_meaning.specs.Outputs.{shown_as}
+use Rattle.qd_order.proofs.Reading.{shown_at, shown_past}
+use Rattle.qd_order.proofs.outputs.output_of_row.Goals as goal
+use Rattle.qd_order.proofs.outputs.output_of_row.Goals.{else-at-len-via-then-at-len+else-at-len-2, else-at-len-via-else-at-len}
+
+pub returns-then-at-len-2 : goal.returns-then-at-len-2
+returns-then-at-len-2 c =
+    let col = c.get-then-at-len-2.result.now in
+    record {
+      value = c.shown.ensures ∙ ap (shown_as col.kind) c.value_of_row.ensures
+          ∙ sym (shown_at c.args.plan.now.picks c.args.plan.now.out c.args.row.now c.args.at c.get.result.now col c.get.ensures.item c.get-then-at-len-2.ensures.item);
+    }
+
+pub returns-else-at-len : goal.returns-else-at-len
+returns-else-at-len c =
+    record {
+      value = sym (shown_past c.args.plan.now.picks c.args.plan.now.out c.args.row.now c.args.at (elim c.else-at-len.branch [
+        | else-at-len-via-then-at-len+else-at-len-2 w ↦ inr (omega arith)
+        | else-at-len-via-else-at-len w ↦ inl (omega arith)
+      ]));
+    }

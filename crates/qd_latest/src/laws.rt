@@ -1,0 +1,8 @@
+//! What holds of the last rows of any rows.
+ghost use Rattle.qd_latest.specs.Laws.{LatestRowsAreLast};
+
+/// Each of the last rows is a row behind which none has its keys, and each row behind which none has its keys is one of
+/// the last rows.
+pub fn latest_rows_are_last()
+    ensures law { LatestRowsAreLast }
+{}

@@ -1,0 +1,11 @@
+//! The last row of each key.
+#![tactic(auto)]
+
+mod lasts;
+mod laws;
+mod rows;
+#[cfg(test)]
+mod tests;
+
+pub use laws::latest_rows_are_last;
+pub use rows::latest;

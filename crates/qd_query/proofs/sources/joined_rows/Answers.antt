@@ -1,0 +1,33 @@
+use Rattle.std.proofs.Common.{◌≡◌, ◌∙◌, List, ap, filter, subst, sym}
+use Rattle.qd_base.specs.declared.schema.Schema.{Schema}
+use Rattle.qd_base.specs.Rows.{Row}
+use Rattle.qd_meaning.specs.Joined.{last_or, may_take}
+use Rattle.qd_query.specs.Answers.{AreTimed}
+use Rattle.qd_rows.specs.Sets.{absent, rows_in}
+use Rattle.qd_scan.specs.Sources.{rows_at, schema_at, SourceView, Stays}
+use Rattle.qd_scan.proofs.ScanLemmas.{stays_then}
+use Rattle.qd_query.proofs.Orders.{timed_beside}
+use Rattle.qd_query.proofs.Told.{schema_before, schema_lent, told_before, told_joined}
+use Rattle.qd_query.proofs.sources.joined_rows.Goals as goal
+
+pub returns-clause-rows : goal.returns-clause-rows
+returns-clause-rows g c =
+    let s : SourceView = g.P.PartSource.shown c.args.source.now in
+    let between : SourceView = g.P.PartSource.shown c.all_rows.new.source in
+    let behind : SourceView = g.P.PartSource.shown c.all_rows-2.new.source in
+    let stays : Stays s behind = stays_then s between behind c.all_rows.ensures.stays c.all_rows-2.ensures.stays in
+    told_joined s s.database c.args.left c.args.right c.get.result.now.time_col c.get-2.result.now.time_col c.args.spec.now c.in_ok-right_rows.right_rows.left (rows_in c.in_ok-left_rows.left_rows) (rows_in c.in_ok-right_rows.right_rows)
+    (rows_in c.in_ok-rows.rows) c.requires.left c.requires.right
+    (ap (λ (x : Schema). x.time_col) (schema_lent s.schemas c.schemas.result.now c.args.left c.get.result.now (c.schemas.ensures.schemas ∙ stays.schemas) c.get.ensures.item))
+    (ap (λ (x : Schema). x.time_col) (schema_lent s.schemas c.schemas-2.result.now c.args.right c.get-2.result.now (c.schemas-2.ensures.schemas ∙ stays.schemas) c.get-2.ensures.item))
+    (c.in_ok-right_rows.ensures.cols ∙ ap (λ (x : Schema). x.cols) (schema_before s between c.args.right c.all_rows.ensures.stays))
+    c.keeps_its_law.ensures.law.told c.in_ok-left_rows.ensures.rows
+    (told_before s between (λ db. rows_in c.in_ok-right_rows.right_rows ≡ rows_at db c.args.right) c.all_rows.ensures.stays c.in_ok-right_rows.ensures.rows) c.in_ok-rows.ensures.rows
+
+pub returns-clause-timed : goal.returns-clause-timed
+returns-clause-timed g c =
+    let left : Schema = schema_at (g.P.PartSource.shown c.args.source.now) c.args.left in
+    let others : List Row = rows_in c.in_ok-right_rows.right_rows in
+    let beside : Row → Row = λ l. last_or (absent c.in_ok-right_rows.right_rows.left) (filter (may_take c.args.spec.now c.get.result.now.time_col c.get-2.result.now.time_col l) others) in
+    subst (AreTimed left.time_col) (sym c.in_ok-rows.ensures.rows)
+    (timed_beside left beside (rows_in c.in_ok-left_rows.left_rows) c.in_ok-left_rows.ensures.fit (record { order = c.in_ok-left_rows.ensures.order; timely = c.in_ok-left_rows.ensures.timely }))

@@ -1,0 +1,20 @@
+//! Queries: a statement that asks is answered over any source of the parts of tables, by its rows or by the refusal that
+//! goes first.
+//!
+//! `run_query` makes the plan of the statement, and runs it: the rows of the table or of the join, those that pass the test,
+//! the last of each key, what is made of them, and their order. Its answer is that of the plain meaning of statements, which
+//! `specs/Answers` names; SHOW PARTITIONS counts rows as `specs/Counted` says.
+#![tactic(auto)]
+
+mod answer;
+mod lengths;
+mod output;
+mod partitions;
+mod plans;
+mod queries;
+mod sources;
+#[cfg(test)]
+mod tests;
+
+pub use answer::Answer;
+pub use queries::run_query;

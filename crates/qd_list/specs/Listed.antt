@@ -1,12 +1,10 @@
 -- What a list of transactions keeps: its history, and how many of it are applied.
-use Rattle.std.specs.Prelude.{◌≡◌, ℕ, ◌+◌, ◌≤◌, List, [], ◌∷◌, ◌++◌, length, All, Option, Some, None, Result, Ok, Err}
+use Rattle.std.specs.Prelude.{◌≡◌, ℕ, ◌+◌, ◌*◌, ◌≤◌, List, [], ◌∷◌, ◌++◌, length, Option, Some, Result, Ok, Err}
 use Rattle.std.specs.List.{range_with_len}
 use Rattle.qd_base.specs.Codes.{number_of}
 use Rattle.qd_base.specs.declared.code.Code.{Code}
-use Rattle.qd_base.specs.declared.code.Code.TheVariants as code
+use Rattle.qd_base.specs.declared.limits.TheConstants.{MAX_QUERY_BYTES}
 use Rattle.qd_base.specs.declared.schema.Schema.{Schema}
-use Rattle.qd_base.specs.declared.op.Op.{Op}
-use Rattle.qd_base.specs.declared.op.Op.TheVariants as op
 use Rattle.qd_base.specs.declared.op.Entry.{Entry}
 use Rattle.qd_base.specs.Database.{schemas_of}
 use Rattle.qd_base.specs.Lawful.{Lawful}
@@ -17,13 +15,16 @@ use Rattle.qd_base.specs.declared.request.Reply.{Reply}
 use Rattle.qd_base.specs.declared.request.Reply.TheVariants as reply
 use Rattle.qd_ilp.specs.Transaction.{Says, start}
 use Rattle.qd_ilp.specs.Whole.{Reading}
-use Rattle.qd_session.specs.Allowed.{Allowed}
-use Rattle.qd_session.specs.Asking.{asks_for, rows_of}
-use Rattle.qd_session.specs.Looks.{Look, Shown}
-use Rattle.qd_session.specs.Timing.{want_of_memory}
-use Rattle.qd_trees.specs.declared.tree.Name.{Name}
+use Rattle.qd_trees.specs.declared.tree.Stmt.{Stmt}
+use Rattle.qd_trees.specs.declared.tree.Stmt.TheVariants as is
 use Rattle.qd_sql.specs.declared.stmt.SqlFault.{SqlFault}
 use Rattle.qd_sql.specs.declared.stmt.SqlFault.TheVariants as fault
+use Rattle.qd_meaning.specs.declared.refusal.Refusal.{Refusal}
+use Rattle.qd_meaning.specs.Answer.{answer}
+use Rattle.qd_meaning.specs.Write.{write}
+use Rattle.qd_scan.specs.Sources.{SourceView}
+use Rattle.qd_session.specs.Allowed.{Allowed}
+use Rattle.qd_session.specs.Looks.{Look, Shown}
 
 -- the transactions, and the number of those that are applied
 pub record Listed : Type 0 where
@@ -67,37 +68,45 @@ Writes old new time reading (reply.Done n) =
 Writes old new time reading (reply.Refused number line) = (c : Code) × (number ≡ number_of c) × SaysOver old time reading (Err (c, line)) × (new ≡ old)
 Writes old new time reading _ = ⊥
 
--- the reply to a query of one table over n transactions: its rows, or that there is none of the name at this place
-abbrev pub answered : (n place : ℕ) → Option Table → Reply
-answered n place (Some table) = reply.Rows n table
-answered n place None = reply.QueryRefused n (number_of code.UnknownTable) place
+-- the reply that gives an answer over the first n transactions
+abbrev pub answered : ℕ → Result Table Refusal → Reply
+answered n (Ok table) = reply.Rows n table
+answered n (Err r) = reply.QueryRefused n (number_of r.code) r.place
 
--- the reply to a text that asks for a table, over what is applied, or is refused
-abbrev pub replied : Listed → Result Name SqlFault → Reply
-replied l (Ok name) = answered l.applied name.at (rows_of (first l.history l.applied) name.text)
-replied l (Err (fault.Refused why place)) = reply.Refused (number_of why) place
-replied l (Err fault.Memory) = want_of_memory
+-- a statement that asks was answered so: by its meaning over what is applied, and nothing is changed
+abbrev pub AnswersStmt : Listed → Listed → Stmt → Reply → Type 0
+AnswersStmt old new s given = (given ≡ answered old.applied (answer (first old.history old.applied) s)) × (new ≡ old)
 
-abbrev pub sql_reply : Listed → List ℕ → Reply
-sql_reply l text = replied l (asks_for text)
+-- A statement that writes was answered so: what it writes is the next transaction, or it is refused and nothing is changed.
+abbrev pub WritesStmt : Listed → Listed → Stmt → Reply → Type 0
+WritesStmt old new s (reply.Done n) =
+    (entry : Entry) × (write (schemas_of (after old.history)) s ≡ Ok entry) × (n ≡ length old.history + 1) × (new ≡ with_entry old entry)
+WritesStmt old new s (reply.Refused number place) =
+    (r : Refusal) × (write (schemas_of (after old.history)) s ≡ Err r) × (number ≡ number_of r.code) × (place ≡ r.place) × (new ≡ old)
+WritesStmt old new s _ = ⊥
+
+-- A text was carried out so: its statement writes, or asks; or the text is refused.
+abbrev pub CarriesOut : Listed → Listed → Result Stmt SqlFault → Reply → Type 0
+CarriesOut old new (Ok (is.Create c)) given = WritesStmt old new (is.Create c) given
+CarriesOut old new (Ok (is.Insert i)) given = WritesStmt old new (is.Insert i) given
+CarriesOut old new (Ok (is.Query q)) given = AnswersStmt old new (is.Query q) given
+CarriesOut old new (Ok (is.Show name place)) given = AnswersStmt old new (is.Show name place) given
+CarriesOut old new (Err (fault.Refused why place)) given = (given ≡ reply.Refused (number_of why) place) × (new ≡ old)
+CarriesOut old new (Err fault.Memory) given = ⊥
+
+-- the rows of an INSERT are no more than a text has room for
+abbrev pub IsShort : Stmt → Type 0
+IsShort (is.Insert i) = 4 * length i.tuples ≤ MAX_QUERY_BYTES
+IsShort s = Unit {0}
 
 -- with all that is there applied
 abbrev pub all_applied : Listed → Listed
 all_applied l = record { history = l.history; applied = length l.history }
 
--- a change makes no table with keys
-abbrev pub IsKeylessOp : Op → Type 0
-IsKeylessOp (op.Create schema) = schema.keys ≡ []
-IsKeylessOp (op.AddColumn table col) = Unit {0}
-IsKeylessOp (op.Insert table rows) = Unit {0}
-
-abbrev pub IsKeyless : Entry → Type 0
-IsKeyless entry = All IsKeylessOp entry.ops
-
--- What is kept fits together: the transactions are lawful and make no table with keys, the schemas are those that they
--- leave, and no more is applied than there is.
-pub record FitsTogether (history : List Entry) (applied : ℕ) (schemas : List Schema) : Type 0 where
+-- What is kept fits together: the transactions are lawful, the schemas are those that they leave, no more is applied than
+-- there is, and the parts are those of the database that the applied ones come to.
+pub record FitsTogether (history : List Entry) (applied : ℕ) (schemas : List Schema) (parts : SourceView) : Type 0 where
   pub within : applied ≤ length history
   pub lawful : Lawful history
-  pub keyless : All IsKeyless history
   pub schemas_are : schemas ≡ schemas_of (after history)
+  pub told : parts.database ≡ Some (first history applied)

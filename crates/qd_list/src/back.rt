@@ -1,37 +1,46 @@
 //! The backend: what it keeps, and how it answers.
-ghost use Rattle.std.specs.Prelude.{◌≡◌, ℕ, ◌+◌, ◌≤◌, List, [], ◌∷◌, ◌++◌, length, Ok, IfOk, OnOk, OnErr};
+ghost use Rattle.std.specs.Prelude.{◌≡◌, ℕ, ◌+◌, ◌≤◌, List, [], ◌∷◌, ◌++◌, length, Ok, Result, IfOk, OnOk, OnErr};
 ghost use Rattle.qd_base.specs.Codes.{number_of};
 ghost use Rattle.qd_base.specs.declared.limits.TheConstants.{MAX_BATCH_CELLS};
 ghost use Rattle.qd_base.specs.declared.request.Request.TheVariants as request;
 ghost use Rattle.qd_base.specs.declared.request.Reply.TheVariants as reply;
+ghost use Rattle.qd_base.specs.declared.request.Table.{Table};
 ghost use Rattle.qd_base.specs.Database.{schemas_of};
 ghost use Rattle.qd_base.specs.Lawful.{AreLawful, cells_of};
-ghost use Rattle.qd_base.specs.Replay.{after};
+ghost use Rattle.qd_base.specs.Replay.{after, first};
 ghost use Rattle.qd_ilp.specs.Whole.{IsReading};
+ghost use Rattle.qd_meaning.specs.declared.refusal.Refusal.{Refusal};
+ghost use Rattle.qd_meaning.specs.Answer.{answer as meant};
+ghost use Rattle.qd_query.specs.Answers.{given as told};
 ghost use Rattle.qd_session.specs.Legal.{Handles};
-ghost use Rattle.qd_session.specs.Asking.{has_only_source, table_asked};
+ghost use Rattle.qd_session.specs.Asking.{asks_for, IsQuestion};
 ghost use Rattle.qd_session.specs.Timing.{IsRead};
-ghost use Rattle.qd_list.specs.Listed.{AllowedAlone, IsKeyless, Writes, all_applied, listed_shown, replied, sql_reply, with_entry};
+ghost use Rattle.qd_list.specs.Listed.{AllowedAlone, CarriesOut, IsShort, Writes, WritesStmt, all_applied, answered, listed_shown, with_entry};
 
-use crate::found::{table_named, table_of};
 use crate::schemas::{inserts_only, schemas_after};
 use qd_base::{Code, Entry, MAX_QUERY_BYTES, Memory, Reply, Schemas, Seq, Txt};
+use qd_grammar::inserts_are_short;
 use qd_ilp::Batch;
 use qd_lines::{LineFault, batches_are_lawful, entry_of};
+use qd_parts::ListParts;
+use qd_query::{Answer, run_query};
+use qd_scan::PartSource;
 use qd_session::Backend;
-use qd_sql::{Name, Query, SqlFault, Stmt, parse_stmt};
+use qd_sql::{SqlFault, Stmt, parse_stmt};
+use qd_writes::{StmtFault, check_write};
 use std::alloc::{AllocError, Global};
 use std::marker::Model;
 
 /// A backend that keeps its transactions in memory, in one list.
 ///
-/// Contracts see the transactions and the number of those that are applied. Every transaction is its own. It is plain
-/// rather than fast: an answer is made from the transactions each time.
+/// Contracts see the transactions and the number of those that are applied. Every transaction is its own. The rows of
+/// those that are applied are kept in blocks, one for each partition of a table that has rows.
 #[derive(Drop)]
 pub struct ListBack {
     history: Seq<Entry>,
     applied: usize,
     schemas: Schemas,
+    parts: ListParts,
 }
 
 impl Model for ListBack {
@@ -41,7 +50,7 @@ impl Model for ListBack {
 
     ghost view = { λ b. record { history = b.history; applied = b.applied } };
 
-    ghost invariant = { λ b. FitsTogether b.history b.applied b.schemas };
+    ghost invariant = { λ b. FitsTogether b.history b.applied b.schemas b.parts };
 }
 
 impl ListBack {
@@ -54,6 +63,7 @@ impl ListBack {
             history: Seq::new(alloc),
             applied: 0,
             schemas: Schemas::new(alloc),
+            parts: ListParts::new(alloc),
         }
     }
 
@@ -65,7 +75,7 @@ impl ListBack {
     {
         batches_are_lawful();
         match entry_of(alloc, &self.schemas, batch, now) {
-            Ok(entry) => self.commit(entry),
+            Ok(said) => self.commit(said),
             Err(LineFault::Refused { code, line }) => Ok(Reply::Refused {
                 code: code.number(),
                 place: line,
@@ -78,7 +88,6 @@ impl ListBack {
     fn commit(&mut self, entry: Entry) -> Result<Reply, Memory>
         requires lawful { AreLawful (schemas_of (after self.old.history)) entry.ops }
         requires cells { cells_of entry ≤ MAX_BATCH_CELLS }
-        requires keyless { IsKeyless entry }
         ensures ok { OnOk result (self.new ≡ with_entry self.old entry) }
         ensures reply { IfOk result (λ given. given ≡ reply.Done (length self.old.history + 1)) }
         ensures err { OnErr result (self.new ≡ self.old) }
@@ -95,59 +104,63 @@ impl ListBack {
         })
     }
 
-    /// Makes the reply to a text of SQL.
-    fn reply_to(&self, alloc: Global, text: &[u8]) -> Result<Reply, Memory>
-        ensures ok { IfOk result (λ given. given ≡ sql_reply self.now text.now) }
-        ensures within { self.now.applied ≤ length self.now.history }
-    {
-        let _ = &self.history;
-        match parse_stmt(alloc, text) {
-            Ok(stmt) => self.reply_to_stmt(alloc, &stmt),
-            Err(SqlFault::Refused { code, place }) => Ok(refused(code, place)),
-            Err(SqlFault::Memory) => Err(AllocError),
-        }
-    }
-
-    /// Makes the reply to a statement.
-    fn reply_to_stmt(&self, alloc: Global, stmt: &Stmt) -> Result<Reply, Memory>
-        ensures ok { IfOk result (λ given. given ≡ replied self.now (table_asked stmt.now)) }
+    /// Carries out a statement of a text that is not too long.
+    fn carry_out(&mut self, alloc: Global, stmt: &Stmt) -> Result<Reply, Memory>
+        requires short { IsShort stmt.now }
+        ensures ok { IfOk result (λ given. CarriesOut self.old self.new (Ok stmt.now) given) }
+        ensures err { OnErr result (self.new ≡ self.old) }
     {
         match stmt {
-            Stmt::Query(query) if has_only_source(query) => {
-                self.rows_of(alloc, &query.source.table)
-            }
-            _ => Ok(refused(Code::NotBuilt, 0)),
+            Stmt::Create(_) | Stmt::Insert(_) => self.write_stmt(alloc, stmt),
+            Stmt::Query(_) | Stmt::Show(..) => self.answer(alloc, stmt),
         }
     }
 
-    /// Makes the reply to a query of all rows of a table.
-    fn rows_of(&self, alloc: Global, name: &Name) -> Result<Reply, Memory>
-        ensures ok { IfOk result (λ given. given ≡ replied self.now (Ok name.now)) }
+    /// Makes a statement that writes the next transaction, or refuses it.
+    fn write_stmt(&mut self, alloc: Global, stmt: &Stmt) -> Result<Reply, Memory>
+        requires short { IsShort stmt.now }
+        ensures ok { IfOk result (λ given. WritesStmt self.old self.new stmt.now given) }
+        ensures err { OnErr result (self.new ≡ self.old) }
     {
-        let applied = &self.history.as_slice()[..self.applied];
-        let n = self.applied as u64;
-        match table_named(alloc, applied, name.text.bytes())? {
-            Some(found) => Ok(Reply::Rows {
-                n,
-                table: table_of(alloc, found)?,
-            }),
-            None => Ok(Reply::QueryRefused {
-                n,
-                code: Code::UnknownTable.number(),
-                place: name.at,
-            }),
+        match check_write(alloc, &self.schemas, stmt) {
+            Ok(entry) => self.commit(entry),
+            Err(StmtFault::Refused { code, place }) => Ok(refused(code, place)),
+            Err(StmtFault::Memory) => Err(AllocError),
         }
     }
 
-    /// Takes all transactions as applied.
-    fn apply_all(&mut self) -> Reply
-        ensures applied { self.new ≡ all_applied self.old }
-        ensures reply { result ≡ reply.Applied (length self.old.history) }
-        ensures within { self.old.applied ≤ length self.old.history }
+    /// Answers a statement that asks over what is applied.
+    fn answer(&mut self, alloc: Global, stmt: &Stmt) -> Result<Reply, Memory>
+        requires asks { IsQuestion stmt.now }
+        ensures ok { IfOk result (λ given. given ≡ answered self.old.applied (meant (first self.old.history self.old.applied) stmt.now)) }
+        ensures unchanged { self.new ≡ self.old }
     {
+        // A source in memory has no fault but want of memory.
+        match run_query(alloc, &mut self.parts, stmt) {
+            Ok(answer) => Ok(answered(self.applied as u64, answer)),
+            Err(_) => Err(AllocError),
+        }
+    }
+
+    /// Tells that no more is applied than there is. It does nothing.
+    fn is_within(&self)
+        ensures { self.now.applied ≤ length self.now.history }
+    {
+        let _ = &self.history;
+    }
+
+    /// Applies all transactions that are not applied yet.
+    fn apply_all(&mut self, alloc: Global) -> Result<Reply, Memory>
+        ensures ok { OnOk result (self.new ≡ all_applied self.old) }
+        ensures reply { IfOk result (λ given. given ≡ reply.Applied (length self.old.history)) }
+        ensures err { OnErr result (self.new ≡ self.old) }
+    {
+        self.parts.keeps_its_law();
         let all = self.history.len();
+        self.parts
+            .apply(alloc, &self.history.as_slice()[self.applied..])?;
         self.applied = all;
-        Reply::Applied { n: all as u64 }
+        Ok(Reply::Applied { n: all as u64 })
     }
 }
 
@@ -167,29 +180,37 @@ impl Backend for ListBack {
         self.write(alloc, batch, now)
     }
 
-    /// Answers a query that has no part but its source with all applied rows of the table, or refuses it where no table
-    /// that is applied has the name. Each other text is refused: as `parse_stmt` refuses it, and a statement of another
-    /// form as one that is not built.
+    /// Makes CREATE TABLE and INSERT the next transaction, or refuses them; answers a query and SHOW PARTITIONS over what is
+    /// applied, or refuses them by the refusal that goes first. A text that is no statement is refused as `parse_stmt`
+    /// refuses it.
     ///
-    /// It costs time and memory linear in the text; and for an answer time linear in the number of changes that are
-    /// applied and in the table's rows, n log n in these where one is late, and memory linear in them.
+    /// It costs n log n in the length of the text; for a transaction what it holds, and a copy of all schemas where it makes
+    /// a table; and for an answer what `run_query` does.
     fn sql(&mut self, alloc: Global, text: &Txt) -> Result<Reply, Memory>
         requires { length text.now ≤ MAX_QUERY_BYTES }
         ensures handled { Handles AllowedAlone (listed_shown self.old) (listed_shown self.new) 0 (request.Sql text.now) result }
-        ensures answered { IfOk result (λ given. given ≡ sql_reply self.old text.now) }
-        ensures unchanged { self.new ≡ self.old }
+        ensures carried_out { IfOk result (λ given. CarriesOut self.old self.new (asks_for text.now) given) }
+        ensures err { OnErr result (self.new ≡ self.old) }
     {
-        self.reply_to(alloc, text.bytes())
+        self.is_within();
+        inserts_are_short();
+        match parse_stmt(alloc, text.bytes()) {
+            Ok(stmt) => self.carry_out(alloc, &stmt),
+            Err(SqlFault::Refused { code, place }) => Ok(refused(code, place)),
+            Err(SqlFault::Memory) => Err(AllocError),
+        }
     }
 
-    /// Applies all transactions, in constant time and without memory: what they come to is made when it is asked for.
-    fn apply(&mut self, _alloc: Global) -> Result<Reply, Memory>
+    /// Applies all transactions. It costs time and memory linear in the partitions that get rows and in the transactions
+    /// that were not applied, n log n in their rows where they are late.
+    fn apply(&mut self, alloc: Global) -> Result<Reply, Memory>
         ensures handled { Handles AllowedAlone (listed_shown self.old) (listed_shown self.new) 0 request.Apply result }
         ensures ok { OnOk result (self.new ≡ all_applied self.old) }
         ensures reply { IfOk result (λ given. given ≡ reply.Applied (length self.old.history)) }
         ensures err { OnErr result (self.new ≡ self.old) }
     {
-        Ok(self.apply_all())
+        self.is_within();
+        self.apply_all(alloc)
     }
 
     fn is_counted(&self) {}
@@ -197,17 +218,14 @@ impl Backend for ListBack {
     fn keeps_to_its_rule(&self) {}
 }
 
-/// Whether a query has no part but its source.
-fn has_only_source(query: &Query) -> bool
-    ensures { result ≡ has_only_source query.now }
+/// The reply that gives an answer over the first `n` transactions.
+fn answered(n: u64, answer: Answer) -> Reply
+    ensures { (r : Result Table Refusal) → answer ≡ told r → result ≡ answered n r }
 {
-    query.selected.is_none()
-        && query.join.is_none()
-        && query.filter.is_none()
-        && query.latest.is_none()
-        && query.sampled.is_none()
-        && query.order.is_none()
-        && query.limit.is_none()
+    match answer {
+        Answer::Rows(table) => Reply::Rows { n, table },
+        Answer::Refused { code, place } => Reply::QueryRefused { n, code, place },
+    }
 }
 
 /// The refusal of a text with a code at a place.

@@ -4,8 +4,6 @@
 #![tactic(auto)]
 
 mod back;
-mod found;
 mod schemas;
-mod sorting;
 
 pub use back::ListBack;

@@ -11,8 +11,9 @@ use Rattle.qd_base.specs.Database.{Database, schemas_of}
 use Rattle.qd_base.specs.Replay.{after, first}
 use Rattle.qd_session.specs.Looks.{Extends, IsStill, Look}
 use Rattle.qd_session.specs.Legal.{EndsByBye, GoesOn, IsLasting, MayLackClock, MayWantMemory}
-use Rattle.qd_session.specs.Allowed.{Allowed, HasTransaction, SaysBatch}
-use Rattle.qd_session.specs.Asking.{rows_of}
+use Rattle.qd_meaning.specs.Answer.{answer}
+use Rattle.qd_meaning.specs.Write.{write}
+use Rattle.qd_session.specs.Allowed.{Allowed, HasNoAnswer, HasTransaction, IsRefusalOver, SaysBatch}
 
 -- the database after a prefix, where more follows
 first-append : (h more : List Entry) (n : ℕ) → n ≤ length h → first (h ++ more) n ≡ first h n
@@ -31,12 +32,16 @@ allowed-more h more before now time (request.Write text) (reply.Done n) le (is, 
 allowed-more h more before now time (request.Write text) (reply.Refused number place) le (inl (c, is, says)) =
     inl (c, is, subst (λ (db : Database). SaysBatch (schemas_of db) time text (Err (c, place))) (sym (first-append h more now.sequenced le)) says)
 allowed-more h more before now time (request.Write text) (reply.Refused number place) le (inr f) = inr f
-allowed-more h more before now time (request.Sql text) (reply.Rows n table) le (name, asks, between, most, is) =
-    (name, asks, between, most, subst (λ (db : Database). rows_of db name.text ≡ Some table) (sym (first-append h more n (omega (arith, most, le)))) is)
-allowed-more h more before now time (request.Sql text) (reply.QueryRefused n number place) le (name, asks, is, at, between, most, none) =
-    (name, asks, is, at, between, most, subst (λ (db : Database). rows_of db name.text ≡ None) (sym (first-append h more n (omega (arith, most, le)))) none)
+allowed-more h more before now time (request.Sql text) (reply.Done n) le (s, asks, writes, is, newer, t) =
+    (s, asks, writes, is, newer, (t.0, get-append h more (n - 1) t.0 t.1, subst (λ (db : Database). write (schemas_of db) s ≡ Ok t.0) (sym (first-append h more (n - 1) (omega (arith, is, le)))) t.2))
+allowed-more h more before now time (request.Sql text) (reply.Rows n table) le (s, asks, question, between, most, is) =
+    (s, asks, question, between, most, subst (λ (db : Database). answer db s ≡ Ok table) (sym (first-append h more n (omega (arith, most, le)))) is)
+allowed-more h more before now time (request.Sql text) (reply.QueryRefused n number place) le (s, asks, question, between, most, is) =
+    (s, asks, question, between, most, subst (λ (db : Database). HasNoAnswer db s number place) (sym (first-append h more n (omega (arith, most, le)))) is)
 allowed-more h more before now time (request.Sql text) (reply.Refused number place) le (inl is) = inl is
-allowed-more h more before now time (request.Sql text) (reply.Refused number place) le (inr f) = inr f
+allowed-more h more before now time (request.Sql text) (reply.Refused number place) le (inr (inl (s, asks, is))) =
+    inr (inl (s, asks, subst (λ (db : Database). IsRefusalOver (schemas_of db) s number place) (sym (first-append h more now.sequenced le)) is))
+allowed-more h more before now time (request.Sql text) (reply.Refused number place) le (inr (inr f)) = inr (inr f)
 allowed-more h more before now time request.Apply (reply.Applied n) le a = a
 allowed-more h more before now time request.Apply (reply.Refused number place) le a = a
 allowed-more h more before now time request.End reply.Bye le a = a
@@ -45,7 +50,6 @@ allowed-more h more before now time (request.Write text) (reply.Applied n) le a 
 allowed-more h more before now time (request.Write text) (reply.QueryRefused n number place) le a = absurd a
 allowed-more h more before now time (request.Write text) (reply.Damaged file at) le a = absurd a
 allowed-more h more before now time (request.Write text) reply.Bye le a = absurd a
-allowed-more h more before now time (request.Sql text) (reply.Done n) le a = absurd a
 allowed-more h more before now time (request.Sql text) (reply.Applied n) le a = absurd a
 allowed-more h more before now time (request.Sql text) (reply.Damaged file at) le a = absurd a
 allowed-more h more before now time (request.Sql text) reply.Bye le a = absurd a
@@ -86,7 +90,7 @@ allowed-ends = record { bye = λ history before now time still. tt; only_bye = o
 
 pub allowed-wants : MayWantMemory Allowed
 allowed-wants history before now time (request.Write text) on still = inr (inr (inl (refl, refl)))
-allowed-wants history before now time (request.Sql text) on still = inr (inl (refl, refl))
+allowed-wants history before now time (request.Sql text) on still = inr (inr (inl (refl, refl)))
 allowed-wants history before now time request.Apply on still = inl (refl, refl)
 allowed-wants history before now time request.End on still = absurd on
 

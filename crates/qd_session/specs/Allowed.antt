@@ -10,13 +10,16 @@ use Rattle.qd_base.specs.declared.request.Request.{Request}
 use Rattle.qd_base.specs.declared.request.Request.TheVariants as request
 use Rattle.qd_base.specs.declared.request.Reply.{Reply}
 use Rattle.qd_base.specs.declared.request.Reply.TheVariants as reply
-use Rattle.qd_base.specs.Database.{schemas_of}
+use Rattle.qd_base.specs.Database.{Database, schemas_of}
 use Rattle.qd_base.specs.Replay.{first}
 use Rattle.qd_ilp.specs.Transaction.{Says, start}
 use Rattle.qd_ilp.specs.Whole.{IsReading, Reading}
-use Rattle.qd_trees.specs.declared.tree.Name.{Name}
+use Rattle.qd_trees.specs.declared.tree.Stmt.{Stmt}
 use Rattle.qd_sql.specs.declared.stmt.SqlFault.TheVariants as fault
-use Rattle.qd_session.specs.Asking.{asks_for, rows_of}
+use Rattle.qd_meaning.specs.declared.refusal.Refusal.{Refusal}
+use Rattle.qd_meaning.specs.Answer.{answer}
+use Rattle.qd_meaning.specs.Write.{write}
+use Rattle.qd_session.specs.Asking.{asks_for, IsQuestion, IsWrite}
 use Rattle.qd_session.specs.Looks.{Look}
 use Rattle.qd_session.specs.Timing.{LacksTime}
 
@@ -56,6 +59,24 @@ IsRefusedBatch None sequenced time text number place = IsLineCode number
 IsRefusedBatch (Some h) sequenced time text number place =
     (c : Code) × (number ≡ number_of c) × SaysBatch (schemas_of (first h sequenced)) time text (Err (c, place))
 
+-- A statement that writes is refused over some schemas: by the code and the place of that refusal of all which goes first.
+abbrev pub IsRefusalOver : List Schema → Stmt → ℕ → ℕ → Type 0
+IsRefusalOver schemas s number place = (r : Refusal) × (write schemas s ≡ Err r) × (number ≡ number_of r.code) × (place ≡ r.place)
+
+-- it is refused over the schemas of the first transactions
+abbrev pub IsRefusedWrite : Option (List Entry) → (sequenced : ℕ) → Stmt → ℕ → ℕ → Type 0
+IsRefusedWrite None sequenced s number place = (schemas : List Schema) × IsRefusalOver schemas s number place
+IsRefusedWrite (Some h) sequenced s number place = IsRefusalOver (schemas_of (first h sequenced)) s number place
+
+-- A statement that asks is refused over a database: by the code and the place of that refusal of all which goes first.
+abbrev pub HasNoAnswer : Database → Stmt → ℕ → ℕ → Type 0
+HasNoAnswer db s number place = (r : Refusal) × (answer db s ≡ Err r) × (number ≡ number_of r.code) × (place ≡ r.place)
+
+-- it is refused over the first n transactions
+abbrev pub IsRefusedQuestion : Option (List Entry) → (n : ℕ) → Stmt → ℕ → ℕ → Type 0
+IsRefusedQuestion None n s number place = (db : Database) × HasNoAnswer db s number place
+IsRefusedQuestion (Some h) n s number place = HasNoAnswer (first h n) s number place
+
 -- a number that the answers between two looks may be over
 abbrev pub IsBetween : Look → Look → ℕ → Type 0
 IsBetween before now n = (before.known ≤ n) × (n ≤ now.known)
@@ -68,16 +89,19 @@ Allowed history before now time (request.Write text) (reply.Done n) =
     (n ≡ now.sequenced) × (before.sequenced < n) × IfSome history (λ h. HasTransaction h n (λ entry. SaysBatch (schemas_of (first h (n - 1))) time text (Ok entry)))
 Allowed history before now time (request.Write text) (reply.Refused number place) =
     IsRefusedBatch history now.sequenced time text number place ⊎ (IsClockFault before now text number place ⊎ IsFault before now number place)
--- the table that a text asks for is answered over the first n transactions: by its rows, or by its name's place where none
--- is there
+-- a statement that writes becomes transaction n, the last one now, over the schemas of those before it
+Allowed history before now time (request.Sql text) (reply.Done n) =
+    (s : Stmt) × (asks_for text ≡ Ok s) × IsWrite s × (n ≡ now.sequenced) × (before.sequenced < n)
+    × IfSome history (λ h. HasTransaction h n (λ entry. write (schemas_of (first h (n - 1))) s ≡ Ok entry))
+-- a statement that asks is answered over the first n transactions: by its table, or by that refusal of all which goes first
 Allowed history before now time (request.Sql text) (reply.Rows n table) =
-    (name : Name) × (asks_for text ≡ Ok name) × IsBetween before now n × (n ≤ now.sequenced) × IfSome history (λ h. rows_of (first h n) name.text ≡ Some table)
+    (s : Stmt) × (asks_for text ≡ Ok s) × IsQuestion s × IsBetween before now n × (n ≤ now.sequenced) × IfSome history (λ h. answer (first h n) s ≡ Ok table)
 Allowed history before now time (request.Sql text) (reply.QueryRefused n number place) =
-    (name : Name) × (asks_for text ≡ Ok name) × (number ≡ number_of code.UnknownTable) × (place ≡ name.at)
-    × IsBetween before now n × (n ≤ now.sequenced) × IfSome history (λ h. rows_of (first h n) name.text ≡ None)
--- any other text is refused as it is
+    (s : Stmt) × (asks_for text ≡ Ok s) × IsQuestion s × IsBetween before now n × (n ≤ now.sequenced) × IsRefusedQuestion history n s number place
+-- any other text is refused as it is, and a statement that writes may be refused
 Allowed history before now time (request.Sql text) (reply.Refused number place) =
-    ((c : Code) × (number ≡ number_of c) × (asks_for text ≡ Err (fault.Refused c place))) ⊎ IsFault before now number place
+    ((c : Code) × (number ≡ number_of c) × (asks_for text ≡ Err (fault.Refused c place)))
+    ⊎ (((s : Stmt) × (asks_for text ≡ Ok s) × IsRefusedWrite history now.sequenced s number place) ⊎ IsFault before now number place)
 -- all that was sequenced at the look before is applied
 Allowed history before now time request.Apply (reply.Applied n) =
     IsBetween before now n × (before.sequenced ≤ n) × (n ≤ now.sequenced)

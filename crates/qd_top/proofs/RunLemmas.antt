@@ -185,7 +185,7 @@ range_first m ms a (suc n) e = let tail : ms ≡ range_with_len (a + 1) n = cc (
 -- what an acknowledgement, and an apply, say of the numbers
 done-says : (h : Option (List Entry)) (a b : Look) (time : ℕ) (q : Request) (m : ℕ) → Allowed h a b time q (reply.Done m) → (m ≡ b.sequenced) × (a.sequenced < m)
 done-says h a b time (request.Write text) m x = (x.0, x.1)
-done-says h a b time (request.Sql text) m x = absurd x
+done-says h a b time (request.Sql text) m x = (x.3, x.4)
 done-says h a b time request.Apply m x = absurd x
 done-says h a b time request.End m x = absurd x
 

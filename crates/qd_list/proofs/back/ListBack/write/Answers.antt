@@ -5,7 +5,6 @@ use Rattle.qd_base.specs.Database.{schemas_of}
 use Rattle.qd_base.specs.Lawful.{AreLawful, AreSchemas}
 use Rattle.qd_base.specs.Replay.{after}
 use Rattle.qd_list.specs.Listed.{Listed}
-use Rattle.qd_list.proofs.KeylessLemmas.{keyless_said}
 use Rattle.qd_list.proofs.back.ListBack.write.Goals as goal
 
 pub entry_of-requires : goal.entry_of-requires
@@ -15,14 +14,11 @@ pub commit-requires-clause-lawful : goal.commit-requires-clause-lawful
 commit-requires-clause-lawful c =
     let read = c.requires.read in
     let sound = subst AreSchemas (sym c.self.invariant.schemas_are) (sound_schemas c.self.inside.history c.self.invariant.lawful) in
-    let kept = c.batches_are_lawful.ensures.law.text c.args.now c.self.inside.schemas 1 read.0 c.args.batch.now c.in-Ok.entry sound read.1 read.2 c.in-Ok.ensures.entry in
-    subst (λ (s : List Schema). AreLawful s c.in-Ok.entry.ops) (c.self.invariant.schemas_are ∙ ap (λ (l : Listed). schemas_of (after l.history)) c.self.view_is) kept.0.lawful
+    let kept = c.batches_are_lawful.ensures.law.text c.args.now c.self.inside.schemas 1 read.0 c.args.batch.now c.in-Ok.said sound read.1 read.2 c.in-Ok.ensures.entry in
+    subst (λ (s : List Schema). AreLawful s c.in-Ok.said.ops) (c.self.invariant.schemas_are ∙ ap (λ (l : Listed). schemas_of (after l.history)) c.self.view_is) kept.0.lawful
 
 pub commit-requires-clause-cells : goal.commit-requires-clause-cells
 commit-requires-clause-cells c =
     let read = c.requires.read in
     let sound = subst AreSchemas (sym c.self.invariant.schemas_are) (sound_schemas c.self.inside.history c.self.invariant.lawful) in
-    (c.batches_are_lawful.ensures.law.text c.args.now c.self.inside.schemas 1 read.0 c.args.batch.now c.in-Ok.entry sound read.1 read.2 c.in-Ok.ensures.entry).1
-
-pub commit-requires-clause-keyless : goal.commit-requires-clause-keyless
-commit-requires-clause-keyless c = keyless_said c.args.now c.self.inside.schemas c.args.batch.now.lines c.args.batch.now.whole c.in-Ok.entry c.in-Ok.ensures.entry
+    (c.batches_are_lawful.ensures.law.text c.args.now c.self.inside.schemas 1 read.0 c.args.batch.now c.in-Ok.said sound read.1 read.2 c.in-Ok.ensures.entry).1

@@ -17,25 +17,25 @@ import tempfile
 from program import parsed, run
 
 LONGEST = 65_536
-NOT_BUILT = b"E 40 0\n"
+NO_TABLE = b"F 0 32 0\n"
 NO_MEMORY = b"E 61 0\n"
 
 # statements, each with its reply over no table
 STATEMENTS = [(text.encode(), reply) for text, reply in [
     ("trades", b"F 0 32 0\n"),
     ('  "My Trades" AS t;', b"F 0 32 2\n"),
-    ("SELECT v FROM t", NOT_BUILT),
-    ("CREATE TABLE d (ts TIMESTAMP, k SYMBOL, v LONG) TIMESTAMP(ts) PARTITION BY DAY WAL DEDUP UPSERT KEYS(ts, k)", NOT_BUILT),
-    ("INSERT INTO e VALUES ('2024-01-01', 5), ('2024-01-02', -6)", NOT_BUILT),
-    ("SELECT timestamp, sum(v) FROM t SAMPLE BY 1h FILL(PREV) ALIGN TO CALENDAR WITH OFFSET '00:15'", NOT_BUILT),
-    ("SELECT timestamp, count() FROM m SAMPLE BY 1M FILL(0) ORDER BY timestamp DESC LIMIT 1, 3", NOT_BUILT),
-    ("SELECT v FROM t WHERE timestamp IN '2024-01;1d' AND NOT (v > 3 OR s IS NULL)", NOT_BUILT),
-    ("SELECT px, bid FROM tr ASOF JOIN q ON (sym) WHERE tr.px * 2 >= bid % 10 - 1", NOT_BUILT),
-    ("SELECT k, v FROM l LATEST ON timestamp PARTITION BY k", NOT_BUILT),
-    ("SELECT v + 1, v / 0, v % 10 FROM t -- three items", NOT_BUILT),
-    ("SHOW PARTITIONS FROM t", NOT_BUILT),
+    ("SELECT v FROM t", b"F 0 32 14\n"),
+    ("CREATE TABLE d (ts TIMESTAMP, k SYMBOL, v LONG) TIMESTAMP(ts) PARTITION BY DAY WAL DEDUP UPSERT KEYS(k)", b"E 36 96\n"),
+    ("INSERT INTO e VALUES ('2024-01-01', 5), ('2024-01-02', -6)", b"E 32 12\n"),
+    ("SELECT timestamp, sum(v) FROM t SAMPLE BY 1h FILL(PREV) ALIGN TO CALENDAR WITH OFFSET '00:15'", b"F 0 32 30\n"),
+    ("SELECT timestamp, count() FROM m SAMPLE BY 1M FILL(0) ORDER BY timestamp DESC LIMIT 1, 3", b"F 0 32 31\n"),
+    ("SELECT v FROM t WHERE timestamp IN '2024-01;1d' AND NOT (v > 3 OR s IS NULL)", b"F 0 32 14\n"),
+    ("SELECT px, bid FROM tr ASOF JOIN q ON (sym) WHERE tr.px * 2 >= bid % 10 - 1", b"F 0 32 20\n"),
+    ("SELECT k, v FROM l LATEST ON timestamp PARTITION BY k", b"F 0 32 17\n"),
+    ("SELECT v + 1, v / 0, v % 10 FROM t -- three items", b"F 0 32 33\n"),
+    ("SHOW PARTITIONS FROM t", b"F 0 32 21\n"),
     ("SELECT FROM t", b"E 31 7\n"),
-    ("DROP TABLE t", NOT_BUILT),
+    ("DROP TABLE t", b"E 40 0\n"),
     ("t LIMIT 9223372036854775808", b"E 13 8\n"),
 ]]
 
@@ -47,11 +47,11 @@ def filled(front, part, length, back=b""):
 
 # texts of one form: its name, the text of a length, and its reply
 FORMS = [
-    ("a chain of OR", lambda n: filled(b"t WHERE v", b" OR v", n), lambda text: NOT_BUILT),
-    ("a chain of plus", lambda n: filled(b"t WHERE v = 1", b"+1", n), lambda text: NOT_BUILT),
-    ("a list behind IN", lambda n: filled(b"t WHERE v IN (1", b",1", n, b")"), lambda text: NOT_BUILT),
-    ("one name", lambda n: b"t" * n, lambda text: b"F 0 32 0\n"),
-    ("a text", lambda n: filled(b"t WHERE s = '", b"''", n, b"'"), lambda text: NOT_BUILT),
+    ("a chain of OR", lambda n: filled(b"t WHERE v", b" OR v", n), lambda text: NO_TABLE),
+    ("a chain of plus", lambda n: filled(b"t WHERE v = 1", b"+1", n), lambda text: NO_TABLE),
+    ("a list behind IN", lambda n: filled(b"t WHERE v IN (1", b",1", n, b")"), lambda text: NO_TABLE),
+    ("one name", lambda n: b"t" * n, lambda text: NO_TABLE),
+    ("a text", lambda n: filled(b"t WHERE s = '", b"''", n, b"'"), lambda text: NO_TABLE),
     ("open brackets", lambda n: filled(b"t WHERE ", b"(", n), lambda text: NO_MEMORY),
     ("NOT", lambda n: filled(b"t WHERE ", b"NOT ", n), lambda text: b"E 31 %d\n" % len(text)),
     ("minuses in a row", lambda n: filled(b"t WHERE 1 -", b" -", n), lambda text: b"E 31 %d\n" % len(text)),

@@ -10,3 +10,4 @@ pub mod SymbolLemmas
 pub mod RunLemmas
 pub mod ExtremeLemmas
 pub mod GroupTallies
+pub mod PairLemmas

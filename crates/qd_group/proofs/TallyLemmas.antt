@@ -19,8 +19,6 @@ use Rattle.qd_meaning.specs.declared.parts.Agg.{Agg}
 use Rattle.qd_meaning.specs.declared.parts.Agg.TheVariants as agg
 use Rattle.qd_meaning.specs.Grouped.{plus, total, sum_cell, is_less, first_cell, last_cell, aggregate, values}
 use Rattle.qd_expr.proofs.ListLemmas.{map-map}
-use Rattle.qd_group.specs.declared.tallies.Tally.{Tally}
-use Rattle.qd_group.specs.Tallied.{state_of}
 use Rattle.qd_group.specs.Grouping.{answers_of, members}
 use Rattle.qd_group.specs.Kept.{kept}
 use Rattle.qd_group.specs.Tallies.{Leading, State, counted, summed, least, greatest, first, last, nothing, lead_after, start, next, answer, argument, tallied}
@@ -171,11 +169,11 @@ map-alike : {X Y : Type 0} (f g : X → Y) → ((x : X) → f x ≡ g x) → (xs
 map-alike f g same [] = refl
 map-alike f g same (x ∷ xs) = ap₂ (λ y l. y ∷ l) (same x) (map-alike f g same xs)
 
--- the answers of the tallies of groups
-pub column_answers : (a : Agg) (ns : List ℕ) (groups : ℕ) (rows : List Row) (tallies : List Tally) → map state_of tallies ≡ map (λ n. tallied a (members n ns rows)) (range_with_len 0 groups)
-    → map (λ t. answer (state_of t)) tallies ≡ answers_of ns groups rows a
-column_answers a ns groups rows tallies are =
-    sym (map-map answer state_of tallies)
+-- the answers of what is kept of groups
+pub column_answers : {K : Type 0} (state : K → State) (a : Agg) (ns : List ℕ) (groups : ℕ) (rows : List Row) (tallies : List K) → map state tallies ≡ map (λ n. tallied a (members n ns rows)) (range_with_len 0 groups)
+    → map (λ t. answer (state t)) tallies ≡ answers_of ns groups rows a
+column_answers state a ns groups rows tallies are =
+    sym (map-map answer state tallies)
     ∙ ap (map answer) are
     ∙ map-map answer (λ n. tallied a (members n ns rows)) (range_with_len 0 groups)
     ∙ map-alike (λ n. answer (tallied a (members n ns rows))) (λ n. aggregate (members n ns rows) a) (λ n. tallied_answer a (members n ns rows)) (range_with_len 0 groups)

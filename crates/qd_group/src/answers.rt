@@ -7,9 +7,10 @@ ghost use Rattle.qd_meaning.specs.Grouped.{aggregates, grouped, key_of};
 ghost use Rattle.qd_rows.specs.Sets.{rows_in};
 ghost use Rattle.qd_value.specs.Scalars.{cell_of};
 
+use crate::by_groups::answers_of_groups;
 use crate::classes::grouped_rows;
 use crate::groups::Groups;
-use crate::tallying::{tallies_of_groups, tally_of_all};
+use crate::tallying::tally_of_all;
 use qd_base::{Dictionary, Memory, Row, RowList};
 use qd_expr::eval;
 use qd_meaning::{Agg, GroupSpec};
@@ -25,10 +26,10 @@ use std::alloc::Global;
 /// pass NULL over; the first and the last are those of the first and the last row, NULL or not.
 ///
 /// It costs the time of an expression a row for each key and each aggregate, and n log n comparisons for each key,
-/// whatever the values are. In a set without right columns less is enough: a key that is a SYMBOL column costs a look into
-/// a table a row, and a sum, the least and the greatest value of a LONG column go over the column's numbers; a count goes
-/// over no column. It takes some 50 bytes a row, and 48 a group and aggregate; texts are copied and cells made
-/// for the answer alone.
+/// whatever the values are. In a set without right columns less is enough: a key that is a SYMBOL column costs a look
+/// into a table a row, each further key a look into a table of pairs where that is small, and an aggregate of a LONG
+/// column goes over the column's numbers; a count goes over no column. It takes at most some 100 bytes a row, and at
+/// most 72 a group and aggregate; texts are copied and cells made for the answer alone.
 pub fn group<D: Dictionary>(
     alloc: Global,
     rows: &RowSet<D>,
@@ -77,29 +78,9 @@ pub fn columns_of<'a, D: Dictionary>(
 {
     let mut columns = Vec::with_capacity(alloc, aggs.len())?;
     for agg in aggs {
-        columns.push(column_of(alloc, agg, rows, groups)?)?;
+        columns.push(answers_of_groups(alloc, agg, rows, groups)?)?;
     }
     Ok(columns)
-}
-
-/// What an aggregate makes of each group's rows.
-fn column_of<'a, D: Dictionary>(
-    alloc: Global,
-    agg: &'a Agg,
-    rows: &'a RowSet<D>,
-    groups: &Groups,
-) -> Result<Vec<Scalar<'a>>, Memory>
-    requires count { length groups.now.numbers.items ≡ length rows.now.places }
-    requires below { All (λ n. n < length groups.now.firsts.items) groups.now.numbers.items }
-    ensures answers { IfOk result (λ v. map cell_of v.items ≡ answers_of groups.now.numbers.items (length groups.now.firsts.items) (rows_in rows.now) agg.now) }
-{
-    let tallies = tallies_of_groups(alloc, agg, rows, groups)?;
-    let mut answers = Vec::with_capacity(alloc, tallies.len())?;
-    for n in 0..tallies.len() {
-        let tally = tallies[n];
-        answers.push(tally.answer())?;
-    }
-    Ok(answers)
 }
 
 /// The keys of a row.

@@ -1,5 +1,5 @@
 //! Rows by groups, as numbers.
-ghost use Rattle.std.specs.Prelude.{◌≡◌, ◌==◌, ◌++◌, [], ◌∷◌, if◌then◌else◌, length, OnOk};
+ghost use Rattle.std.specs.Prelude.{◌≡◌, ◌==◌, ◌++◌, [], ◌∷◌, if◌then◌else◌, length, IfOk, OnOk};
 
 use qd_base::Memory;
 use std::alloc::Global;
@@ -25,6 +25,17 @@ impl Groups {
             numbers: Vec::new(alloc),
             firsts: Vec::new(alloc),
         }
+    }
+
+    /// Without rows, with room for so many. It takes 8 bytes for each.
+    pub(crate) fn for_rows(alloc: Global, count: usize) -> Result<Groups, Memory>
+        ensures numbers { IfOk result (λ g. g.numbers.items ≡ []) }
+        ensures firsts { IfOk result (λ g. g.firsts.items ≡ []) }
+    {
+        Ok(Groups {
+            numbers: Vec::with_capacity(alloc, count)?,
+            firsts: Vec::new(alloc),
+        })
     }
 
     /// Adds a row to a group, or, where it has the next number, as the first row of a new one. It takes amortised

@@ -23,7 +23,7 @@ pub(crate) fn total_after_longs(
 
 /// A sum with one number more.
 #[inline(always)]
-fn total_after_long(total: Option<i128>, number: i64) -> Result<Option<i128>, Memory>
+pub(crate) fn total_after_long(total: Option<i128>, number: i64) -> Result<Option<i128>, Memory>
     ensures { IfOk result (λ t. t ≡ plus (long_cell number) total) }
 {
     if number == NULL_LONG {

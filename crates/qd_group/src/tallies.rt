@@ -47,10 +47,7 @@ impl<'a> Tally<'a> {
     pub(crate) fn new(agg: &Agg) -> Tally<'a>
         ensures start { state_of result ≡ spec.start agg.now }
     {
-        let lead = Lead {
-            best: Scalar::Null,
-            ended: false,
-        };
+        let lead = Lead::new();
         match agg {
             Agg::Count => Tally::Count(0),
             Agg::Sum(_) => Tally::Sum(None),
@@ -121,6 +118,16 @@ impl<'a> Tally<'a> {
 }
 
 impl<'a> Lead<'a> {
+    /// Before the first value.
+    pub(crate) fn new() -> Lead<'a>
+        ensures none { lead_of result ≡ spec.nothing }
+    {
+        Lead {
+            best: Scalar::Null,
+            ended: false,
+        }
+    }
+
     /// Where nothing has ended it and the best value is a number or none: that number, as a LONG column keeps it.
     fn number(self) -> Option<i64>
         ensures { IfSome result (λ b. lead_of self.entry ≡ spec.leading b) }
@@ -146,7 +153,7 @@ impl<'a> Lead<'a> {
     }
 
     /// After one value more, of which is said whether it is better than the best one.
-    fn after(self, value: Scalar<'a>, better: bool) -> Lead<'a>
+    pub(crate) fn after(self, value: Scalar<'a>, better: bool) -> Lead<'a>
         ensures { lead_of result ≡ spec.lead_after better (lead_of self.entry) (cell_of value.entry) }
     {
         if self.ended | value.is_null() {
@@ -190,21 +197,21 @@ pub(crate) fn of_long<'a>(number: i64) -> Scalar<'a>
 }
 
 /// Whether a value is less than another of its class.
-fn less<'a>(x: Scalar<'a>, y: Scalar<'a>) -> bool
+pub(crate) fn less<'a>(x: Scalar<'a>, y: Scalar<'a>) -> bool
     ensures { result ≡ is_less (cell_of x.entry) (cell_of y.entry) }
 {
     matches!(order(x, y), Some(Ordering::Less))
 }
 
 /// A count with one row more.
-fn one_more(count: i64) -> Result<i64, Memory>
+pub(crate) fn one_more(count: i64) -> Result<i64, Memory>
     ensures { IfOk result (λ n. n ≡ count +ℤ pos 1) }
 {
     count.checked_add(1).ok_or(AllocError)
 }
 
 /// A sum with one value more, if that is a number.
-fn total_after(total: Option<i128>, value: Scalar<'_>) -> Result<Option<i128>, Memory>
+pub(crate) fn total_after(total: Option<i128>, value: Scalar<'_>) -> Result<Option<i128>, Memory>
     ensures { IfOk result (λ t. t ≡ plus (cell_of value.entry) total) }
 {
     match (value, total) {
@@ -218,7 +225,7 @@ fn total_after(total: Option<i128>, value: Scalar<'_>) -> Result<Option<i128>, M
 }
 
 /// A sum, or NULL for none and for one outside of the range of LONG.
-fn sum_of<'a>(total: Option<i128>) -> Scalar<'a>
+pub(crate) fn sum_of<'a>(total: Option<i128>) -> Scalar<'a>
     ensures { cell_of result ≡ sum_cell total }
 {
     match total {

@@ -1,18 +1,13 @@
-//! Tallies of the rows of a set: of all of them, and of each group.
-ghost use Rattle.std.specs.Prelude.{◌≡◌, ◌<◌, None, All, IfOk, IfSome, fold, length, map, pos, replicate};
+//! The tally of all rows of a set.
+ghost use Rattle.std.specs.Prelude.{◌≡◌, None, IfOk, IfSome, fold, map, pos};
 ghost use Rattle.qd_base.specs.Rows.{cell_at as cell_of_col, Row};
-ghost use Rattle.qd_group.specs.Grouping.{members};
 ghost use Rattle.qd_group.specs.Tallied.{state_of};
-ghost use Rattle.qd_group.specs.Tallies.{argument as argument_of, counted, next, start, tallied};
-ghost use Rattle.qd_meaning.specs.declared.parts.Agg.TheVariants as count;
+ghost use Rattle.qd_group.specs.Tallies.{argument as argument_of, counted, next, tallied};
 ghost use Rattle.qd_rows.specs.Runs.{places_of_run};
 ghost use Rattle.qd_rows.specs.Sets.{row_of_place, rows_in, IsPlaced, IsRunOf};
 ghost use Rattle.qd_value.specs.Scalars.{cell_of};
 ghost use Rattle.qd_value.specs.Value.{value};
-ghost use Rattle.std.specs.List.{range_with_len};
 
-use crate::by_groups::{add_counts, add_runs};
-use crate::groups::Groups;
 use crate::longs::longs_of_run;
 use crate::tallies::Tally;
 use qd_base::{Dictionary, Memory};
@@ -125,13 +120,13 @@ fn after_rows<'a, D: Dictionary>(
     Ok(after)
 }
 
-/// The column whose values an aggregate takes, where it adds or compares them.
-fn column_of_agg(agg: &Agg) -> Option<usize>
+/// The column whose values an aggregate takes.
+pub(crate) fn column_of_agg(agg: &Agg) -> Option<usize>
     ensures { IfSome result (λ at. (row : Row) → argument_of agg.now row ≡ cell_of_col row at) }
 {
     match agg {
-        Agg::Sum(x) | Agg::Min(x) | Agg::Max(x) => column_of(x),
-        _ => None,
+        Agg::Sum(x) | Agg::Min(x) | Agg::Max(x) | Agg::First(x) | Agg::Last(x) => column_of(x),
+        Agg::Count => None,
     }
 }
 
@@ -143,112 +138,6 @@ pub(crate) fn column_of(expr: &Bound) -> Option<usize>
         Bound::Column(at) => Some(*at),
         _ => None,
     }
-}
-
-/// The tally of each group's rows. A count goes over the numbers of the groups alone; a sum, the least and the greatest
-/// value of a LONG column go over the column's numbers, in a set without right columns. Any other takes the time of an
-/// expression a row. It takes 48 bytes a group.
-pub(crate) fn tallies_of_groups<'a, D: Dictionary>(
-    alloc: Global,
-    agg: &'a Agg,
-    rows: &'a RowSet<D>,
-    groups: &Groups,
-) -> Result<Vec<Tally<'a>>, Memory>
-    requires count { length groups.now.numbers.items ≡ length rows.now.places }
-    requires below { All (λ n. n < length groups.now.firsts.items) groups.now.numbers.items }
-    ensures tallies { IfOk result (λ v. map state_of v.items ≡ map (λ n. tallied agg.now (members n groups.now.numbers.items (rows_in rows.now))) (range_with_len 0 (length groups.now.firsts.items))) }
-{
-    match agg {
-        Agg::Count => counts_of_groups(alloc, agg, rows, groups),
-        _ => tallies_of_values(alloc, agg, rows, groups),
-    }
-}
-
-/// How many rows each group has.
-fn counts_of_groups<'a, D: Dictionary>(
-    alloc: Global,
-    agg: &'a Agg,
-    rows: &'a RowSet<D>,
-    groups: &Groups,
-) -> Result<Vec<Tally<'a>>, Memory>
-    requires counts { agg.now ≡ count.Count }
-    requires count { length groups.now.numbers.items ≡ length rows.now.places }
-    requires below { All (λ n. n < length groups.now.firsts.items) groups.now.numbers.items }
-    ensures tallies { IfOk result (λ v. map state_of v.items ≡ map (λ n. tallied agg.now (members n groups.now.numbers.items (rows_in rows.now))) (range_with_len 0 (length groups.now.firsts.items))) }
-{
-    let mut tallies = no_tallies(alloc, agg, groups.firsts.len())?;
-    add_counts(&mut tallies, groups)?;
-    Ok(tallies)
-}
-
-/// The tally of each group's rows, of an aggregate that takes a value of each.
-fn tallies_of_values<'a, D: Dictionary>(
-    alloc: Global,
-    agg: &'a Agg,
-    rows: &'a RowSet<D>,
-    groups: &Groups,
-) -> Result<Vec<Tally<'a>>, Memory>
-    requires count { length groups.now.numbers.items ≡ length rows.now.places }
-    requires below { All (λ n. n < length groups.now.firsts.items) groups.now.numbers.items }
-    ensures tallies { IfOk result (λ v. map state_of v.items ≡ map (λ n. tallied agg.now (members n groups.now.numbers.items (rows_in rows.now))) (range_with_len 0 (length groups.now.firsts.items))) }
-{
-    match rows.right_cols() {
-        Some(_) => tallies_by_row(alloc, agg, rows, groups),
-        None => match column_of_agg(agg) {
-            Some(at) => tallies_by_runs(alloc, agg, at, rows, groups),
-            None => tallies_by_row(alloc, agg, rows, groups),
-        },
-    }
-}
-
-/// The tally of each group's rows, run by run, of an aggregate over a column.
-fn tallies_by_runs<'a, D: Dictionary>(
-    alloc: Global,
-    agg: &'a Agg,
-    at: usize,
-    rows: &'a RowSet<D>,
-    groups: &Groups,
-) -> Result<Vec<Tally<'a>>, Memory>
-    requires single { rows.now.right ≡ None }
-    requires column { (row : Row) → argument_of agg.now row ≡ cell_of_col row at }
-    requires count { length groups.now.numbers.items ≡ length rows.now.places }
-    requires below { All (λ n. n < length groups.now.firsts.items) groups.now.numbers.items }
-    ensures tallies { IfOk result (λ v. map state_of v.items ≡ map (λ n. tallied agg.now (members n groups.now.numbers.items (rows_in rows.now))) (range_with_len 0 (length groups.now.firsts.items))) }
-{
-    let mut tallies = no_tallies(alloc, agg, groups.firsts.len())?;
-    add_runs(&mut tallies, agg, at, rows, groups)?;
-    Ok(tallies)
-}
-
-/// The tally of each group's rows, one row after another.
-fn tallies_by_row<'a, D: Dictionary>(
-    alloc: Global,
-    agg: &'a Agg,
-    rows: &'a RowSet<D>,
-    groups: &Groups,
-) -> Result<Vec<Tally<'a>>, Memory>
-    requires count { length groups.now.numbers.items ≡ length rows.now.places }
-    requires below { All (λ n. n < length groups.now.firsts.items) groups.now.numbers.items }
-    ensures tallies { IfOk result (λ v. map state_of v.items ≡ map (λ n. tallied agg.now (members n groups.now.numbers.items (rows_in rows.now))) (range_with_len 0 (length groups.now.firsts.items))) }
-{
-    let mut tallies = no_tallies(alloc, agg, groups.firsts.len())?;
-    for i in 0..rows.len() {
-        let value = argument(agg, rows, rows.places(i));
-        let number = groups.numbers[i];
-        tallies[number] = tallies[number].after(value)?;
-    }
-    Ok(tallies)
-}
-
-/// So many tallies before the first row.
-fn no_tallies<'a>(alloc: Global, agg: &Agg, count: usize) -> Result<Vec<Tally<'a>>, Memory>
-    ensures tallies { IfOk result (λ v. map state_of v.items ≡ replicate count (start agg.now)) }
-{
-    let mut tallies = Vec::with_capacity(alloc, count)?;
-    for _ in 0..count {
-        tallies.push(Tally::new(agg))?;
-    }
-    Ok(tallies)
 }
 
 /// The value that an aggregate takes of the row of a place; NULL where it takes none.

@@ -11,6 +11,7 @@ pub mod MonthGaps
 pub mod Numbers
 pub mod Orders
 pub mod Pairs
+pub mod RunTimes
 pub mod Sampled
 pub mod Settings
 pub mod StartGaps

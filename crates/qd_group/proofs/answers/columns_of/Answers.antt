@@ -10,8 +10,8 @@ pub loop-agg-preserved : goal.loop-agg-preserved
 loop-agg-preserved g c =
     let numbers = c.args.groups.now.numbers.items in
     ap (map (λ c. map cell_of c.items)) c.in_ok-push.ensures.items
-    ∙ map_push (λ c. map cell_of c.items) c.loop-agg.columns.items c.in_ok-column_of.field-0
-    ∙ ap₂ (λ (l : List (List Cell)) (x : List Cell). l ++ x ∷ []) c.loop-agg.invariant (c.in_ok-column_of.ensures.answers ∙ ap (answers_of numbers (length c.args.groups.now.firsts.items) (rows_in c.args.rows.now)) c.agg-item.is)
+    ∙ map_push (λ c. map cell_of c.items) c.loop-agg.columns.items c.in_ok-answers_of_groups.field-0
+    ∙ ap₂ (λ (l : List (List Cell)) (x : List Cell). l ++ x ∷ []) c.loop-agg.invariant (c.in_ok-answers_of_groups.ensures.answers ∙ ap (answers_of numbers (length c.args.groups.now.firsts.items) (rows_in c.args.rows.now)) c.agg-item.is)
     ∙ sym (map_more (answers_of numbers (length c.args.groups.now.firsts.items) (rows_in c.args.rows.now)) c.args.aggs.now c.loop-agg.agg-index c.agg-item.result c.loop-agg-test.true)
 
 pub returns : goal.returns

@@ -1,9 +1,8 @@
 use Rattle.std.proofs.Common.{◌+◌, ◌-◌, length, map}
 use Rattle.qd_rows.specs.Sets.{rows_in}
 use Rattle.qd_group.specs.Kept.{AreKept}
-use Rattle.qd_group.specs.Tallied.{state_of}
 use Rattle.qd_group.proofs.by_groups.add_rows.Given as goal
 
 -- the tallies of the rows so far
 abbrev pub invariant-loop-i : goal.invariant-loop-i
-invariant-loop-i g l = AreKept l.agg l.groups.numbers.items (rows_in l.rows) (l.run.before + (l.i - l.run.from)) (length l.groups.firsts.items) (map state_of l.tallies.items)
+invariant-loop-i g l = AreKept l.agg l.groups.numbers.items (rows_in l.rows) (l.run.before + (l.i - l.run.from)) (length l.groups.firsts.items) (map g.K.Keeping.state l.tallies.items)

@@ -1,7 +1,7 @@
 use Rattle.std.proofs.Common.{◌≡◌, map, take}
 use Rattle.qd_base.specs.Rows.{time_of}
 use Rattle.qd_rows.specs.Sets.{rows_in}
-use Rattle.qd_sample.proofs.times.times_of.Given as goal
+use Rattle.qd_sample.proofs.times.times_by_row.Given as goal
 
 -- the times of the rows so far
 abbrev pub invariant-loop-i : goal.invariant-loop-i

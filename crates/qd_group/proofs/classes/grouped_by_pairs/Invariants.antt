@@ -1,6 +1,6 @@
 use Rattle.std.proofs.Common.{◌≡◌, get_or, map}
 use Rattle.std.specs.List.{range_with_len}
-use Rattle.qd_group.proofs.classes.refined.Given as goal
+use Rattle.qd_group.proofs.classes.grouped_by_pairs.Given as goal
 
 -- the pairs so far
 abbrev pub invariant-loop-i : goal.invariant-loop-i

@@ -3,7 +3,7 @@ use Rattle.std.specs.List.{range_with_len}
 use Rattle.std.proofs.lemmas.List.FromFn.{map-range_with_len_more}
 use Rattle.std.proofs.lemmas.Result.{IfOk-weaker}
 use Rattle.qd_group.proofs.Assembly.{pairs_grouped}
-use Rattle.qd_group.proofs.classes.refined.Goals as goal
+use Rattle.qd_group.proofs.classes.grouped_by_pairs.Goals as goal
 
 pub loop-i-preserved : goal.loop-i-preserved
 loop-i-preserved c =

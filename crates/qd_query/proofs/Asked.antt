@@ -229,10 +229,10 @@ told_same (Some db) a b f same h = same ∙ h
 
 pub told_plan : (v : SourceView) (o : Option Database) (p : AskPlan) (time_col : ℕ) (rows : List Row) (a : Answer) → IfSome o (Tells v) → p.left < length v.schemas → time_col ≡ (schema_at v p.left).time_col
     → a ≡ answer_over p (meaning.worked p.work time_col (meaning.latest_rows p.latest (meaning.kept_rows p.keep rows)))
-    → IfSome o (λ db. rows ≡ meaning.source_rows p.join (Some (table_in db p.left)) (right_in db p.join))
+    → IfSome o (λ db. meaning.kept_rows p.keep rows ≡ meaning.kept_rows p.keep (meaning.source_rows p.join (Some (table_in db p.left)) (right_in db p.join)))
     → IfSome o (λ db. a ≡ plan_answer p (Some (table_in db p.left)) (right_in db p.join))
 told_plan v None p time_col rows a tells low col made h = tt
 told_plan v (Some db) p time_col rows a tells low col made h =
     made
     ∙ ap (λ (c : ℕ). answer_over p (meaning.worked p.work c (meaning.latest_rows p.latest (meaning.kept_rows p.keep rows)))) (col ∙ ap (λ (s : Schema). s.time_col) (sym (schema_told v db p.left tells low)))
-    ∙ ap (λ (rs : List Row). answer_over p (meaning.worked p.work (table_in db p.left).schema.time_col (meaning.latest_rows p.latest (meaning.kept_rows p.keep rs)))) h
+    ∙ ap (λ (rs : List Row). answer_over p (meaning.worked p.work (table_in db p.left).schema.time_col (meaning.latest_rows p.latest rs))) h

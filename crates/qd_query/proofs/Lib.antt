@@ -5,3 +5,5 @@ pub mod Orders
 pub mod Strides
 pub mod Asked
 pub mod Splits
+pub mod IntervalLemmas
+pub mod KeptLemmas

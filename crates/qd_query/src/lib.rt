@@ -7,6 +7,7 @@
 #![tactic(auto)]
 
 mod answer;
+mod interval;
 mod lengths;
 mod output;
 mod partitions;

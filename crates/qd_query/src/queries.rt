@@ -17,7 +17,8 @@ use std::alloc::Global;
 ///
 /// It costs the time of the plan, a scan of each table that is named, the time of an expression a row for each test, key,
 /// aggregate and output column, and n log n comparisons for keys of a join, of LATEST ON, of groups and of samples, and for
-/// an order. No more than 1,000,000 sampled rows are made: where there are more, the query is refused.
+/// an order. Where WHERE names times, a scan asks for no part outside of them, but for the right rows of a join before them.
+/// No more than 1,000,000 sampled rows are made: where there are more, the query is refused.
 /// The rows of a query's answer are counted as CSV first, and made once, where they are no longer than a result may be.
 ///
 /// Its faults are the source's. After an `Err` the source is as it was, but for its counts: the call may be made again.

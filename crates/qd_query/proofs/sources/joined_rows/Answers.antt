@@ -1,28 +1,35 @@
-use Rattle.std.proofs.Common.{◌≡◌, ◌∙◌, List, ap, filter, subst, sym}
+use Rattle.std.proofs.Common.{◌≡◌, ◌∙◌, All, List, ap, filter, subst, sym}
 use Rattle.qd_base.specs.declared.schema.Schema.{Schema}
+use Rattle.qd_base.specs.declared.part.Part.{Part}
 use Rattle.qd_base.specs.Rows.{Row}
 use Rattle.qd_meaning.specs.Joined.{last_or, may_take}
 use Rattle.qd_query.specs.Answers.{AreTimed}
 use Rattle.qd_rows.specs.Sets.{absent, rows_in}
-use Rattle.qd_scan.specs.Sources.{rows_at, schema_at, SourceView, Stays}
-use Rattle.qd_scan.proofs.ScanLemmas.{stays_then}
+use Rattle.qd_scan.specs.Scans.{AreApart}
+use Rattle.qd_scan.specs.Sources.{parts_at, schema_at, SourceView}
+use Rattle.qd_scan.proofs.PartLemmas.{are_apart}
 use Rattle.qd_query.proofs.Orders.{timed_beside}
-use Rattle.qd_query.proofs.Told.{schema_before, schema_lent, told_before, told_joined}
+use Rattle.qd_query.proofs.Told.{between_before, schema_before, schema_lent, told_joined}
 use Rattle.qd_query.proofs.sources.joined_rows.Goals as goal
+
+pub first_needed-from-requires : goal.first_needed-from-requires
+first_needed-from-requires g c =
+    let s : SourceView = g.P.PartSource.shown c.args.source.now in
+    subst AreApart (sym (c.as_slice.ensures.items ∙ c.parts.ensures.parts)) (are_apart (schema_at s c.args.left) (parts_at s c.args.left) (c.keeps_its_law.ensures.law.parts c.args.left c.requires.left))
 
 pub returns-clause-rows : goal.returns-clause-rows
 returns-clause-rows g c =
     let s : SourceView = g.P.PartSource.shown c.args.source.now in
-    let between : SourceView = g.P.PartSource.shown c.all_rows.new.source in
-    let behind : SourceView = g.P.PartSource.shown c.all_rows-2.new.source in
-    let stays : Stays s behind = stays_then s between behind c.all_rows.ensures.stays c.all_rows-2.ensures.stays in
-    told_joined s s.database c.args.left c.args.right c.get.result.now.time_col c.get-2.result.now.time_col c.args.spec.now c.in_ok-right_rows.right_rows.left (rows_in c.in_ok-left_rows.left_rows) (rows_in c.in_ok-right_rows.right_rows)
-    (rows_in c.in_ok-rows.rows) c.requires.left c.requires.right
-    (ap (λ (x : Schema). x.time_col) (schema_lent s.schemas c.schemas.result.now c.args.left c.get.result.now (c.schemas.ensures.schemas ∙ stays.schemas) c.get.ensures.item))
-    (ap (λ (x : Schema). x.time_col) (schema_lent s.schemas c.schemas-2.result.now c.args.right c.get-2.result.now (c.schemas-2.ensures.schemas ∙ stays.schemas) c.get-2.ensures.item))
-    (c.in_ok-right_rows.ensures.cols ∙ ap (λ (x : Schema). x.cols) (schema_before s between c.args.right c.all_rows.ensures.stays))
+    let between : SourceView = g.P.PartSource.shown c.rows_from_to.new.source in
+    told_joined s s.database c.args.left c.args.right c.get.result.now.time_col c.get-2.result.now.time_col c.first_needed-from.result c.times_kept-times.result.lo c.times_kept-times.result.hi c.args.spec.now c.args.keep.now
+    c.in_ok-right_rows.right_rows.left (rows_in c.in_ok-left_rows.left_rows) (rows_in c.in_ok-right_rows.right_rows) (rows_in c.in_ok-rows.rows) c.keeps_its_law.ensures.law c.requires.left c.requires.right
+    (ap (λ (x : Schema). x.time_col) (schema_lent s.schemas c.schemas.result.now c.args.left c.get.result.now c.schemas.ensures.schemas c.get.ensures.item))
+    (ap (λ (x : Schema). x.time_col) (schema_lent s.schemas c.schemas-2.result.now c.args.right c.get-2.result.now c.schemas-2.ensures.schemas c.get-2.ensures.item))
+    (c.in_ok-right_rows.ensures.cols ∙ ap (λ (x : Schema). x.cols) (schema_before s between c.args.right c.rows_from_to.ensures.stays))
+    c.times_kept-times.ensures.caught c.first_needed-from.ensures.early
+    (subst (All (λ (p : Part). p.lo ≡ 0 → c.first_needed-from.result ≡ 0)) (c.as_slice.ensures.items ∙ c.parts.ensures.parts) c.first_needed-from.ensures.begun)
     c.keeps_its_law.ensures.law.told c.in_ok-left_rows.ensures.rows
-    (told_before s between (λ db. rows_in c.in_ok-right_rows.right_rows ≡ rows_at db c.args.right) c.all_rows.ensures.stays c.in_ok-right_rows.ensures.rows) c.in_ok-rows.ensures.rows
+    (between_before s between c.args.right 0 c.times_kept-times.result.hi c.in_ok-right_rows.right_rows c.rows_from_to.ensures.stays c.in_ok-right_rows.ensures.rows) c.in_ok-rows.ensures.rows
 
 pub returns-clause-timed : goal.returns-clause-timed
 returns-clause-timed g c =

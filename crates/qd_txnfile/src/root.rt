@@ -5,6 +5,7 @@ ghost use Rattle.qd_txnfile.specs.Calls.{Closes, Creates, Flips, Repairs, Writes
 ghost use Rattle.qd_txnfile.specs.declared.half.Other.TheVariants as other;
 ghost use Rattle.qd_txnfile.specs.declared.half.Half.TheVariants.{First};
 ghost use Rattle.qd_txnfile.specs.States.{IsDirty, IsNewer, IsWritten, Root, with_next, with_opening, with_other};
+ghost use Rattle.qd_txnfile.specs.Versions.{file_of};
 ghost use Rattle.std.specs.Prelude.{◌≡◌, ◌⊎◌, ◌↔◌, ◌<◌, IfOk, IsTrue, OnErr, OnOk};
 
 use crate::half::{FIRST, Half, Other, SECOND};
@@ -66,6 +67,13 @@ impl TxnFile {
         ensures number { result ≡ self.now.n }
     {
         self.n
+    }
+
+    /// The number of the file that holds the current version.
+    pub fn file(&self) -> u64
+        ensures file { result ≡ file_of self.now.current }
+    {
+        self.current.file()
     }
 
     /// Whether a flip failed that wasn't repaired since: a crash may leave the current version, or the one that was written

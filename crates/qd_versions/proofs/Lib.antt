@@ -1,0 +1,9 @@
+-- Lemmas that the proofs of this crate share.
+pub mod Kept
+pub mod Files
+pub mod Steps
+pub mod Blocks
+pub mod Stores
+pub mod OpenLemmas
+pub mod ToldLemmas
+pub mod StoreTold

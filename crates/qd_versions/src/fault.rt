@@ -1,0 +1,42 @@
+//! Why a version isn't published.
+ghost use Rattle.qd_versions.specs.declared.fault.PublishFault.TheVariants.{Memory as OutOfMemory};
+ghost use Rattle.std.specs.Prelude.{◌≡◌};
+
+use qd_io::IoFault;
+use std::alloc::AllocError;
+use thiserror::Error;
+
+/// Why a version isn't published.
+#[derive(Clone, Copy, Debug, PartialEq, Eq, Error)]
+pub enum PublishFault {
+    /// All rows of versions are live: one has to be retired first.
+    #[error("all rows of versions are live")]
+    NoRow,
+    /// The volume failed: its count of faults has risen in the call.
+    #[error("the volume failed")]
+    Vol,
+    /// There was no memory.
+    #[error("out of memory")]
+    Memory,
+}
+
+impl From<IoFault> for PublishFault {
+    ghost use Rattle.qd_versions.specs.Faults.{publish_fault};
+
+    ghost from_gives = { λ cause fault. fault ≡ publish_fault cause };
+
+    fn from(cause: IoFault) -> PublishFault {
+        match cause {
+            IoFault::Failed => PublishFault::Vol,
+            IoFault::Memory => PublishFault::Memory,
+        }
+    }
+}
+
+impl From<AllocError> for PublishFault {
+    ghost from_gives = { λ _ fault. fault ≡ OutOfMemory };
+
+    fn from(_: AllocError) -> PublishFault {
+        PublishFault::Memory
+    }
+}

@@ -1,0 +1,93 @@
+//! A version written with its new blocks, by the root alone.
+ghost use Rattle.qd_durable.specs.Moments.{Told};
+ghost use Rattle.qd_io.specs.Ends.{Counts};
+ghost use Rattle.qd_txnfile.specs.declared.half.Other.TheVariants as other;
+ghost use Rattle.qd_txnfile.specs.States.{IsDirty};
+ghost use Rattle.qd_versions.specs.Publishing.{AreNumbered};
+ghost use Rattle.qd_versions.specs.Writing.{Clears, IsNarrow, LaysDown, PutsBlocks, Turns};
+ghost use Rattle.std.specs.Prelude.{◌≡◌, ◌+◌, ◌^◌, ◌<◌, ◌≤◌, length, All, OnErr, OnOk};
+
+use crate::published::NewBlock;
+use qd_files::{put_block, remove_block};
+use qd_io::IoFault;
+use qd_txnfile::TxnFile;
+use qd_volume::Volume;
+use std::alloc::Global;
+
+/// Writes a version beside the current one, and makes it the current one.
+fn turn<V: Volume>(
+    root: &mut TxnFile,
+    volume: &mut V,
+    n: u64,
+    manifest: &[u8],
+) -> Result<(), IoFault>
+    requires newer { root.old.n < n }
+    requires clean { IsDirty root.old.other → ⊥ }
+    ensures turned { OnOk result (root.new.n ≡ n) }
+    ensures stays { OnErr result (root.new.n ≡ root.old.n) }
+    ensures told { Told (V.storage volume.old).disk (V.storage volume.new).disk (Turns result root.old root.new (record { n = n; manifest = manifest.now })) }
+    ensures counted { Counts (V.storage volume.old).faults (V.storage volume.new).faults result }
+{
+    root.write_body(volume, n, manifest)?;
+    root.flip(volume)
+}
+
+/// Puts the files of new blocks, which are numbered upwards.
+fn put_blocks<V: Volume>(
+    alloc: Global,
+    volume: &mut V,
+    next: u64,
+    blocks: &[NewBlock],
+) -> Result<(), IoFault>
+    requires numbered { AreNumbered next blocks.now }
+    requires small { next + length blocks.now ≤ 2 ^ 52 }
+    ensures few { OnOk result (All IsNarrow blocks.now) }
+    ensures told { Told (V.storage volume.old).disk (V.storage volume.new).disk (PutsBlocks result next blocks.now) }
+    ensures counted { Counts (V.storage volume.old).faults (V.storage volume.new).faults result }
+{
+    for added in blocks {
+        added.of.is_whole();
+        put_block(alloc, volume, added.block, &added.of)?;
+    }
+    Ok(())
+}
+
+/// Closes the gate that a failed publication may have left open, puts the files of new blocks, and writes the
+/// version and makes it the current one.
+pub(crate) fn lay_down<V: Volume>(
+    root: &mut TxnFile,
+    alloc: Global,
+    volume: &mut V,
+    n: u64,
+    manifest: &[u8],
+    next: u64,
+    blocks: &[NewBlock],
+) -> Result<(), IoFault>
+    requires newer { root.old.n < n }
+    requires numbered { AreNumbered next blocks.now }
+    requires small { next + length blocks.now ≤ 2 ^ 52 }
+    ensures turned { OnOk result (root.new.n ≡ n) }
+    ensures stays { OnErr result (root.new.n ≡ root.old.n) }
+    ensures told { Told (V.storage volume.old).disk (V.storage volume.new).disk (LaysDown result root.old root.new next (record { n = n; manifest = manifest.now }) blocks.now) }
+    ensures counted { Counts (V.storage volume.old).faults (V.storage volume.new).faults result }
+{
+    root.repair(volume)?;
+    put_blocks(alloc, volume, next, blocks)?;
+    turn(root, volume, n, manifest)
+}
+
+/// Closes the gate that a failed publication may have left open, and removes the files of a block.
+pub(crate) fn clear<V: Volume>(
+    root: &mut TxnFile,
+    volume: &mut V,
+    block: u64,
+) -> Result<(), IoFault>
+    requires block { block < 2 ^ 52 }
+    ensures clean { OnOk result (IsDirty root.new.other → ⊥) }
+    ensures number { root.new.n ≡ root.old.n }
+    ensures told { Told (V.storage volume.old).disk (V.storage volume.new).disk (Clears result root.old root.new block) }
+    ensures counted { Counts (V.storage volume.old).faults (V.storage volume.new).faults result }
+{
+    root.repair(volume)?;
+    remove_block(volume, block)
+}

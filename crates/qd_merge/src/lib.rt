@@ -22,4 +22,4 @@ pub use laws::{
     batches_are_batches, batches_join, keeps_every_row, merged_in_order, merges_one_by_one,
 };
 pub use merge::{Block, merge_block, merge_blocks};
-pub use plan::{Act, ActList, BlockList, plan_merge};
+pub use plan::{Act, ActList, BlockList, plan_merge, plan_times};

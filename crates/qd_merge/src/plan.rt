@@ -89,8 +89,9 @@ pub fn plan_merge(
     plan_times(alloc, parts.as_slice(), times.as_slice(), schema.unit)
 }
 
-/// Gives the acts on parts for a batch with these times.
-fn plan_times(
+/// The same for the times of a batch, in ascending order: gives the acts on parts. It costs logarithmic time in the
+/// number of times for each part and each new partition.
+pub fn plan_times(
     alloc: Global,
     parts: &[Part],
     times: &[u64],

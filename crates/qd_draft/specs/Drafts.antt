@@ -1,0 +1,15 @@
+-- What a draft shows.
+use Rattle.std.specs.Prelude.{ℕ, List}
+use Rattle.qd_base.specs.Database.{StoredTable}
+use Rattle.qd_manifest.specs.declared.shape.TableParts.{TableParts}
+
+-- transactions that are to be merged into the parts of a version
+pub record Drafting : Type 0 where
+  -- of how many transactions the version is, and the next one so far
+  pub base : ℕ
+  pub upto : ℕ
+  -- the number of the next new block, and the version's tables
+  pub next_block : ℕ
+  pub shape : List TableParts
+  -- its tables and new ones, with the columns that they have by now, and the rows that came
+  pub tables : List StoredTable

@@ -1,0 +1,10 @@
+-- The definitions that the contracts of this crate cite.
+pub mod Arrivals
+pub mod Stands
+pub mod Next
+pub mod Laws
+pub mod Waiting
+pub mod Given
+pub mod Plans
+pub mod Drafts
+pub mod Examples

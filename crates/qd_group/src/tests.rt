@@ -4,7 +4,7 @@ ghost use Rattle.std.specs.Prelude.{◌≡◌, ◌≢◌, ◌+◌, ◌<◌, [], 
 ghost use Rattle.qd_base.specs.declared.schema.ColType.TheVariants as kind;
 ghost use Rattle.qd_block.specs.Blocks.{kinds_in};
 
-use crate::group;
+use crate::{group, refined};
 use qd_base::{Cell, Col, ColList, ColType, Memory, NULL_LONG, RowList, Txt};
 use qd_block::{Block, Builder};
 use qd_meaning::{Agg, AggList, BoundList, GroupSpec};
@@ -279,4 +279,22 @@ fn without_keys_there_is_one_row(rt: HostRuntime) -> Result<(), Fail> {
     let few = [(b'#', 0), (b'+', 0), (b'<', 0), (b'[', 0)];
     gives(&rt, 0, &[], &few, "0,,,,;")?;
     gives(&rt, 0, &[2], &[(b'#', 0)], "")
+}
+
+#[test]
+fn great_numbers_are_told_apart(rt: HostRuntime) -> Result<(), Fail> {
+    let alloc = rt.alloc();
+    let groups = refined(alloc, &[1_000, 7, 1_000, 7], &[5, 1_000, 5, 7])?;
+    assert_eq!(rt; groups.numbers.as_slice(), [0, 1, 0, 2].as_slice());
+    assert_eq!(rt; groups.firsts.as_slice(), [0, 1, 3].as_slice());
+    Ok(())
+}
+
+#[test]
+fn small_numbers_are_told_apart(rt: HostRuntime) -> Result<(), Fail> {
+    let alloc = rt.alloc();
+    let groups = refined(alloc, &[0, 1, 0, 1, 0], &[2, 0, 1, 0, 2])?;
+    assert_eq!(rt; groups.numbers.as_slice(), [0, 1, 2, 1, 0].as_slice());
+    assert_eq!(rt; groups.firsts.as_slice(), [0, 1, 2].as_slice());
+    Ok(())
 }

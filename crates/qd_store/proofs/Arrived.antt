@@ -1,0 +1,147 @@
+-- The transactions behind the current version, as they are taken into a draft.
+use Rattle.std.proofs.Common.{◌≡◌, ℕ, ◌+◌, ◌≤◌, List, [], length, take, Option, Some, None, IfOk, IfSome, Result, Ok, Err, unwrap_or, sym, ap, subst, ◌∙◌, arith}
+use Rattle.std.specs.Prelude.{slice_range}
+use Rattle.std.proofs.lemmas.List.Edits.{length-between}
+use Rattle.std.proofs.lemmas.Result.{IfOk-weaker}
+use Rattle.qd_base.specs.declared.op.Entry.{Entry}
+use Rattle.qd_base.specs.declared.part.WalRef.{WalRef}
+use Rattle.qd_base.specs.declared.schema.Schema.{Schema}
+use Rattle.qd_base.specs.Database.{schemas_of}
+use Rattle.qd_base.specs.Lawful.{LawfulFrom}
+use Rattle.qd_base.specs.Schemas.{schemas_from}
+use Rattle.qd_base.proofs.Tables.{schemas_of-replay}
+use Rattle.qd_catalog.specs.declared.version.Version.{Version}
+use Rattle.qd_catalog.specs.Versions.{Versions, n_of, version_at}
+use Rattle.qd_draft.specs.Arrivals.{arrivals, without_rows}
+use Rattle.qd_draft.specs.Drafts.{Drafting}
+use Rattle.qd_draft.specs.Laws.{RowsAreFew}
+use Rattle.qd_draft.proofs.ArrivalLemmas.{schemas_without}
+use Rattle.qd_durable.specs.declared.fault.LogFault.{LogFault}
+use Rattle.qd_durable.specs.declared.fault.LogFault.TheVariants as fault
+use Rattle.qd_manifest.specs.declared.shape.TableParts.{TableParts}
+use Rattle.qd_manifest.specs.Spelling.{schemas_in}
+use Rattle.qd_sequencer.specs.Histories.{AreSpelled}
+use Rattle.qd_txnfile.specs.Versions as root
+use Rattle.qd_volume.specs.Disk.{Disk, reads_of, file_of}
+use Rattle.qd_volume.proofs.Sound.{image_of_reads, sound_file}
+use Rattle.qd_wal.specs.Laws.{OneEntryIsRead}
+use Rattle.qd_store.specs.Drafting.{AreSomeTaken, AreTaken, HasArrived, HasTaken, IsArrived, IsArrivedFrom, MayHaveBlocks}
+use Rattle.qd_store.specs.Drafts.{between}
+use Rattle.qd_store.specs.Prefixes.{IsShown}
+use Rattle.qd_store.specs.Stores.{IsStore, Store}
+use Rattle.qd_store.proofs.Between.{lawful_between, no_break, spelled_between, spelled_one}
+use Rattle.qd_store.proofs.Plausible.{plausible, rows_few}
+
+-- a draft over a version, in which nothing has arrived
+abbrev pub begun : ℕ → Version → Drafting
+begun next x = record { base = x.n; upto = x.n; next_block = next; shape = x.shape; tables = without_rows (schemas_in x.shape) }
+
+-- what is taken into it has arrived behind the version
+pub has_arrived : (next : ℕ) (x : Version) (es : List Entry) (count upto : ℕ) (draft d : Drafting) → draft ≡ begun next x → x.n + count ≡ upto
+    → HasTaken count draft d es → HasArrived next x es upto d
+has_arrived next x es count upto draft d is reaches has =
+    let taken : HasTaken count (begun next x) d es = subst (λ (b : Drafting). HasTaken count b d es) is has in
+    let counted : x.n + length es ≡ upto = ap (λ (n : ℕ). x.n + n) taken.counted ∙ reaches in
+    record {
+      lawful = subst (λ (s : List Schema). LawfulFrom s es) (schemas_without (schemas_in x.shape)) taken.lawful;
+      counted = counted;
+      draft = taken.taken ∙ ap (λ (n : ℕ). let b : Drafting = record { base = x.n; upto = n; next_block = next; shape = x.shape; tables = arrivals (schemas_in x.shape) es } in b) counted;
+    }
+
+-- ---- of a history
+
+module _ (s : Store) (h : List Entry) (next : root.Version) (disk : Disk) (is : IsStore s h next disk) (x : Version) (at : version_at s.versions.versions s.versions.versions.current ≡ Some x) where
+  pub shown_now : IsShown h x.n x.shape disk
+  shown_now = is.versions.live s.versions.versions.current x at
+
+  -- the current version may show what it shows
+  pub may_show : RowsAreFew → MayHaveBlocks x.n x.shape
+  may_show law = plausible shown_now.blocks x.n x.shape _ shown_now.stands (rows_few law h x.n is.sequence.lawful shown_now.few)
+
+  schemas_now : schemas_in x.shape ≡ schemas_from [] (take x.n h)
+  schemas_now = shown_now.stands.schemas ∙ schemas_of-replay [] (take x.n h)
+
+  module _ (upto : ℕ) (more : x.n ≤ upto) where
+    lawful_now : LawfulFrom (schemas_in x.shape) (between h x.n upto)
+    lawful_now = subst (λ (l : List Schema). LawfulFrom l (between h x.n upto)) (sym schemas_now) (lawful_between h x.n upto is.sequence.lawful more)
+
+    spelled_now : AreSpelled (slice_range s.sequence.refs x.n upto) (between h x.n upto) (reads_of disk)
+    spelled_now = spelled_between x.n upto s.sequence.refs h (reads_of disk) (is.sequence.spelled (reads_of disk) (λ file. image_of_reads (file_of disk file) (sound_file disk file)))
+
+    pub arrived_from : OneEntryIsRead → (result : Result Drafting LogFault) (draft : Drafting) (refs : List WalRef)
+        → draft ≡ begun s.versions.versions.next_block x → refs ≡ slice_range s.sequence.refs x.n upto → upto ≤ length s.sequence.refs
+        → AreTaken result refs draft (reads_of disk) → IsArrivedFrom result s h upto
+    arrived_from one (Ok d) draft refs begins are few (es, spelled, has) =
+        let there : AreSpelled (slice_range s.sequence.refs x.n upto) es (reads_of disk) = subst (λ (l : List WalRef). AreSpelled l es (reads_of disk)) are spelled in
+        let same : es ≡ between h x.n upto = spelled_one one (slice_range s.sequence.refs x.n upto) es (between h x.n upto) (reads_of disk) there spelled_now in (
+          x,
+          at,
+          has_arrived s.versions.versions.next_block x (between h x.n upto) (length refs) upto draft d begins
+              (omega (arith, ap length are, length-between s.sequence.refs x.n upto few, more))
+              (subst (λ (l : List Entry). HasTaken (length refs) draft d l) same has),
+        )
+    arrived_from one (Err (fault.Damaged file place)) draft refs begins are few breaks =
+        no_break one refs (between h x.n upto) (schemas_of draft.tables) (reads_of disk) file place
+        (subst (λ (l : List WalRef). AreSpelled l (between h x.n upto) (reads_of disk)) (sym are) spelled_now)
+        (subst (λ (l : List Schema). LawfulFrom l (between h x.n upto)) (sym (ap (λ (d : Drafting). schemas_of d.tables) begins ∙ schemas_without (schemas_in x.shape))) lawful_now)
+        breaks
+    arrived_from one (Err fault.Vol) draft refs begins are few taken = tt
+    arrived_from one (Err fault.Memory) draft refs begins are few taken = tt
+
+-- ---- of a book, whatever its volume tells
+
+-- the number and the tables of the current version
+module _ (v : Versions) (row : ℕ) (current : row ≡ v.current) (x : Version) (at : version_at v v.current ≡ Some x) where
+  pub number_here : (o : Option ℕ) (n : ℕ) → o ≡ n_of (version_at v row) → n ≡ unwrap_or o 0 → n ≡ x.n
+  number_here o n of is = is ∙ ap (λ (p : Option ℕ). unwrap_or p 0) (of ∙ ap (λ (r : ℕ). n_of (version_at v r)) current ∙ ap n_of at)
+
+  pub tables_here : (tables : List TableParts) → ((y : Version) → version_at v row ≡ Some y → tables ≡ y.shape) → tables ≡ x.shape
+  tables_here tables of = of x (ap (λ (r : ℕ). version_at v r) current ∙ at)
+
+module _ (x : Version) (n : ℕ) (shape : List TableParts) (number : n ≡ x.n) (tables : shape ≡ x.shape) where
+  may_now : MayHaveBlocks n shape → MayHaveBlocks x.n x.shape
+  may_now may = subst (λ (k : ℕ). MayHaveBlocks k x.shape) number (subst (λ (l : List TableParts). MayHaveBlocks n l) tables may)
+
+  -- the current version of a told store is never refused
+  pub never_refused : (s : Store) → version_at s.versions.versions s.versions.versions.current ≡ Some x → RowsAreFew → (MayHaveBlocks n shape → ⊥)
+      → (o : Option Disk) → IfSome o (λ disk. (h : List Entry) (next : root.Version) → IsStore s h next disk → ⊥)
+  never_refused s at law refused None = tt
+  never_refused s at law refused (Some disk) = λ h next is.
+      refused (subst (λ (l : List TableParts). MayHaveBlocks n l) (sym tables) (subst (λ (k : ℕ). MayHaveBlocks k x.shape) (sym number) (may_show s h next disk is x at law)))
+
+  module _ (next from : ℕ) (draft : Drafting) (numbered : from ≡ next)
+      (is : draft ≡ record { base = n; upto = n; next_block = from; shape = shape; tables = without_rows (schemas_in shape) }) where
+    begins : draft ≡ begun next x
+    begins =
+        is
+        ∙ ap (λ (k : ℕ). let d : Drafting = record { base = k; upto = k; next_block = from; shape = shape; tables = without_rows (schemas_in shape) } in d) number
+        ∙ ap (λ (k : ℕ). let d : Drafting = record { base = x.n; upto = x.n; next_block = k; shape = shape; tables = without_rows (schemas_in shape) } in d) numbered
+        ∙ ap (λ (l : List TableParts). let d : Drafting = record { base = x.n; upto = x.n; next_block = next; shape = l; tables = without_rows (schemas_in l) } in d) tables
+
+    module _ (result : Result Drafting LogFault) (list refs : List WalRef) (upto : ℕ) (listed : list ≡ refs) (few : upto ≤ length refs) (more : x.n ≤ upto) where
+      are : slice_range list n upto ≡ slice_range refs x.n upto
+      are = ap (λ (l : List WalRef). slice_range l n upto) listed ∙ ap (λ (k : ℕ). slice_range refs k upto) number
+
+      reaches : x.n + length (slice_range list n upto) ≡ upto
+      reaches = omega (arith, ap length are, length-between refs x.n upto few, more)
+
+      pub arrived_over : (v : Versions) → v.next_block ≡ next → version_at v v.current ≡ Some x → MayHaveBlocks n shape
+          → IfOk result (λ d. AreSomeTaken (length (slice_range list n upto)) draft d) → IfOk result (λ d. IsArrived v upto d)
+      arrived_over v block at may taken =
+          IfOk-weaker result (λ d. AreSomeTaken (length (slice_range list n upto)) draft d) (λ d. IsArrived v upto d)
+          (λ d some. (
+            x,
+            some.0,
+            at,
+            may_now may,
+            subst (λ (k : ℕ). HasArrived k x some.0 upto d) (sym block) (has_arrived next x some.0 (length (slice_range list n upto)) upto draft d begins reaches some.1),
+          )) taken
+
+      pub arrived_told : (s : Store) → s.versions.versions.next_block ≡ next → s.sequence.refs ≡ refs
+          → version_at s.versions.versions s.versions.versions.current ≡ Some x → OneEntryIsRead → (o : Option Disk)
+          → IfSome o (λ disk. AreTaken result (slice_range list n upto) draft (reads_of disk))
+          → IfSome o (λ disk. (h : List Entry) (last : root.Version) → IsStore s h last disk → IsArrivedFrom result s h upto)
+      arrived_told s block refs_same at one None taken = tt
+      arrived_told s block refs_same at one (Some disk) taken = λ h last is.
+          arrived_from s h last disk is x at upto more one result draft (slice_range list n upto) (begins ∙ ap (λ (k : ℕ). begun k x) (sym block))
+          (are ∙ ap (λ (l : List WalRef). slice_range l x.n upto) (sym refs_same)) (omega (arith, few, ap length refs_same)) taken

@@ -1,0 +1,149 @@
+-- Drafts of the transactions behind the current version.
+use Rattle.std.proofs.Common.{◌≡◌, ℕ, ◌+◌, ◌*◌, ◌^◌, ◌<◌, ◌≤◌, List, length, map, take, All, Option, Some, None, IfSome, Result, Ok, Err, sym, ap, subst, ◌∙◌, arith, Vec}
+use Rattle.std.specs.Arc.{arc_value}
+use Rattle.std.specs.declared.sync.Arc.{Arc}
+use Rattle.std.specs.declared.alloc.Global.{Global}
+use Rattle.std.proofs.lemmas.List.{length-drop, length-take}
+use Rattle.std.proofs.lemmas.List.Elements.{All-weaker}
+use Rattle.qd_base.specs.declared.op.Entry.{Entry}
+use Rattle.qd_base.specs.declared.schema.Schema.{Schema}
+use Rattle.qd_base.specs.Database.{StoredTable}
+use Rattle.qd_base.specs.Lawful.{LawfulFrom}
+use Rattle.qd_base.specs.Replay.{first}
+use Rattle.qd_block.specs.Blocks.{Block}
+use Rattle.qd_catalog.specs.declared.version.Version.{Version}
+use Rattle.qd_catalog.specs.Versions.{current_n, n_of, version_at}
+use Rattle.qd_draft.specs.Drafts.{Drafting}
+use Rattle.qd_draft.specs.Laws.{RowsAreFew}
+use Rattle.qd_draft.specs.Plans.{read_in, with_batch}
+use Rattle.qd_draft.specs.Stands.{StandsFor}
+use Rattle.qd_durable.specs.declared.fault.LogFault.{LogFault}
+use Rattle.qd_durable.specs.declared.fault.LogFault.TheVariants as fault
+use Rattle.qd_manifest.specs.declared.shape.TableParts.{TableParts}
+use Rattle.qd_manifest.specs.declared.shape.TheConstants.{BLOCKS_PER_TRANSACTION}
+use Rattle.qd_manifest.specs.Spelling.{AreParts}
+use Rattle.qd_txnfile.specs.Versions as root
+use Rattle.qd_versions.specs.Stores as versions
+use Rattle.qd_volume.specs.Disk.{Disk}
+use Rattle.qd_store.specs.Drafting.{AreRead, AreReadFrom, HasArrived, IsArrived, IsArrivedFrom}
+use Rattle.qd_store.specs.Drafts.{Drafted, IsDraftOver, IsDraftedFrom, between, plan_of}
+use Rattle.qd_store.specs.Prefixes.{IsShown}
+use Rattle.qd_store.specs.Stores.{IsStore, Store}
+use Rattle.qd_store.proofs.Arrived.{shown_now}
+use Rattle.qd_store.proofs.Between.{replay_between}
+use Rattle.qd_store.proofs.Fills.{drafted}
+use Rattle.qd_store.proofs.Plausible.{rows_few}
+
+-- the plan of what has arrived
+planned : (next : ℕ) (x : Version) (es : List Entry) (upto : ℕ) (arrived plan : Drafting) → HasArrived next x es upto arrived
+    → plan ≡ record arrived { tables = map with_batch arrived.tables } → plan ≡ plan_of next x es
+planned next x es upto arrived plan has is =
+    is
+    ∙ ap (λ (d : Drafting). let p : Drafting = record d { tables = map with_batch d.tables } in p) has.draft
+    ∙ ap (λ (n : ℕ). let p : Drafting = record (plan_of next x es) { upto = n } in p) (sym has.counted)
+
+-- ---- whatever the files hold
+
+module _ (v : versions.Store) (law : versions.IsStore v) (upto : ℕ) (arrived : Drafting) (is : IsArrived v.versions upto arrived) where
+  -- what the plan and the reading of the blocks need
+  pub its_parts : All (λ (t : TableParts). AreParts t.schema t.parts) arrived.shape
+  its_parts = subst (λ (d : Drafting). All (λ (t : TableParts). AreParts t.schema t.parts) d.shape) (sym is.4.draft) (law.tables v.versions.current is.0 is.2).parts
+
+  module _ (plan : Drafting) (plan_is : plan ≡ record arrived { tables = map with_batch arrived.tables }) where
+    pub its_tables : (x : Version) × (version_at v.versions v.versions.current ≡ Some x) × (plan.shape ≡ x.shape)
+    its_tables = (is.0, is.2, ap (λ (d : Drafting). d.shape) plan_is ∙ ap (λ (d : Drafting). d.shape) is.4.draft)
+
+    pub its_number : plan.upto ≡ upto
+    its_number = ap (λ (d : Drafting). d.upto) plan_is ∙ ap (λ (d : Drafting). d.upto) is.4.draft
+
+    pub drafted_over : (few : upto ≤ 2 ^ 30) (more : (n : ℕ) → current_n v.versions ≡ Some n → n < upto) (blocks : List Block)
+        → AreRead plan.shape plan.tables blocks → IsDraftOver v.versions (record { plan = plan; blocks = blocks })
+    drafted_over few more blocks read =
+        let x = is.0 in
+        let es = is.1 in
+        let next = v.versions.next_block in
+        let counted : x.n + length es ≡ upto = is.4.counted in
+        let room : x.n + length es ≤ 2 ^ 30 = omega (arith, counted, few) in
+        let so : plan ≡ plan_of next x es = planned next x es upto arrived plan is.4 plan_is in
+        let some : 0 < length es = omega (arith, counted, more x.n (ap n_of is.2)) in
+        let same : AreRead x.shape (plan_of next x es).tables blocks = subst (λ (p : Drafting). AreRead p.shape p.tables blocks) so read in
+        (x, is.2, drafted next x es (record { plan = plan; blocks = blocks }) (law.current x is.2).sound is.3 is.4.lawful some room so same)
+
+-- ---- of a history
+
+module _ (s : Store) (law : versions.IsStore s.versions) (rows : RowsAreFew) (upto : ℕ) (h : List Entry) (next : root.Version) (disk : Disk) (is : IsStore s h next disk) where
+  pub drafted_from : (few : upto ≤ 2 ^ 30) (more : (n : ℕ) → current_n s.versions.versions ≡ Some n → n < upto) (arrived plan : Drafting)
+      → IsArrivedFrom (Ok arrived) s h upto → plan ≡ record arrived { tables = map with_batch arrived.tables }
+      → (list : Vec (Arc Block Global) Global)
+      → ((x : Version) → version_at s.versions.versions s.versions.versions.current ≡ Some x → AreReadFrom (Ok list) plan.shape plan.tables h x.n)
+      → IsDraftedFrom (Ok (record { plan = plan; blocks = map arc_value list.items })) s h upto
+  drafted_from few more arrived plan (x, at, has) plan_is list read =
+      let shown : IsShown h x.n x.shape disk = shown_now s h next disk is x at in
+      let es : List Entry = between h x.n upto in
+      let above : x.n < upto = more x.n (ap n_of at) in
+      let low : x.n ≤ length h = shown.few in
+      let counted : x.n + length es ≡ upto = has.counted in
+      let room : x.n + length es ≤ 2 ^ 30 = omega (arith, counted, few) in
+      let within : upto ≤ length h = omega (arith, counted, low, length-drop x.n (take upto h), length-take upto h) in
+      let so : plan ≡ plan_of s.versions.versions.next_block x es = planned s.versions.versions.next_block x es upto arrived plan has plan_is in
+      let stands : StandsFor shown.blocks x.shape (first h x.n) = shown.stands in (
+        x,
+        shown.blocks,
+        at,
+        record {
+          follows = record {
+            manifest = (law.current x at).sound;
+            stands = stands;
+            lawful = subst (λ (l : List Schema). LawfulFrom l es) stands.schemas has.lawful;
+            some = omega (arith, counted, above);
+            room = room;
+            few = subst (All (λ (t : StoredTable). length t.rows < 2 ^ 64)) (sym (replay_between h x.n upto (omega (arith, above))))
+                (All-weaker (λ (t : StoredTable). length t.rows ≤ upto * BLOCKS_PER_TRANSACTION) (λ (t : StoredTable). length t.rows < 2 ^ 64)
+                (λ t le. omega (arith, le, few)) (first h upto) (rows_few rows h upto is.sequence.lawful within));
+          };
+          plan = so;
+          read = subst (λ (p : Drafting). StandsFor shown.blocks p.shape (first h x.n) → map arc_value list.items ≡ read_in shown.blocks p.shape p.tables) so (read x at shown.blocks) stands;
+        },
+      )
+
+  -- where the transactions, or the blocks, aren't read
+  pub none_arrived : (cause : LogFault) → IsArrivedFrom (Err cause) s h upto → IsDraftedFrom (Err cause) s h upto
+  none_arrived (fault.Damaged file place) arrived = arrived
+  none_arrived fault.Vol arrived = tt
+  none_arrived fault.Memory arrived = tt
+
+  pub none_read : (cause : LogFault) (arrived plan : Drafting) → IsArrivedFrom (Ok arrived) s h upto
+      → ((x : Version) → version_at s.versions.versions s.versions.versions.current ≡ Some x → AreReadFrom (Err cause) plan.shape plan.tables h x.n)
+      → IsDraftedFrom (Err cause) s h upto
+  none_read cause arrived plan (x, at, has) read = by cause (read x at)
+    where
+      by : (cause : LogFault) → AreReadFrom (Err cause) plan.shape plan.tables h x.n → IsDraftedFrom (Err cause) s h upto
+      by (fault.Damaged file place) none = none
+      by fault.Vol none = tt
+      by fault.Memory none = tt
+
+-- the same of a volume that may tell nothing
+module _ (s : Store) (law : versions.IsStore s.versions) (rows : RowsAreFew) (upto : ℕ) (few : upto ≤ 2 ^ 30) (more : (n : ℕ) → current_n s.versions.versions ≡ Some n → n < upto)
+    (arrived plan : Drafting) (plan_is : plan ≡ record arrived { tables = map with_batch arrived.tables }) where
+  abbrev pub HasTold : Disk → Type 0
+  HasTold disk = (h : List Entry) (next : root.Version) → IsStore s h next disk → IsArrivedFrom (Ok arrived) s h upto
+
+  abbrev pub ReadsTold : Result (Vec (Arc Block Global) Global) LogFault → Disk → Type 0
+  ReadsTold result disk = (h : List Entry) (next : root.Version) → IsStore s h next disk → (x : Version)
+      → version_at s.versions.versions s.versions.versions.current ≡ Some x → AreReadFrom result plan.shape plan.tables h x.n
+
+  abbrev pub DraftsTold : Result Drafted LogFault → Disk → Type 0
+  DraftsTold result disk = (h : List Entry) (next : root.Version) → IsStore s h next disk → IsDraftedFrom result s h upto
+
+  pub drafted_told : (list : Vec (Arc Block Global) Global) (o now : Option Disk) → now ≡ o → IfSome o HasTold → IfSome now (ReadsTold (Ok list))
+      → IfSome o (DraftsTold (Ok (record { plan = plan; blocks = map arc_value list.items })))
+  drafted_told list None now same has read = tt
+  drafted_told list (Some disk) now same has read =
+      let told : ReadsTold (Ok list) disk = subst (λ (o : Option Disk). IfSome o (ReadsTold (Ok list))) same read in
+      λ h next is. drafted_from s law rows upto h next disk is few more arrived plan (has h next is) plan_is list (told h next is)
+
+  pub undrafted_told : (cause : LogFault) (o now : Option Disk) → now ≡ o → IfSome o HasTold → IfSome now (ReadsTold (Err cause)) → IfSome o (DraftsTold (Err cause))
+  undrafted_told cause None now same has read = tt
+  undrafted_told cause (Some disk) now same has read =
+      let told : ReadsTold (Err cause) disk = subst (λ (o : Option Disk). IfSome o (ReadsTold (Err cause))) same read in
+      λ h next is. none_read s law rows upto h next disk is cause arrived plan (has h next is) (told h next is)

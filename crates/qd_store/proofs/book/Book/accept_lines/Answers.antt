@@ -1,0 +1,26 @@
+use Rattle.std.proofs.Common.{ap, ◌∙◌}
+use Rattle.std.proofs.lemmas.Result.{err_from_is_err_and}
+use Rattle.qd_sequencer.specs.declared.fault.CommitFault.{CommitFault}
+use Rattle.qd_sequencer.specs.declared.fault.Committed.{Committed}
+use Rattle.qd_store.specs.Arriving.{SaysLines}
+use Rattle.qd_store.specs.Stores.{Store}
+use Rattle.qd_store.proofs.Settled.{alone_told, ready_told}
+use Rattle.qd_store.proofs.book.Book.accept_lines.Goals as goal
+
+pub returns-in_err-settle-clause-told : goal.returns-in_err-settle-clause-told
+returns-in_err-settle-clause-told g c =
+    let p = err_from_is_err_and c.from_residual.result c.from_residual.ensures.1 in
+    let old = c.args.self.now in
+    rw p.1 (alone_told Committed CommitFault (SaysLines old.sequence.schemas c.args.now c.args.batch.now) p.0 old c.settle.new.self _ _ c.settle.ensures.told)
+
+pub returns-in-Ok-clause-told : goal.returns-in-Ok-clause-told
+returns-in-Ok-clause-told g c =
+    ready_told c.commit.result c.args.self.now c.settle.new.self c.commit.new.self _ _ _
+    c.settle.ensures.same c.in_ok-settle.ensures.clean c.settle.ensures.versions c.settle.ensures.told
+    (λ schemas e. SaysLines schemas c.args.now c.args.batch.now e) c.in-Ok.field-0 c.bytes-in-Ok.result.now c.bytes-in-Ok.ensures.same c.commit.ensures.told
+    c.schemas.result.now (c.schemas.ensures.schemas ∙ ap (λ (s : Store). s.sequence.schemas) c.self.view_is) c.in-Ok.ensures.prepared
+
+pub returns-in-Err-clause-told : goal.returns-in-Err-clause-told
+returns-in-Err-clause-told g c =
+    let old = c.args.self.now in
+    alone_told Committed CommitFault (SaysLines old.sequence.schemas c.args.now c.args.batch.now) c.of_lines.result old c.settle.new.self _ _ c.settle.ensures.told

@@ -1,0 +1,22 @@
+use Rattle.std.proofs.Common.{◌≡◌, fold, unwrap_or, refl, sym, subst}
+use Rattle.qd_base.specs.Schemas.{schemas_step}
+use Rattle.qd_sequencer.specs.Histories.{IsLawfulOver}
+use Rattle.qd_store.specs.Stores.{Store}
+use Rattle.qd_store.proofs.Books.{book_committed}
+use Rattle.qd_store.proofs.CallsTold.{commit_told}
+use Rattle.qd_store.proofs.book.Book.commit.Goals as goal
+
+pub invariant_of-self : goal.invariant_of-self
+invariant_of-self g c =
+    let inside : Store = record { sequence = c.self.inside.sequencer; versions = c.self.inside.versions; limits = c.self.inside.limits } in
+    let new : Store = record { sequence = c.commit.new.self; versions = c.self.inside.versions; limits = c.self.inside.limits } in
+    book_committed inside new c.self.invariant refl refl c.commit.result _ c.commit.ensures.place c.commit.ensures.room c.commit.ensures.stays
+
+pub returns-clause-told : goal.returns-clause-told
+returns-clause-told g c e spells lawful left =
+    let inside : Store = record { sequence = c.self.inside.sequencer; versions = c.self.inside.versions; limits = c.self.inside.limits } in
+    let new : Store = record { sequence = c.commit.new.self; versions = c.self.inside.versions; limits = c.self.inside.limits } in
+    commit_told c.commit.result c.args.self.now inside new (sym c.self.view_is) refl c.keeps_its_law.ensures.law (λ x. x ≡ e) _ _
+    (c.commit.ensures.told e spells
+    (subst (λ (s : Store). IsLawfulOver s.sequence.schemas e) (sym c.self.view_is) lawful)
+    (subst (λ (s : Store). unwrap_or c.args.after s.sequence.schemas ≡ fold schemas_step s.sequence.schemas e.ops) (sym c.self.view_is) left))

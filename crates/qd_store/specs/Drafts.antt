@@ -1,0 +1,109 @@
+-- Drafts: what becomes of transactions that are merged into the current version, and how that follows a history.
+use Rattle.std.specs.Prelude.{◌≡◌, ℕ, ◌+◌, ◌^◌, ◌<◌, ◌≤◌, List, All, Some, Result, Ok, Err, length, map, take, drop}
+use Rattle.std.specs.Arc.{arc_value}
+use Rattle.qd_base.specs.declared.op.Entry.{Entry}
+use Rattle.qd_base.specs.Database.{Database, schemas_of}
+use Rattle.qd_base.specs.Lawful.{LawfulFrom}
+use Rattle.qd_base.specs.Replay.{first, replay}
+use Rattle.qd_block.specs.Blocks.{Block}
+use Rattle.qd_catalog.specs.declared.version.Version.{Version}
+use Rattle.qd_catalog.specs.Versions.{Versions, version_at}
+use Rattle.qd_draft.specs.Arrivals.{arrivals}
+use Rattle.qd_draft.specs.Drafts.{Drafting}
+use Rattle.qd_draft.specs.Next.{made_after, manifest_after}
+use Rattle.qd_draft.specs.Plans.{read_in, with_batch}
+use Rattle.qd_draft.specs.Stands.{StandsFor}
+use Rattle.qd_durable.specs.declared.fault.LogFault.{LogFault}
+use Rattle.qd_durable.specs.declared.fault.LogFault.TheVariants as fault
+use Rattle.qd_manifest.specs.declared.shape.TableParts.{TableParts}
+use Rattle.qd_manifest.specs.Spelling.{IsManifest, schemas_in}
+use Rattle.qd_versions.specs.declared.published.NewBlock.{NewBlock}
+use Rattle.qd_versions.specs.Publishing.{AreNumbered}
+use Rattle.qd_versions.specs.Stores.{manifest_in}
+use Rattle.qd_store.specs.Stores.{Store}
+
+-- what contracts see of a draft: its plan, and the blocks of the parts that its merge reads, in order
+pub record Drafted : Type 0 where
+  pub plan : Drafting
+  pub blocks : List Block
+
+-- what they see of one that is merged: of how many transactions the version is that was merged into, and the next one; the tables of
+-- the next one, and its new blocks
+pub record Merging : Type 0 where
+  pub base : ℕ
+  pub upto : ℕ
+  pub shape : List TableParts
+  pub blocks : List NewBlock
+
+-- Transactions may follow a version: it has a manifest, and over blocks by their numbers it stands for a database that they go on
+-- with lawfully; and there is room. `next` is above the numbers of all blocks so far.
+pub record MayFollow (next : ℕ) (x : Version) (es : List Entry) (contents : ℕ → Block) (db : Database) : Type 0 where
+  pub manifest : IsManifest x.n (manifest_in next x.shape)
+  pub stands : StandsFor contents x.shape db
+  pub lawful : LawfulFrom (schemas_of db) es
+  pub some : 0 < length es
+  pub room : x.n + length es ≤ 2 ^ 30
+  pub few : All (λ t. length t.rows < 2 ^ 64) (replay db es)
+
+-- the plan of their merge
+abbrev pub plan_of : ℕ → Version → List Entry → Drafting
+plan_of next x es = record {
+  base = x.n;
+  upto = x.n + length es;
+  next_block = next;
+  shape = x.shape;
+  tables = map with_batch (arrivals (schemas_in x.shape) es);
+}
+
+-- a draft of transactions that follow a version
+pub record IsDraft (next : ℕ) (x : Version) (es : List Entry) (contents : ℕ → Block) (db : Database) (d : Drafted) : Type 0 where
+  pub follows : MayFollow next x es contents db
+  pub plan : d.plan ≡ plan_of next x es
+  pub read : d.blocks ≡ read_in contents x.shape (plan_of next x es).tables
+
+-- the same, merged: the next version's tables, and its new blocks at their numbers
+pub record IsMerged (next : ℕ) (x : Version) (es : List Entry) (contents : ℕ → Block) (db : Database) (m : Merging) : Type 0 where
+  pub follows : MayFollow next x es contents db
+  pub base : m.base ≡ x.n
+  pub upto : m.upto ≡ x.n + length es
+  pub shape : m.shape ≡ (manifest_after contents (manifest_in next x.shape) es).shape
+  pub numbered : AreNumbered next m.blocks
+  pub blocks : map (λ b. arc_value b.of) m.blocks ≡ made_after contents x.shape es
+
+-- ---- over some version
+
+abbrev pub IsDraftInto : ℕ → Version → Drafted → Type 0
+IsDraftInto next x d = (es : List Entry) × (contents : ℕ → Block) × (db : Database) × IsDraft next x es contents db d
+
+abbrev pub IsMergedInto : ℕ → Version → Merging → Type 0
+IsMergedInto next x m = (es : List Entry) × (contents : ℕ → Block) × (db : Database) × IsMerged next x es contents db m
+
+abbrev pub IsSomeDraft : Drafted → Type 0
+IsSomeDraft d = (next : ℕ) × (x : Version) × IsDraftInto next x d
+
+abbrev pub IsSomeMerged : Merging → Type 0
+IsSomeMerged m = (next : ℕ) × (x : Version) × IsMergedInto next x m
+
+-- of the current version
+abbrev pub IsDraftOver : Versions → Drafted → Type 0
+IsDraftOver v d = (x : Version) × (version_at v v.current ≡ Some x) × IsDraftInto v.next_block x d
+
+abbrev pub IsMergedOver : Versions → Merging → Type 0
+IsMergedOver v m = (x : Version) × (version_at v v.current ≡ Some x) × IsMergedInto v.next_block x m
+
+-- ---- of a history
+
+-- the transactions of a history behind the first ones, up to a number
+abbrev pub between : List Entry → ℕ → ℕ → List Entry
+between h from upto = drop from (take upto h)
+
+-- The transactions of a history behind the current version, up to a number, are drafted. What the files hold is never damaged.
+abbrev pub IsDraftedFrom : Result Drafted LogFault → Store → List Entry → ℕ → Type 0
+IsDraftedFrom (Ok d) s h upto = (x : Version) × (contents : ℕ → Block) × (version_at s.versions.versions s.versions.versions.current ≡ Some x) × IsDraft s.versions.versions.next_block x (between h x.n upto) contents (first h x.n) d
+IsDraftedFrom (Err (fault.Damaged file at)) s h upto = ⊥
+IsDraftedFrom (Err fault.Vol) s h upto = Unit {0}
+IsDraftedFrom (Err fault.Memory) s h upto = Unit {0}
+
+-- What is merged are the transactions of a history behind the current version.
+abbrev pub IsNextOf : Store → List Entry → Merging → Type 0
+IsNextOf s h m = (x : Version) × (contents : ℕ → Block) × (version_at s.versions.versions s.versions.versions.current ≡ Some x) × IsMerged s.versions.versions.next_block x (between h x.n m.upto) contents (first h x.n) m

@@ -1,0 +1,224 @@
+//! Drafts: transactions read for the next version, and the blocks that their merge reads.
+ghost use Rattle.qd_base.specs.declared.op.Entry.{Entry};
+ghost use Rattle.qd_catalog.specs.declared.version.Version as shown;
+ghost use Rattle.qd_catalog.specs.Versions.{current_n, version_at};
+ghost use Rattle.qd_durable.specs.Faults.{CountsVol};
+ghost use Rattle.qd_store.specs.Drafting.{AreRead, AreReadFrom, AreSomeTaken, AreTaken, HasItsTimes, IsArrived, IsArrivedFrom, IsReadOf, IsThere, IsTouchedFrom, MayHaveBlocks, rows_shown};
+ghost use Rattle.qd_store.specs.Drafts.{IsDraftOver, IsDraftedFrom};
+ghost use Rattle.qd_store.specs.Stores.{IsStore};
+ghost use Rattle.qd_txnfile.specs.Versions.{Version};
+ghost use Rattle.qd_volume.specs.Disk.{reads_of};
+ghost use Rattle.std.specs.Arc.{arc_value};
+ghost use Rattle.std.specs.Prelude.{◌≡◌, ◌+◌, ◌*◌, ◌^◌, ◌<◌, ◌≤◌, ◌↔◌, [], ◌∷◌, ℕ, All, List, Some, length, map, IfOk, IfSome, IsTrue};
+
+use crate::book::Book;
+use qd_base::{Part, WalRef};
+use qd_block::Block;
+use qd_draft::{Draft as Arrivals, Plan, Touched, rows_are_few};
+use qd_durable::LogFault;
+use qd_files::laws::one_block_is_held;
+use qd_manifest::{BLOCKS_PER_TRANSACTION, Shape};
+use qd_symbols::SymbolMap;
+use qd_txnfile::FIRST;
+use qd_volume::Volume;
+use qd_wal::{one_entry_is_read, read_entry, segment_file};
+use std::alloc::Global;
+use std::marker::Model;
+use std::sync::Arc;
+
+/// Where a version file says of how many transactions its version is.
+const NUMBER: u64 = 1;
+
+/// The transactions behind a version, planned to be merged into it, with the blocks of the parts that the merge reads. Its
+/// merge needs no store.
+#[derive(Drop)]
+pub struct Draft {
+    pub(crate) plan: Plan,
+    pub(crate) blocks: Vec<Arc<Block<SymbolMap>>>,
+}
+
+impl Model for Draft {
+    ghost use Rattle.std.specs.Arc.{arc_value};
+    ghost use Rattle.std.specs.Prelude.{map};
+    ghost use Rattle.qd_store.specs.Drafts.{Drafted, IsSomeDraft};
+
+    ghost Value = { Drafted };
+
+    ghost view = { λ d. record { plan = d.plan; blocks = map arc_value d.blocks.items } };
+
+    ghost invariant = { λ d. IsSomeDraft (record { plan = d.plan; blocks = map arc_value d.blocks.items }) };
+}
+
+impl Book {
+    /// Drafts the transactions behind the current version, up to a number.
+    pub(crate) fn draft<V: Volume>(
+        &self,
+        alloc: Global,
+        volume: &mut V,
+        upto: u64,
+    ) -> Result<Draft, LogFault>
+        requires more { (n : ℕ) → current_n self.now.versions.versions ≡ Some n → n < upto }
+        requires few { upto ≤ length self.now.sequence.refs }
+        ensures over { IfOk result (λ d. IsDraftOver self.now.versions.versions d) }
+        ensures upto { IfOk result (λ d. d.plan.upto ≡ upto) }
+        ensures told { IfSome (V.storage volume.old).disk (λ disk. (h : List Entry) (next : Version) → IsStore self.now h next disk → IsDraftedFrom result self.now h upto) }
+        ensures stays { (V.storage volume.new).disk ≡ (V.storage volume.old).disk }
+        ensures counted { CountsVol (V.storage volume.old).faults (V.storage volume.new).faults result }
+    {
+        rows_are_few();
+        self.versions.keeps_its_law();
+        let arrived = self.arrived(alloc, volume, upto)?;
+        let plan = arrived.plan(alloc)?;
+        let blocks = self.blocks_of(alloc, volume, &plan)?;
+        Ok(Draft { plan, blocks })
+    }
+
+    /// Reads the transactions behind the current version, up to a number.
+    fn arrived<V: Volume>(
+        &self,
+        alloc: Global,
+        volume: &mut V,
+        upto: u64,
+    ) -> Result<Arrivals, LogFault>
+        requires more { (n : ℕ) → current_n self.now.versions.versions ≡ Some n → n < upto }
+        requires few { upto ≤ length self.now.sequence.refs }
+        ensures arrived { IfOk result (λ d. IsArrived self.now.versions.versions upto d) }
+        ensures told { IfSome (V.storage volume.old).disk (λ disk. (h : List Entry) (next : Version) → IsStore self.now h next disk → IsArrivedFrom result self.now h upto) }
+        ensures stays { (V.storage volume.new).disk ≡ (V.storage volume.old).disk }
+        ensures counted { CountsVol (V.storage volume.old).faults (V.storage volume.new).faults result }
+    {
+        rows_are_few();
+        one_entry_is_read();
+        self.versions.keeps_its_law();
+        let row = self.versions.current();
+        let n = self.versions.n_of(row).unwrap_or(0);
+        let shape = self.versions.shape_of(row);
+        if !may_have_blocks(shape, n) {
+            return Err(LogFault::Damaged {
+                file: FIRST,
+                at: NUMBER,
+            });
+        }
+        let draft = Arrivals::begin(alloc, n, self.versions.next_block(), shape)?;
+        let refs = &self.sequencer.refs()[n as usize..upto as usize];
+        take_all(alloc, volume, refs, draft)
+    }
+
+    /// Reads the blocks of the parts that a plan's merge reads, in order.
+    fn blocks_of<V: Volume>(
+        &self,
+        alloc: Global,
+        volume: &mut V,
+        plan: &Plan,
+    ) -> Result<Vec<Arc<Block<SymbolMap>>>, LogFault>
+        requires of { (x : shown.Version) × (version_at self.now.versions.versions self.now.versions.versions.current ≡ Some x) × (plan.now.shape ≡ x.shape) }
+        ensures read { IfOk result (λ list. AreRead plan.now.shape plan.now.tables (map arc_value list.items)) }
+        ensures told { IfSome (V.storage volume.old).disk (λ disk. (h : List Entry) (next : Version) → IsStore self.now h next disk → (x : shown.Version) → version_at self.now.versions.versions self.now.versions.versions.current ≡ Some x → AreReadFrom result plan.now.shape plan.now.tables h x.n) }
+        ensures stays { (V.storage volume.new).disk ≡ (V.storage volume.old).disk }
+        ensures counted { CountsVol (V.storage volume.old).faults (V.storage volume.new).faults result }
+    {
+        let mut blocks = Vec::new(alloc);
+        for to in plan.touched() {
+            let block = self.block_at(alloc, volume, *to)?;
+            blocks.push(block)?;
+        }
+        Ok(blocks)
+    }
+
+    /// Reads the block of a part of the current version.
+    fn block_at<V: Volume>(
+        &self,
+        alloc: Global,
+        volume: &mut V,
+        to: Touched,
+    ) -> Result<Arc<Block<SymbolMap>>, LogFault>
+        requires there { (x : shown.Version) × (version_at self.now.versions.versions self.now.versions.versions.current ≡ Some x) × IsThere x.shape to }
+        ensures read { (x : shown.Version) → version_at self.now.versions.versions self.now.versions.versions.current ≡ Some x → IfOk result (λ b. IsReadOf x.shape to (arc_value b)) }
+        ensures told { IfSome (V.storage volume.old).disk (λ disk. (h : List Entry) (next : Version) → IsStore self.now h next disk → (x : shown.Version) → version_at self.now.versions.versions self.now.versions.versions.current ≡ Some x → IsTouchedFrom result x.shape to h x.n) }
+        ensures stays { (V.storage volume.new).disk ≡ (V.storage volume.old).disk }
+        ensures counted { CountsVol (V.storage volume.old).faults (V.storage volume.new).faults result }
+    {
+        one_block_is_held();
+        let row = self.versions.current();
+        let block = self.read_part(alloc, volume, row, to.table, to.part)?;
+        Ok(Arc::new(alloc, block)?)
+    }
+}
+
+/// Takes the transactions at some places, one behind another.
+fn take_all<V: Volume>(
+    alloc: Global,
+    volume: &mut V,
+    refs: &[WalRef],
+    draft: Arrivals,
+) -> Result<Arrivals, LogFault>
+    requires room { draft.upto + length refs.now < 2 ^ 64 }
+    ensures taken { IfOk result (λ d. AreSomeTaken (length refs.now) draft d) }
+    ensures told { IfSome (V.storage volume.old).disk (λ disk. AreTaken result refs.now draft (reads_of disk)) }
+    ensures stays { (V.storage volume.new).disk ≡ (V.storage volume.old).disk }
+    ensures counted { CountsVol (V.storage volume.old).faults (V.storage volume.new).faults result }
+{
+    let mut draft = draft;
+    for at in refs {
+        draft = take_next(alloc, volume, *at, draft)?;
+    }
+    Ok(draft)
+}
+
+/// Takes the transaction at a place.
+fn take_next<V: Volume>(
+    alloc: Global,
+    volume: &mut V,
+    at: WalRef,
+    draft: Arrivals,
+) -> Result<Arrivals, LogFault>
+    requires room { draft.upto + 1 < 2 ^ 64 }
+    ensures taken { IfOk result (λ d. AreSomeTaken 1 draft d) }
+    ensures told { IfSome (V.storage volume.old).disk (λ disk. AreTaken result (at ∷ []) draft (reads_of disk)) }
+    ensures stays { (V.storage volume.new).disk ≡ (V.storage volume.old).disk }
+    ensures counted { CountsVol (V.storage volume.old).faults (V.storage volume.new).faults result }
+{
+    let entry = read_entry(alloc, volume, at)?;
+    match draft.take(alloc, &entry)? {
+        Some(next) => Ok(next),
+        None => Err(LogFault::Damaged {
+            file: segment_file(at.wal, at.segment),
+            at: at.start,
+        }),
+    }
+}
+
+/// Whether a version may show these tables: a row is behind a cell that a transaction inserted, and a part of one row has one
+/// time. Each version of lawful transactions may. It costs time linear in the lists of parts.
+fn may_have_blocks(shape: &Shape, n: u64) -> bool
+    requires few { n ≤ 2 ^ 30 }
+    ensures may { IsTrue result ↔ MayHaveBlocks n shape.now }
+{
+    for table in shape.as_slice() {
+        if !may_have_parts(table.parts.as_slice(), n * BLOCKS_PER_TRANSACTION) {
+            return false;
+        }
+    }
+    true
+}
+
+/// Whether a table of at most so many rows may have these parts.
+fn may_have_parts(parts: &[Part], most: u64) -> bool
+    ensures may { IsTrue result ↔ ((rows_shown parts.now ≤ most) × All HasItsTimes parts.now) }
+{
+    let mut left = most;
+    for part in parts {
+        if !may_be_part(*part, left) {
+            return false;
+        }
+        left -= part.rows;
+    }
+    true
+}
+
+/// Whether a table that has so many rows left may have this part.
+fn may_be_part(part: Part, left: u64) -> bool
+    ensures may { IsTrue result ↔ ((part.rows ≤ left) × HasItsTimes part) }
+{
+    part.rows <= left && (part.rows != 1 || part.lo == part.hi)
+}

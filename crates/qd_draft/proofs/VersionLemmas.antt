@@ -68,11 +68,11 @@ grown_ops : (shape : List TableParts) (ts : List StoredTable) (ops : List Op) �
 grown_ops shape ts [] h = h
 grown_ops shape ts (o ∷ os) h = grown_ops shape (arrives ts o) os (grown_arrives shape ts o h)
 
-grown_entries : (shape : List TableParts) (ts : List StoredTable) (entries : List Entry) → AreGrown shape ts → AreGrown shape (arrivals_from ts entries)
+pub grown_entries : (shape : List TableParts) (ts : List StoredTable) (entries : List Entry) → AreGrown shape ts → AreGrown shape (arrivals_from ts entries)
 grown_entries shape ts [] h = h
 grown_entries shape ts (e ∷ es) h = grown_entries shape (fold arrives ts e.ops) es (grown_ops shape ts e.ops h)
 
-none_grown : (shape : List TableParts) → AreGrown shape (without_rows (schemas_in shape))
+pub none_grown : (shape : List TableParts) → AreGrown shape (without_rows (schemas_in shape))
 none_grown [] = refl
 none_grown (x ∷ xs) = (grows_none x.schema, none_grown xs)
 
@@ -218,7 +218,7 @@ table_old blocks t parts whole fit =
     pieces [] h = tt
     pieces (p ∷ ps) h = (h.0, pieces ps h.1)
 
-all_old : (blocks : ℕ → Block) (shape : List TableParts) (db : Database) → StandsFor blocks shape db → AllByRecursion (IsOld blocks) shape
+pub all_old : (blocks : ℕ → Block) (shape : List TableParts) (db : Database) → StandsFor blocks shape db → AllByRecursion (IsOld blocks) shape
 all_old blocks shape db stands = recursion_from_All (IsOld blocks) shape (λ k d lt. table_old blocks (get_or shape k d) (stands.parts k d lt) (stands.whole k d lt) (stands.fit k d lt))
 
 old_rows_fit : (s : Schema) (xs : List Piece) → AllByRecursion (IsPiece s) xs → AllByRecursion (IsRowOf s) (joined s xs)

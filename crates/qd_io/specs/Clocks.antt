@@ -1,9 +1,8 @@
--- What a clock shows and what a call of it does, and what a host shows of the clocks that it gives.
+-- What a clock shows and what a call of it does.
 --
 -- A time is a number of microseconds since 1970-01-01T00:00:00Z, as POSIX counts seconds since the Epoch, which have no leap
 -- seconds (The Open Group Base Specifications, "Seconds Since the Epoch" and clock_gettime() with CLOCK_REALTIME).
 use Rattle.std.specs.Prelude.{◌≡◌, ℕ, List, [], drop, slice_index_or, Option, None, Some, Result, Ok, Err}
-use Rattle.qd_io.specs.Ends.{counts_together}
 
 -- The times that the calls of a clock give: those that are coming, one a call, and behind them the last one, again and again.
 pub record Times : Type 0 where
@@ -34,14 +33,3 @@ abbrev pub GivesTime : {E : Type 0} → Option Times → Option Times → Result
 GivesTime None now result = Unit {0}
 GivesTime (Some times) now (Ok time) = (time ≡ next_time times) × (now ≡ Some (after_time times))
 GivesTime (Some times) now (Err fault) = now ≡ Some times
-
--- What a host shows at a moment.
-pub record Supply : Type 0 where
-  -- the times of the clock that it gives next, where it tells them
-  pub clock_times : Option Times
-  -- how many calls have failed of the clocks that were given back
-  pub clock_faults : ℕ
-
--- a host that has taken back a clock with so many faults: they are counted with those of the clocks before
-abbrev pub after_clock : ℕ → Supply → Supply
-after_clock faults supply = record supply { clock_faults = counts_together supply.clock_faults faults }

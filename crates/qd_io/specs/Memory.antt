@@ -113,13 +113,3 @@ pub record IsUnused (plan : Plan) : Type 0 where
 -- a clock that gives the same time at each call, and never fails
 abbrev pub steady : ℕ → Ticking
 steady time = record { times = always time; plan = record { calls = 0; fails = []; failed = 0 } }
-
--- a host in memory: the clock that was set and is not given yet, and how many calls have failed of those that were given back
-pub record InMemory : Type 0 where
-  pub clock : Option Ticking
-  pub clock_faults : ℕ
-
--- the clock that it gives next: the one that was set, or one that gives 0 at each call
-abbrev pub clock_in : Option Ticking → Ticking
-clock_in None = steady 0
-clock_in (Some clock) = clock

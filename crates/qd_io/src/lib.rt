@@ -1,6 +1,5 @@
 //! What stands outside the database, as traits with a written meaning: byte sources, byte sinks and clocks,
-//! with those over memory that tests use, those over the standard streams and the system's time, and the hosts
-//! that give a program the rest of what it needs.
+//! with those over memory that tests use, and those over the standard streams and the system's time.
 //!
 //! Each device counts its failures in a number that never falls. A caller that is answered
 //! [`IoFault::Failed`] knows that the device's count has risen in that call, so every fault that a program
@@ -8,7 +7,6 @@
 #![tactic(auto)]
 
 mod fault;
-mod hosts;
 mod lent;
 mod memory;
 mod pair;
@@ -19,7 +17,6 @@ mod traits;
 mod writing;
 
 pub use fault::IoFault;
-pub use hosts::{Host, MemHost, StdHost};
 pub use memory::{FailurePlan, MemClock, MemSink, MemSource};
 pub use pair::Both;
 pub use standard::{StdClock, StdSink, StdSource};

@@ -1,8 +1,7 @@
-//! Each public call once on its happy path, the faults that devices answer, and a pair of lent ends and a
-//! host as the layers above use them.
-ghost use Rattle.qd_io.specs.Clocks.{GivesTime, Times};
-ghost use Rattle.qd_io.specs.Ends.{Counts, WritesAll};
-ghost use Rattle.std.specs.Prelude.{◌≡◌, ◌≤◌, ℕ, IfOk, IfSome, Option, Some, drop, length};
+//! Each public call once on its happy path, the faults that devices answer, and a pair of lent ends as the layers
+//! above use them.
+ghost use Rattle.qd_io.specs.Ends.{WritesAll};
+ghost use Rattle.std.specs.Prelude.{◌≡◌, ◌≤◌, ℕ, IfOk, IfSome, drop, length};
 
 use super::*;
 use std::io;
@@ -256,32 +255,6 @@ fn clock_over_std(rt: HostRuntime) -> Result<(), Fail> {
     let time = StdClock::new(rt).now().unwrap_or(0);
     assert!(rt; time > 1_704_067_200_000_000);
     assert!(rt; time < 253_402_300_800_000_000);
-    Ok(())
-}
-
-/// Reads the time by a clock of the host's, and gives the clock back: a fault is counted at the host then.
-fn time_by<H: Host>(host: &mut H) -> Result<u64, IoFault>
-    ensures told { (now : Option Times) × GivesTime (H.supply host.old).clock_times now result }
-    ensures counted { Counts (H.supply host.old).clock_faults (H.supply host.new).clock_faults result }
-{
-    let mut clock = host.clock();
-    let time = clock.now();
-    host.clock_back(clock);
-    time
-}
-
-#[test]
-fn clocks_of_hosts(rt: HostRuntime) -> Result<(), Fail> {
-    let mut host = MemHost::empty(rt.alloc());
-    assert_eq!(rt; time_by(&mut host), Ok(0));
-    host.set_clock(MemClock::new(rt.alloc(), &[7, 8], &[])?);
-    assert_eq!(rt; time_by(&mut host), Ok(7));
-    assert_eq!(rt; time_by(&mut host), Ok(0));
-    host.set_clock(MemClock::new(rt.alloc(), &[9], &[0])?);
-    assert_eq!(rt; time_by(&mut host), Err(IoFault::Failed));
-    assert_eq!(rt; time_by(&mut host), Ok(0));
-    let time = time_by(&mut StdHost::new(rt)).unwrap_or(0);
-    assert!(rt; time > 1_704_067_200_000_000);
     Ok(())
 }
 

@@ -19,6 +19,7 @@ use Rattle.qd_session.specs.Looks.{Grows, look_at}
 use Rattle.qd_session.specs.Legal.{Answers, GoesOn, Handles}
 use Rattle.qd_session.specs.Timing.{want_of_memory}
 use Rattle.qd_session.specs.Allowed.{SaysBatch}
+use Rattle.qd_session.specs.Alone.{AllowedAlone}
 use Rattle.qd_meaning.specs.declared.refusal.Refusal.{Refusal}
 use Rattle.qd_meaning.specs.Answer.{answer}
 use Rattle.qd_meaning.specs.Write.{write}
@@ -27,8 +28,8 @@ use Rattle.qd_trees.specs.declared.tree.Stmt.{Stmt}
 use Rattle.qd_trees.specs.declared.tree.Stmt.TheVariants as is
 use Rattle.qd_sql.specs.declared.stmt.SqlFault.{SqlFault}
 use Rattle.qd_sql.specs.declared.stmt.SqlFault.TheVariants as fault
-use Rattle.qd_list.specs.Listed.{AllowedAlone, CarriesOut, Listed, Writes, WritesStmt, all_applied, answered, listed_shown, with_entry}
-use Rattle.qd_session.proofs.RuleLemmas.{allowed-wants}
+use Rattle.qd_list.specs.Listed.{CarriesOut, Listed, Writes, WritesStmt, all_applied, answered, listed_shown, with_entry}
+use Rattle.qd_session.proofs.AloneLemmas.{alone-wants}
 
 -- the numbers from a on with one more
 range_more : (a n : ℕ) → range_with_len a (suc n) ≡ range_with_len a n ++ (a + n) ∷ []
@@ -47,7 +48,7 @@ grows_still l = record { history = ([], ap Some (sym (append-nil l.history))); s
 pub answers_want : (l : Listed) (time : ℕ) (asked : Request) → GoesOn (asked ∷ []) → Answers AllowedAlone (listed_shown l) (listed_shown l) time asked want_of_memory
 answers_want l time asked on = record {
   grows = grows_still l;
-  allowed = λ clock clock' later. (allowed-wants (Some l.history) (look_at clock (listed_shown l)) (look_at clock' (listed_shown l)) time asked on (record { sequenced = refl; known = refl; clock_faults = later; volume_faults = refl; pinned = refl }), refl);
+  allowed = λ clock clock' later. alone-wants (Some l.history) (look_at clock (listed_shown l)) (look_at clock' (listed_shown l)) time asked on (record { sequenced = refl; known = refl; clock_faults = later; volume_faults = refl; pinned = refl; pending = refl });
   own = sym (append-nil (range_with_len 1 (length l.history)));
 }
 
@@ -64,7 +65,7 @@ answers_done old time text n entry says is =
     let longer : length (old.history ++ entry ∷ []) ≡ length old.history + 1 = length_push old.history entry in
     record {
       grows = record { history = (entry ∷ [], refl); sequenced = omega (arith, longer); known = omega arith; faults = omega arith };
-      allowed = λ clock clock' later. ((is ∙ sym longer, omega (arith, is), (entry, at, subst (λ (db : Database). SaysBatch (schemas_of db) time text (Ok entry)) (sym front) says)), refl);
+      allowed = λ clock clock' later. ((is ∙ sym longer, omega (arith, is), (entry, at, subst (λ (db : Database). SaysBatch (schemas_of db) time text (Ok entry)) (sym front) says)), refl, longer, λ left. left);
       own = own_more old.history entry n is;
     }
 
@@ -75,7 +76,7 @@ answers_refused old time text number line c is says =
     let all : first old.history (length old.history) ≡ after old.history = ap after (take_all (length old.history) old.history (omega arith)) in
     record {
       grows = grows_still old;
-      allowed = λ clock clock' later. (inl (c, is, subst (λ (db : Database). SaysBatch (schemas_of db) time text (Err (c, line))) (sym all) says), refl);
+      allowed = λ clock clock' later. (inl (c, is, subst (λ (db : Database). SaysBatch (schemas_of db) time text (Err (c, line))) (sym all) says), refl, refl, λ left. absurd (cc (left)));
       own = sym (append-nil (range_with_len 1 (length old.history)));
     }
 
@@ -98,12 +99,12 @@ answers_question : (l : Listed) (time : ℕ) (text : List ℕ) (s : Stmt) (a : R
     → Answers AllowedAlone (listed_shown l) (listed_shown l) time (request.Sql text) (answered l.applied a)
 answers_question l time text s (Ok table) within asks question is = record {
   grows = grows_still l;
-  allowed = λ clock clock' later. ((s, asks, question, (omega arith, omega arith), within, is), (refl, refl));
+  allowed = λ clock clock' later. ((s, asks, question, (omega arith, omega arith), within, is), (refl, refl), refl, λ left. left);
   own = sym (append-nil (range_with_len 1 (length l.history)));
 }
 answers_question l time text s (Err r) within asks question is = record {
   grows = grows_still l;
-  allowed = λ clock clock' later. ((s, asks, question, (omega arith, omega arith), within, (r, is, refl, refl)), (refl, refl));
+  allowed = λ clock clock' later. ((s, asks, question, (omega arith, omega arith), within, (r, is, refl, refl)), (refl, refl), refl, λ left. left);
   own = sym (append-nil (range_with_len 1 (length l.history)));
 }
 
@@ -118,7 +119,7 @@ answers_written old time text s n entry asks writes says is =
     record {
       grows = record { history = (entry ∷ [], refl); sequenced = omega (arith, longer); known = omega arith; faults = omega arith };
       allowed =
-          λ clock clock' later. ((s, asks, writes, is ∙ sym longer, omega (arith, is), (entry, at, subst (λ (db : Database). write (schemas_of db) s ≡ Ok entry) (sym front) says)), refl);
+          λ clock clock' later. ((s, asks, writes, is ∙ sym longer, omega (arith, is), (entry, at, subst (λ (db : Database). write (schemas_of db) s ≡ Ok entry) (sym front) says)), refl, longer, λ left. left);
       own = own_more old.history entry n is;
     }
 
@@ -129,7 +130,7 @@ answers_unwritten old time text s number place r asks says is at =
     let all : first old.history (length old.history) ≡ after old.history = ap after (take_all (length old.history) old.history (omega arith)) in
     record {
       grows = grows_still old;
-      allowed = λ clock clock' later. (inr (inl (s, asks, (r, subst (λ (db : Database). write (schemas_of db) s ≡ Err r) (sym all) says, is, at))), refl);
+      allowed = λ clock clock' later. (inr (inl (s, asks, (r, subst (λ (db : Database). write (schemas_of db) s ≡ Err r) (sym all) says, is, at))), refl, refl, λ left. absurd (cc (left)));
       own = sym (append-nil (range_with_len 1 (length old.history)));
     }
 
@@ -164,7 +165,7 @@ answers_sql old new time text (Err (fault.Refused why place)) given within asks 
     answers_same old new time text given _ made same
     (record {
       grows = grows_still old;
-      allowed = λ clock clock' later. (inl (why, refl, asks), refl);
+      allowed = λ clock clock' later. (inl (why, refl, asks), refl, refl, λ left. absurd (cc (left)));
       own = sym (append-nil (range_with_len 1 (length old.history)));
     })
 answers_sql old new time text (Err fault.Memory) given within asks h = absurd h
@@ -178,7 +179,7 @@ handles_sql old new time text (Ok given) within ok same = answers_sql old new ti
 answers_applied : (l : Listed) (time : ℕ) → l.applied ≤ length l.history → Answers AllowedAlone (listed_shown l) (listed_shown (all_applied l)) time request.Apply (reply.Applied (length l.history))
 answers_applied l time within = record {
   grows = record { history = ([], ap Some (sym (append-nil l.history))); sequenced = omega arith; known = within; faults = omega arith };
-  allowed = λ clock clock' later. (((within, omega arith), omega arith, omega arith), refl);
+  allowed = λ clock clock' later. (((within, omega arith), omega arith, omega arith), refl, refl, λ left. left);
   own = sym (append-nil (range_with_len 1 (length l.history)));
 }
 

@@ -2,4 +2,3 @@
 pub mod CellLemmas
 pub mod HandlesLemmas
 pub mod HistoryLemmas
-pub mod RuleLemmas

@@ -1,5 +1,5 @@
 -- What a list of transactions keeps: its history, and how many of it are applied.
-use Rattle.std.specs.Prelude.{◌≡◌, ℕ, ◌+◌, ◌*◌, ◌≤◌, List, [], ◌∷◌, ◌++◌, length, Option, Some, Result, Ok, Err}
+use Rattle.std.specs.Prelude.{◌≡◌, ℕ, false, ◌+◌, ◌*◌, ◌≤◌, List, [], ◌∷◌, ◌++◌, length, Some, Result, Ok, Err}
 use Rattle.std.specs.List.{range_with_len}
 use Rattle.qd_base.specs.Codes.{number_of}
 use Rattle.qd_base.specs.declared.code.Code.{Code}
@@ -10,7 +10,6 @@ use Rattle.qd_base.specs.Database.{schemas_of}
 use Rattle.qd_base.specs.Lawful.{Lawful}
 use Rattle.qd_base.specs.Replay.{after, first}
 use Rattle.qd_base.specs.declared.request.Table.{Table}
-use Rattle.qd_base.specs.declared.request.Request.{Request}
 use Rattle.qd_base.specs.declared.request.Reply.{Reply}
 use Rattle.qd_base.specs.declared.request.Reply.TheVariants as reply
 use Rattle.qd_ilp.specs.Transaction.{Says, start}
@@ -23,8 +22,7 @@ use Rattle.qd_meaning.specs.declared.refusal.Refusal.{Refusal}
 use Rattle.qd_meaning.specs.Answer.{answer}
 use Rattle.qd_meaning.specs.Write.{write}
 use Rattle.qd_scan.specs.Sources.{SourceView}
-use Rattle.qd_session.specs.Allowed.{Allowed}
-use Rattle.qd_session.specs.Looks.{Look, Shown}
+use Rattle.qd_session.specs.Looks.{Shown}
 
 -- the transactions, and the number of those that are applied
 pub record Listed : Type 0 where
@@ -40,18 +38,8 @@ listed_shown l = record {
   own = range_with_len 1 (length l.history);
   faults = 0;
   pinned = [];
+  pending = false;
 }
-
--- Only an apply changes what is applied, to what its reply says; and a query is over just that.
-abbrev pub IsOfLastApply : (before now : Look) → Reply → Type 0
-IsOfLastApply before now (reply.Applied n) = now.known ≡ n
-IsOfLastApply before now (reply.Rows n table) = (now.known ≡ before.known) × (n ≡ before.known)
-IsOfLastApply before now (reply.QueryRefused n number place) = (now.known ≡ before.known) × (n ≡ before.known)
-IsOfLastApply before now given = now.known ≡ before.known
-
--- The rule of a list: that of the product, and what is exact where one session alone applies.
-abbrev pub AllowedAlone : Option (List Entry) → (before now : Look) → (time : ℕ) → Request → Reply → Type 0
-AllowedAlone history before now time asked given = Allowed history before now time asked given × IsOfLastApply before now given
 
 -- what the lines of a batch say over the tables that are there
 abbrev pub SaysOver : Listed → (time : ℕ) → Reading → Result Entry (Code × ℕ) → Type 0

@@ -12,10 +12,11 @@ ghost use Rattle.qd_ilp.specs.Whole.{IsReading};
 ghost use Rattle.qd_meaning.specs.declared.refusal.Refusal.{Refusal};
 ghost use Rattle.qd_meaning.specs.Answer.{answer as meant};
 ghost use Rattle.qd_query.specs.Answers.{given as told};
+ghost use Rattle.qd_session.specs.Alone.{AllowedAlone};
 ghost use Rattle.qd_session.specs.Legal.{Handles};
 ghost use Rattle.qd_session.specs.Asking.{asks_for, IsQuestion};
 ghost use Rattle.qd_session.specs.Timing.{IsRead};
-ghost use Rattle.qd_list.specs.Listed.{AllowedAlone, CarriesOut, IsShort, Writes, WritesStmt, all_applied, answered, listed_shown, with_entry};
+ghost use Rattle.qd_list.specs.Listed.{CarriesOut, IsShort, Writes, WritesStmt, all_applied, answered, listed_shown, with_entry};
 
 use crate::schemas::{inserts_only, schemas_after};
 use qd_base::{Code, Entry, MAX_QUERY_BYTES, Memory, Reply, Schemas, Seq, Txt};

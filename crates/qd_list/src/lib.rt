@@ -1,6 +1,7 @@
 //! A backend over one list of transactions in memory.
 //!
-//! `specs/Listed` says what it shows, and its rule: that of the product, and what is exact where one session alone applies.
+//! `specs/Listed` says what it shows and how it answers. Its rule is that of a backend whose one session alone applies,
+//! `AllowedAlone` of `qd_session`.
 #![tactic(auto)]
 
 mod back;

@@ -79,7 +79,11 @@ impl ListParts {
 }
 
 impl PartSource for ListParts {
+    type Fixed = ();
+
     ghost shown = { λ p. p };
+
+    ghost fixed = { λ _. tt };
 
     fn schemas(&self) -> &Schemas {
         self.kept.schemas()

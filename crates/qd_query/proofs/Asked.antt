@@ -30,7 +30,7 @@ use Rattle.qd_plan.specs.Plans.{Asks, Planned}
 use Rattle.qd_query.specs.declared.answer.Answer.{Answer}
 use Rattle.qd_query.specs.declared.answer.Answer.TheVariants as answer
 use Rattle.qd_query.specs.Answers.{answer_of, answer_over, given, plan_answer, right_in, show_answer, sized, table_in, HasStride, IsWork, StrideIn}
-use Rattle.qd_scan.specs.Sources.{schema_at, SourceView, Tells}
+use Rattle.qd_scan.specs.Sources.{rows_at, schema_at, SourceView, Tells}
 use Rattle.qd_query.proofs.Strides.{as_many, back, front, is_work}
 use Rattle.qd_query.proofs.Told.{named, placed, placed_low, schema_told, unnamed}
 
@@ -236,3 +236,12 @@ told_plan v (Some db) p time_col rows a tells low col made h =
     made
     ∙ ap (λ (c : ℕ). answer_over p (meaning.worked p.work c (meaning.latest_rows p.latest (meaning.kept_rows p.keep rows)))) (col ∙ ap (λ (s : Schema). s.time_col) (sym (schema_told v db p.left tells low)))
     ∙ ap (λ (rs : List Row). answer_over p (meaning.worked p.work (table_in db p.left).schema.time_col (meaning.latest_rows p.latest rs))) h
+
+-- ---- partitions
+
+-- the partitions of the rows that a table's scan gives are those of the told table
+pub told_partitions : (v : SourceView) (o : Option Database) (table : ℕ) (schema : Schema) (rows : List Row) (a : Answer) → IfSome o (Tells v) → table < length v.schemas → schema ≡ schema_at v table
+    → a ≡ show_answer (record { schema = schema; rows = rows }) → IfSome o (λ db. rows ≡ rows_at db table) → IfSome o (λ db. a ≡ show_answer (table_in db table))
+told_partitions v None table schema rows a tells low lent made h = tt
+told_partitions v (Some db) table schema rows a tells low lent made h =
+    made ∙ ap₂ (λ (s : Schema) (rs : List Row). show_answer (record { schema = s; rows = rs })) (lent ∙ sym (schema_told v db table tells low)) h

@@ -53,6 +53,7 @@ pub(crate) fn show_partitions<P: PartSource>(
     // Where the source tells its database, it is the plain meaning's over the table.
     ensures answer { IfOk result (λ a. IfSome (P.shown source.old).database (λ db. a ≡ show_answer (table_in db table))) }
     ensures stays { Stays (P.shown source.old) (P.shown source.new) }
+    ensures fixed { P.fixed source.new ≡ P.fixed source.old }
     ensures cause { IfErr result (HasCause (P.shown source.old) (P.shown source.new)) }
 {
     source.keeps_its_law();

@@ -40,6 +40,7 @@ pub(crate) fn run_plan<P: PartSource>(
     ensures answer { IfOk result (λ a. IfSome (P.shown source.old).database
         (λ db. a ≡ plan_answer plan.now (Some (table_in db plan.now.left)) (right_in db plan.now.join))) }
     ensures stays { Stays (P.shown source.old) (P.shown source.new) }
+    ensures fixed { P.fixed source.new ≡ P.fixed source.old }
     ensures cause { IfErr result (HasCause (P.shown source.old) (P.shown source.new)) }
 {
     source.keeps_its_law();

@@ -32,6 +32,7 @@ pub fn run_query<P: PartSource>(
     // Where the source tells its database, it is the plain meaning's over that database.
     ensures answer { IfOk result (λ a. IfSome (P.shown source.old).database (λ db. a ≡ answer_of db stmt.now)) }
     ensures stays { Stays (P.shown source.old) (P.shown source.new) }
+    ensures fixed { P.fixed source.new ≡ P.fixed source.old }
     ensures cause { IfErr result (HasCause (P.shown source.old) (P.shown source.new)) }
 {
     source.keeps_its_law();

@@ -33,6 +33,7 @@ pub(crate) fn source_rows<P: PartSource>(
         (λ db. kept_rows plan.now.keep (rows_in set) ≡ kept_rows plan.now.keep (meaning.source_rows plan.now.join (Some (table_in db plan.now.left)) (right_in db plan.now.join)))) }
     ensures timed { IfOk result (λ set. AreTimed (schema_at (P.shown source.old) plan.now.left).time_col (rows_in set)) }
     ensures stays { Stays (P.shown source.old) (P.shown source.new) }
+    ensures fixed { P.fixed source.new ≡ P.fixed source.old }
     ensures cause { IfErr result (HasCause (P.shown source.old) (P.shown source.new)) }
 {
     match &plan.join {
@@ -52,6 +53,7 @@ fn table_rows<P: PartSource>(
     ensures rows { IfOk result (λ set. IfSome (P.shown source.old).database (λ db. kept_rows keep.now (rows_in set) ≡ kept_rows keep.now (rows_at db table))) }
     ensures timed { IfOk result (λ set. AreTimed (schema_at (P.shown source.old) table).time_col (rows_in set)) }
     ensures stays { Stays (P.shown source.old) (P.shown source.new) }
+    ensures fixed { P.fixed source.new ≡ P.fixed source.old }
     ensures cause { IfErr result (HasCause (P.shown source.old) (P.shown source.new)) }
 {
     source.keeps_its_law();
@@ -78,6 +80,7 @@ fn joined_rows<P: PartSource>(
         (λ db. kept_rows keep.now (rows_in set) ≡ kept_rows keep.now (meaning.source_rows (Some (right, spec.now)) (Some (table_in db left)) (Some (table_in db right))))) }
     ensures timed { IfOk result (λ set. AreTimed (schema_at (P.shown source.old) left).time_col (rows_in set)) }
     ensures stays { Stays (P.shown source.old) (P.shown source.new) }
+    ensures fixed { P.fixed source.new ≡ P.fixed source.old }
     ensures cause { IfErr result (HasCause (P.shown source.old) (P.shown source.new)) }
 {
     source.keeps_its_law();
@@ -123,6 +126,7 @@ fn rows_from_to<P: PartSource>(
     ensures order { IfOk result (λ set. IsInOrder (schema_at (P.shown source.old) table).time_col (rows_in set)) }
     ensures timely { IfOk result (λ set. All (λ r. time_of (schema_at (P.shown source.old) table).time_col r ≤ MAX_TIME) (rows_in set)) }
     ensures stays { Stays (P.shown source.old) (P.shown source.new) }
+    ensures fixed { P.fixed source.new ≡ P.fixed source.old }
     ensures cause { IfErr result (HasCause (P.shown source.old) (P.shown source.new)) }
 {
     scan(alloc, source, table, lo, hi)
@@ -142,6 +146,7 @@ pub(crate) fn all_rows<P: PartSource>(
     ensures order { IfOk result (λ set. IsInOrder (schema_at (P.shown source.old) table).time_col (rows_in set)) }
     ensures timely { IfOk result (λ set. All (λ r. time_of (schema_at (P.shown source.old) table).time_col r ≤ MAX_TIME) (rows_in set)) }
     ensures stays { Stays (P.shown source.old) (P.shown source.new) }
+    ensures fixed { P.fixed source.new ≡ P.fixed source.old }
     ensures cause { IfErr result (HasCause (P.shown source.old) (P.shown source.new)) }
 {
     source.keeps_its_law();

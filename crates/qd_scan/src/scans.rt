@@ -46,6 +46,7 @@ pub fn scan<P: PartSource>(
     ensures order { IfOk result (λ set. IsInOrder (schema_at (P.shown source.old) table).time_col (rows_in set)) }
     ensures between { IfOk result (λ set. All (IsBetween (schema_at (P.shown source.old) table).time_col lo hi) (rows_in set)) }
     ensures stays { Stays (P.shown source.old) (P.shown source.new) }
+    ensures fixed { P.fixed source.new ≡ P.fixed source.old }
     ensures cause { IfErr result (HasCause (P.shown source.old) (P.shown source.new)) }
 {
     source.keeps_its_law();
@@ -73,6 +74,7 @@ fn with_parts<P: PartSource>(
     requires single { rows.right ≡ None }
     ensures scanned { IfOk result (HasScanned (P.shown source.old) table lo hi (length (parts_at (P.shown source.old) table))) }
     ensures stays { Stays (P.shown source.old) (P.shown source.new) }
+    ensures fixed { P.fixed source.new ≡ P.fixed source.old }
     ensures cause { IfErr result (HasCause (P.shown source.old) (P.shown source.new)) }
 {
     let mut rows = rows;

@@ -14,10 +14,16 @@ use std::sync::Arc;
 ///
 /// Its meaning is what it shows: the schemas and the parts of all tables; the tables with their rows, where it tells
 /// them; how many calls of what it reads from have failed; and how often it has found bytes damaged, with the place of
-/// the last. No call changes the tables, and no count falls.
+/// the last. No call changes the tables, and no count falls. `fixed` is what else it holds that no call changes.
 pub trait PartSource {
+    /// What else a source holds, as far as no call changes it.
+    type Fixed;
+
     /// What is shown at a moment.
     ghost shown: { Self → SourceView };
+
+    /// What no call changes.
+    ghost fixed: { Self → Self.Fixed };
 
     /// Lends the schemas of all tables, in constant time.
     fn schemas(&self) -> &Schemas
@@ -42,6 +48,7 @@ pub trait PartSource {
         ensures block { IfOk result (λ b. IsBlockOf (schema_at (shown self.old) table) (part_at (shown self.old) table i) (arc_value b)) }
         ensures told { IfOk result (λ b. HasRowsOf (shown self.old) table i (arc_value b)) }
         ensures stays { Stays (shown self.old) (shown self.new) }
+        ensures fixed { fixed self.new ≡ fixed self.old }
 
         // A fault of the volume comes only where the count of faults has risen, and damage only where that of damages has,
         // with the place that was found last.

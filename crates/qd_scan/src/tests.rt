@@ -143,7 +143,11 @@ fn has_ends(times: &[u64], part: &Part) -> bool
 }
 
 impl PartSource for Stored {
+    type Fixed = ();
+
     ghost shown = { λ s. s };
+
+    ghost fixed = { λ _. tt };
 
     fn schemas(&self) -> &Schemas {
         &self.schemas

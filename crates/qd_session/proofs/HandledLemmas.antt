@@ -44,7 +44,7 @@ grows-here : (s : Shown) → Grows s s
 grows-here s = record { history = extends-here s.history; sequenced = omega arith; known = omega arith; faults = omega arith }
 
 still-here : (s : Shown) (clock clock' : Timeline) → clock.faults ≤ clock'.faults → IsStill (look_at clock s) (look_at clock' s)
-still-here s clock clock' rise = record { sequenced = refl; known = refl; clock_faults = rise; volume_faults = refl; pinned = refl }
+still-here s clock clock' rise = record { sequenced = refl; known = refl; clock_faults = rise; volume_faults = refl; pinned = refl; pending = refl }
 
 module _ (rule : Rule) (s : Shown) (clock clock' : Timeline) (text : List ℕ) where
   -- no memory was found to read a batch

@@ -1,4 +1,5 @@
 -- Lemmas that the proofs of this crate share.
+pub mod AloneLemmas
 pub mod HandledLemmas
 pub mod ProgressLemmas
 pub mod RuleLemmas

@@ -31,7 +31,9 @@ allowed-more h more before now time (request.Write text) (reply.Done n) le (is, 
     (is, newer, (t.0, get-append h more (n - 1) t.0 t.1, subst (λ (db : Database). SaysBatch (schemas_of db) time text (Ok t.0)) (sym (first-append h more (n - 1) (omega (arith, is, le)))) t.2))
 allowed-more h more before now time (request.Write text) (reply.Refused number place) le (inl (c, is, says)) =
     inl (c, is, subst (λ (db : Database). SaysBatch (schemas_of db) time text (Err (c, place))) (sym (first-append h more now.sequenced le)) says)
-allowed-more h more before now time (request.Write text) (reply.Refused number place) le (inr f) = inr f
+allowed-more h more before now time (request.Write text) (reply.Refused number place) le (inr (inl (is, at, most, t))) =
+    inr (inl (is, at, most, (t.0, subst (λ (db : Database). SaysBatch (schemas_of db) time text (Ok t.0)) (sym (first-append h more now.sequenced le)) t.1)))
+allowed-more h more before now time (request.Write text) (reply.Refused number place) le (inr (inr f)) = inr (inr f)
 allowed-more h more before now time (request.Sql text) (reply.Done n) le (s, asks, writes, is, newer, t) =
     (s, asks, writes, is, newer, (t.0, get-append h more (n - 1) t.0 t.1, subst (λ (db : Database). write (schemas_of db) s ≡ Ok t.0) (sym (first-append h more (n - 1) (omega (arith, is, le)))) t.2))
 allowed-more h more before now time (request.Sql text) (reply.Rows n table) le (s, asks, question, between, most, is) =
@@ -41,7 +43,9 @@ allowed-more h more before now time (request.Sql text) (reply.QueryRefused n num
 allowed-more h more before now time (request.Sql text) (reply.Refused number place) le (inl is) = inl is
 allowed-more h more before now time (request.Sql text) (reply.Refused number place) le (inr (inl (s, asks, is))) =
     inr (inl (s, asks, subst (λ (db : Database). IsRefusalOver (schemas_of db) s number place) (sym (first-append h more now.sequenced le)) is))
-allowed-more h more before now time (request.Sql text) (reply.Refused number place) le (inr (inr f)) = inr (inr f)
+allowed-more h more before now time (request.Sql text) (reply.Refused number place) le (inr (inr (inl (s, asks, writes, (is, at, most, t))))) =
+    inr (inr (inl (s, asks, writes, (is, at, most, (t.0, subst (λ (db : Database). write (schemas_of db) s ≡ Ok t.0) (sym (first-append h more now.sequenced le)) t.1)))))
+allowed-more h more before now time (request.Sql text) (reply.Refused number place) le (inr (inr (inr f))) = inr (inr (inr f))
 allowed-more h more before now time request.Apply (reply.Applied n) le a = a
 allowed-more h more before now time request.Apply (reply.Refused number place) le a = a
 allowed-more h more before now time request.End reply.Bye le a = a
@@ -51,12 +55,12 @@ allowed-more h more before now time (request.Write text) (reply.QueryRefused n n
 allowed-more h more before now time (request.Write text) (reply.Damaged file at) le a = absurd a
 allowed-more h more before now time (request.Write text) reply.Bye le a = absurd a
 allowed-more h more before now time (request.Sql text) (reply.Applied n) le a = absurd a
-allowed-more h more before now time (request.Sql text) (reply.Damaged file at) le a = absurd a
+allowed-more h more before now time (request.Sql text) (reply.Damaged file at) le a = absurd (cc (a.3))
 allowed-more h more before now time (request.Sql text) reply.Bye le a = absurd a
 allowed-more h more before now time request.Apply (reply.Done n) le a = absurd a
 allowed-more h more before now time request.Apply (reply.Rows n table) le a = absurd a
 allowed-more h more before now time request.Apply (reply.QueryRefused n number place) le a = absurd a
-allowed-more h more before now time request.Apply (reply.Damaged file at) le a = absurd a
+allowed-more h more before now time request.Apply (reply.Damaged file at) le a = absurd (cc (a))
 allowed-more h more before now time request.Apply reply.Bye le a = absurd a
 allowed-more h more before now time request.End (reply.Done n) le a = absurd a
 allowed-more h more before now time request.End (reply.Rows n table) le a = absurd a
@@ -89,10 +93,10 @@ pub allowed-ends : EndsByBye Allowed
 allowed-ends = record { bye = λ history before now time still. tt; only_bye = only-bye; only_end = only-end }
 
 pub allowed-wants : MayWantMemory Allowed
-allowed-wants history before now time (request.Write text) on still = inr (inr (inl (refl, refl)))
-allowed-wants history before now time (request.Sql text) on still = inr (inr (inl (refl, refl)))
+allowed-wants history before now time (request.Write text) on still = inr (inr (inr (inl (refl, refl))))
+allowed-wants history before now time (request.Sql text) on still = inr (inr (inr (inl (refl, refl))))
 allowed-wants history before now time request.Apply on still = inl (refl, refl)
 allowed-wants history before now time request.End on still = absurd on
 
 pub allowed-lacks : MayLackClock Allowed
-allowed-lacks history before now time text lacks still risen = inr (inl (refl, refl, lacks, risen))
+allowed-lacks history before now time text lacks still risen = inr (inr (inl (refl, refl, lacks, risen)))

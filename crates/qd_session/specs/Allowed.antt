@@ -59,6 +59,17 @@ IsRefusedBatch None sequenced time text number place = IsLineCode number
 IsRefusedBatch (Some h) sequenced time text number place =
     (c : Code) × (number ≡ number_of c) × SaysBatch (schemas_of (first h sequenced)) time text (Err (c, place))
 
+-- how many transactions a store holds at most; `Limits::usual` of qd_base says the same
+abbrev pub most_transactions : ℕ
+most_transactions = 4194304
+
+-- A batch that has no refusal of its own is refused where there are as many transactions as a store may hold: its lines say
+-- a transaction over the schemas of the first transactions.
+abbrev pub IsFullBatch : Option (List Entry) → (sequenced time : ℕ) → List ℕ → ℕ → ℕ → Type 0
+IsFullBatch history sequenced time text number place =
+    (number ≡ number_of code.Full) × (place ≡ 0) × (most_transactions ≤ sequenced)
+    × IfSome history (λ h. (entry : Entry) × SaysBatch (schemas_of (first h sequenced)) time text (Ok entry))
+
 -- A statement that writes is refused over some schemas: by the code and the place of that refusal of all which goes first.
 abbrev pub IsRefusalOver : List Schema → Stmt → ℕ → ℕ → Type 0
 IsRefusalOver schemas s number place = (r : Refusal) × (write schemas s ≡ Err r) × (number ≡ number_of r.code) × (place ≡ r.place)
@@ -68,13 +79,20 @@ abbrev pub IsRefusedWrite : Option (List Entry) → (sequenced : ℕ) → Stmt �
 IsRefusedWrite None sequenced s number place = (schemas : List Schema) × IsRefusalOver schemas s number place
 IsRefusedWrite (Some h) sequenced s number place = IsRefusalOver (schemas_of (first h sequenced)) s number place
 
+-- It has no refusal of its own, and is refused where there are as many transactions as a store may hold: it writes a
+-- transaction over the schemas of the first ones.
+abbrev pub IsFullWrite : Option (List Entry) → (sequenced : ℕ) → Stmt → ℕ → ℕ → Type 0
+IsFullWrite history sequenced s number place =
+    (number ≡ number_of code.Full) × (place ≡ 0) × (most_transactions ≤ sequenced)
+    × IfSome history (λ h. (entry : Entry) × (write (schemas_of (first h sequenced)) s ≡ Ok entry))
+
 -- A statement that asks is refused over a database: by the code and the place of that refusal of all which goes first.
 abbrev pub HasNoAnswer : Database → Stmt → ℕ → ℕ → Type 0
 HasNoAnswer db s number place = (r : Refusal) × (answer db s ≡ Err r) × (number ≡ number_of r.code) × (place ≡ r.place)
 
--- it is refused over the first n transactions
+-- it is refused over the first n transactions; where these aren't told, nothing is said of it
 abbrev pub IsRefusedQuestion : Option (List Entry) → (n : ℕ) → Stmt → ℕ → ℕ → Type 0
-IsRefusedQuestion None n s number place = (db : Database) × HasNoAnswer db s number place
+IsRefusedQuestion None n s number place = Unit {0}
 IsRefusedQuestion (Some h) n s number place = HasNoAnswer (first h n) s number place
 
 -- a number that the answers between two looks may be over
@@ -88,7 +106,8 @@ abbrev pub Allowed : Option (List Entry) → (before now : Look) → (time : ℕ
 Allowed history before now time (request.Write text) (reply.Done n) =
     (n ≡ now.sequenced) × (before.sequenced < n) × IfSome history (λ h. HasTransaction h n (λ entry. SaysBatch (schemas_of (first h (n - 1))) time text (Ok entry)))
 Allowed history before now time (request.Write text) (reply.Refused number place) =
-    IsRefusedBatch history now.sequenced time text number place ⊎ (IsClockFault before now text number place ⊎ IsFault before now number place)
+    IsRefusedBatch history now.sequenced time text number place
+    ⊎ (IsFullBatch history now.sequenced time text number place ⊎ (IsClockFault before now text number place ⊎ IsFault before now number place))
 -- a statement that writes becomes transaction n, the last one now, over the schemas of those before it
 Allowed history before now time (request.Sql text) (reply.Done n) =
     (s : Stmt) × (asks_for text ≡ Ok s) × IsWrite s × (n ≡ now.sequenced) × (before.sequenced < n)
@@ -98,13 +117,18 @@ Allowed history before now time (request.Sql text) (reply.Rows n table) =
     (s : Stmt) × (asks_for text ≡ Ok s) × IsQuestion s × IsBetween before now n × (n ≤ now.sequenced) × IfSome history (λ h. answer (first h n) s ≡ Ok table)
 Allowed history before now time (request.Sql text) (reply.QueryRefused n number place) =
     (s : Stmt) × (asks_for text ≡ Ok s) × IsQuestion s × IsBetween before now n × (n ≤ now.sequenced) × IsRefusedQuestion history n s number place
--- any other text is refused as it is, and a statement that writes may be refused
+-- any other text is refused as it is, and a statement that writes may be refused: as it is, or where the store is full
 Allowed history before now time (request.Sql text) (reply.Refused number place) =
     ((c : Code) × (number ≡ number_of c) × (asks_for text ≡ Err (fault.Refused c place)))
-    ⊎ (((s : Stmt) × (asks_for text ≡ Ok s) × IsRefusedWrite history now.sequenced s number place) ⊎ IsFault before now number place)
+    ⊎ (((s : Stmt) × (asks_for text ≡ Ok s) × IsRefusedWrite history now.sequenced s number place)
+    ⊎ (((s : Stmt) × (asks_for text ≡ Ok s) × IsWrite s × IsFullWrite history now.sequenced s number place) ⊎ IsFault before now number place))
+-- a statement that asks may find damage, only where the history isn't told: a told one is that of a whole store, which has none
+Allowed history before now time (request.Sql text) (reply.Damaged file at) = (s : Stmt) × (asks_for text ≡ Ok s) × IsQuestion s × (history ≡ None)
 -- all that was sequenced at the look before is applied
 Allowed history before now time request.Apply (reply.Applied n) =
     IsBetween before now n × (before.sequenced ≤ n) × (n ≤ now.sequenced)
 Allowed history before now time request.Apply (reply.Refused number place) = IsFault before now number place
+-- so may an apply
+Allowed history before now time request.Apply (reply.Damaged file at) = history ≡ None
 Allowed history before now time request.End reply.Bye = Unit {0}
 Allowed history before now time asked given = ⊥

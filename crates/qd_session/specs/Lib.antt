@@ -1,5 +1,6 @@
 -- The definitions that the contracts of this crate cite.
 pub mod Allowed
+pub mod Alone
 pub mod Asking
 pub mod Legal
 pub mod Looks

@@ -1,5 +1,5 @@
 -- What a backend shows at a moment, and what stands at a look: what a session knows, and what its clock tells.
-use Rattle.std.specs.Prelude.{◌≡◌, ℕ, ◌≤◌, List, ◌++◌, Option, Some, None, IfSome, length}
+use Rattle.std.specs.Prelude.{◌≡◌, ℕ, Bool, ◌≤◌, List, ◌++◌, Option, Some, None, IfSome, length}
 use Rattle.qd_base.specs.declared.op.Entry.{Entry}
 use Rattle.qd_io.specs.Clocks.{Timeline}
 
@@ -22,6 +22,8 @@ pub record Shown : Type 0 where
   pub faults : ℕ
   -- the versions that its last hold could not retire
   pub pinned : List PinnedRow
+  -- whether a write that failed may have been left behind the transactions in what it stores on
+  pub pending : Bool
 
 -- What stands at a look: what a session knows of its backend, numbers alone, and its clock.
 pub record Look : Type 0 where
@@ -32,6 +34,8 @@ pub record Look : Type 0 where
   -- how many calls of the volume have failed
   pub volume_faults : ℕ
   pub pinned : List PinnedRow
+  -- whether a write that failed may have been left behind
+  pub pending : Bool
 
 -- a look at a backend, with a clock
 abbrev pub look_at : Timeline → Shown → Look
@@ -41,6 +45,7 @@ look_at clock s = record {
   clock = clock;
   volume_faults = s.faults;
   pinned = s.pinned;
+  pending = s.pending;
 }
 
 -- no number is less than it was
@@ -57,6 +62,7 @@ pub record IsStill (before now : Look) : Type 0 where
   pub clock_faults : before.clock.faults ≤ now.clock.faults
   pub volume_faults : now.volume_faults ≡ before.volume_faults
   pub pinned : now.pinned ≡ before.pinned
+  pub pending : now.pending ≡ before.pending
 
 -- a history grows at its end alone, and is told still where it was told
 abbrev pub Extends : Option (List Entry) → Option (List Entry) → Type 0

@@ -1,7 +1,8 @@
 //! Sessions: the requests of a wire are handled by a backend, with the time of a clock where one is needed, and their
 //! replies are written in order.
 //!
-//! `specs/Legal` says which replies may come, by the backend's own rule; `specs/Allowed` is the rule of the product.
+//! `specs/Legal` says which replies may come, by the backend's own rule; `specs/Allowed` is the rule of the product,
+//! and `specs/Alone` that of a backend whose one session alone applies.
 #![tactic(auto)]
 
 mod backend;

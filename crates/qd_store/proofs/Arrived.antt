@@ -21,11 +21,13 @@ use Rattle.qd_durable.specs.declared.fault.LogFault.TheVariants as fault
 use Rattle.qd_manifest.specs.declared.shape.TableParts.{TableParts}
 use Rattle.qd_manifest.specs.Spelling.{schemas_in}
 use Rattle.qd_sequencer.specs.Histories.{AreSpelled}
+use Rattle.qd_sequencer.specs.Reading.{BreaksOff}
 use Rattle.qd_txnfile.specs.Versions as root
-use Rattle.qd_volume.specs.Disk.{Disk, reads_of, file_of}
+use Rattle.qd_volume.specs.Disk.{Disk, Image, reads_of, file_of}
 use Rattle.qd_volume.proofs.Sound.{image_of_reads, sound_file}
 use Rattle.qd_wal.specs.Laws.{OneEntryIsRead}
-use Rattle.qd_store.specs.Drafting.{AreSomeTaken, AreTaken, HasArrived, HasTaken, IsArrived, IsArrivedFrom, MayHaveBlocks}
+use Rattle.qd_store.specs.Damage.{IsDamagedOver, IsDraftDamage, MayHaveBlocks}
+use Rattle.qd_store.specs.Drafting.{AreArrived, AreSomeTaken, AreTaken, HasArrived, HasTaken, IsArrived, IsArrivedFrom}
 use Rattle.qd_store.specs.Drafts.{between}
 use Rattle.qd_store.specs.Prefixes.{IsShown}
 use Rattle.qd_store.specs.Stores.{IsStore, Store}
@@ -102,12 +104,21 @@ module _ (x : Version) (n : ℕ) (shape : List TableParts) (number : n ≡ x.n) 
   may_now : MayHaveBlocks n shape → MayHaveBlocks x.n x.shape
   may_now may = subst (λ (k : ℕ). MayHaveBlocks k x.shape) number (subst (λ (l : List TableParts). MayHaveBlocks n l) tables may)
 
+  may_here : MayHaveBlocks x.n x.shape → MayHaveBlocks n shape
+  may_here may = subst (λ (l : List TableParts). MayHaveBlocks n l) (sym tables) (subst (λ (k : ℕ). MayHaveBlocks k x.shape) (sym number) may)
+
   -- the current version of a told store is never refused
   pub never_refused : (s : Store) → version_at s.versions.versions s.versions.versions.current ≡ Some x → RowsAreFew → (MayHaveBlocks n shape → ⊥)
       → (o : Option Disk) → IfSome o (λ disk. (h : List Entry) (next : root.Version) → IsStore s h next disk → ⊥)
   never_refused s at law refused None = tt
   never_refused s at law refused (Some disk) = λ h next is.
-      refused (subst (λ (l : List TableParts). MayHaveBlocks n l) (sym tables) (subst (λ (k : ℕ). MayHaveBlocks k x.shape) (sym number) (may_show s h next disk is x at law)))
+      refused (may_here (may_show s h next disk is x at law))
+
+  -- where a version is refused, it is damaged
+  pub refused_read : (s : Store) (upto : ℕ) → version_at s.versions.versions s.versions.versions.current ≡ Some x → (MayHaveBlocks n shape → ⊥)
+      → (o : Option Disk) → IfSome o (λ disk. IsDraftDamage s upto (reads_of disk) 2 1)
+  refused_read s upto at refused None = tt
+  refused_read s upto at refused (Some disk) = (x, at, IsDamagedOver.InVersion (λ may. refused (may_here may)))
 
   module _ (next from : ℕ) (draft : Drafting) (numbered : from ≡ next)
       (is : draft ≡ record { base = n; upto = n; next_block = from; shape = shape; tables = without_rows (schemas_in shape) }) where
@@ -145,3 +156,35 @@ module _ (x : Version) (n : ℕ) (shape : List TableParts) (number : n ≡ x.n) 
       arrived_told s block refs_same at one (Some disk) taken = λ h last is.
           arrived_from s h last disk is x at upto more one result draft (slice_range list n upto) (begins ∙ ap (λ (k : ℕ). begun k x) (sym block))
           (are ∙ ap (λ (l : List WalRef). slice_range l x.n upto) (sym refs_same)) (omega (arith, few, ap length refs_same)) taken
+
+      -- whatever the files hold
+      module _ (s : Store) (block : s.versions.versions.next_block ≡ next) (refs_same : s.sequence.refs ≡ refs) (at : version_at s.versions.versions s.versions.versions.current ≡ Some x)
+          (may : MayHaveBlocks n shape) where
+        places : slice_range list n upto ≡ slice_range s.sequence.refs x.n upto
+        places = are ∙ ap (λ (l : List WalRef). slice_range l x.n upto) (sym refs_same)
+
+        schemas_here : schemas_of draft.tables ≡ schemas_in x.shape
+        schemas_here = ap (λ (d : Drafting). schemas_of d.tables) begins ∙ schemas_without (schemas_in x.shape)
+
+        read_here : (image : Image) (r : Result Drafting LogFault) → AreTaken r (slice_range list n upto) draft image → AreArrived r s upto image
+        read_here image (Ok d) (es, spelled, has) = (
+          x,
+          es,
+          at,
+          may_now may,
+          subst (λ (l : List WalRef). AreSpelled l es image) places spelled,
+          subst (λ (k : ℕ). HasArrived k x es upto d) (sym block) (has_arrived next x es (length (slice_range list n upto)) upto draft d begins reaches has),
+        )
+        read_here image (Err (fault.Damaged file place)) breaks = (
+          x,
+          at,
+          IsDamagedOver.InEntries file place (may_now may)
+              (subst (λ (l : List WalRef). BreaksOff l (schemas_in x.shape) image file place) places
+              (subst (λ (l : List Schema). BreaksOff (slice_range list n upto) l image file place) schemas_here breaks)),
+        )
+        read_here image (Err fault.Vol) taken = tt
+        read_here image (Err fault.Memory) taken = tt
+
+        pub arrived_read : (o : Option Disk) → IfSome o (λ disk. AreTaken result (slice_range list n upto) draft (reads_of disk)) → IfSome o (λ disk. AreArrived result s upto (reads_of disk))
+        arrived_read None taken = tt
+        arrived_read (Some disk) taken = read_here (reads_of disk) result taken

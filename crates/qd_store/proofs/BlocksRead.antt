@@ -1,7 +1,7 @@
 -- The blocks of the parts that a merge reads, one behind another.
-use Rattle.std.proofs.Common.{◌≡◌, ℕ, ◌+◌, ◌<◌, ◌≤◌, List, [], ◌∷◌, ◌++◌, length, map, take, Option, Some, None, Err, IfSome, get_or, refl, sym, ap, ap₂, ◌∙◌, subst}
+use Rattle.std.proofs.Common.{◌≡◌, ℕ, ◌+◌, ◌<◌, ◌≤◌, inl, inr, List, [], ◌∷◌, ◌++◌, length, map, take, drop, Option, Some, None, Result, Ok, Err, IfSome, get_or, refl, sym, ap, ap₂, ◌∙◌, subst}
 use Rattle.std.specs.List.{AllByRecursion, AllZip}
-use Rattle.std.proofs.lemmas.List.{map-append, take_all, take_more}
+use Rattle.std.proofs.lemmas.List.{drop_more, map-append, take_all, take_more}
 use Rattle.std.proofs.lemmas.List.Elements.{All-from_recursion}
 use Rattle.std.proofs.lemmas.Option.{same_Some}
 use Rattle.qd_base.specs.declared.op.Entry.{Entry}
@@ -17,8 +17,9 @@ use Rattle.qd_durable.specs.declared.fault.LogFault.{LogFault}
 use Rattle.qd_durable.specs.declared.fault.LogFault.TheVariants as fault
 use Rattle.qd_manifest.specs.declared.shape.TableParts.{TableParts}
 use Rattle.qd_txnfile.specs.Versions.{Version}
-use Rattle.qd_volume.specs.Disk.{Disk}
-use Rattle.qd_store.specs.Drafting.{block_there, AreRead, AreReadFrom, IsReadOf, IsThere, IsTouchedFrom}
+use Rattle.qd_volume.specs.Disk.{Disk, Image, reads_of}
+use Rattle.qd_store.specs.Damage.{IsPartRead, IsThere, LosesBlock}
+use Rattle.qd_store.specs.Drafting.{block_there, AreRead, AreReadFrom, IsReadOf, IsTouchedFrom}
 use Rattle.qd_store.specs.Stores.{IsStore, Store}
 use Rattle.qd_store.proofs.TouchedParts.{all_read, all_there}
 
@@ -100,3 +101,38 @@ module _ (s : Store) (shape : List TableParts) (tables : List StoredTable) (tos 
       told h next store x at contents stands
       ∙ ap (λ (l : List Touched). map (block_there contents shape) l) (take_all i tos le ∙ is)
       ∙ all_read shape contents 0 shape tables refl
+
+-- ---- where a block is lost
+
+-- one answer has one cause
+pub same_cause : {T : Type 0} (result : Result T LogFault) (cause other : LogFault) → result ≡ Err cause → result ≡ Err other → cause ≡ other
+same_cause result cause other is was = cc
+
+-- where the rest loses a block, all parts do
+abbrev pub LosesBehind : List Touched → List Touched → List TableParts → Image → Type 0
+LosesBehind tos rest shape image = (file at : ℕ) → LosesBlock rest shape image file at → LosesBlock tos shape image file at
+
+module _ (tos : List Touched) (shape : List TableParts) (i : ℕ) (o : Option Disk) (behind : (disk : Disk) → o ≡ Some disk → LosesBehind tos (drop i tos) shape (reads_of disk)) (d : Touched)
+    (lt : i < length tos) (now : Option Disk) (stays : now ≡ o) (tables : List TableParts) (same : shape ≡ tables) where
+  -- what is read of the next part is of these tables, and of what the volume held
+  of_next : (r : Result Block LogFault) → IfSome now (λ disk. IsPartRead tables (get_or tos i d) r (reads_of disk)) → (disk : Disk) → o ≡ Some disk → IsPartRead shape (get_or tos i d) r (reads_of disk)
+  of_next r read disk is =
+      subst (λ (l : List TableParts). IsPartRead l (get_or tos i d) r (reads_of disk)) (sym same)
+      (subst (λ (p : Option Disk). IfSome p (λ disk. IsPartRead tables (get_or tos i d) r (reads_of disk))) (stays ∙ is) read)
+
+  from_next : (disk : Disk) (file at : ℕ) → o ≡ Some disk → LosesBlock (get_or tos i d ∷ drop (i + 1) tos) shape (reads_of disk) file at → LosesBlock tos shape (reads_of disk) file at
+  from_next disk file at is lost = behind disk is file at (subst (λ (l : List Touched). LosesBlock l shape (reads_of disk) file at) (sym (drop_more tos i d lt)) lost)
+
+  pub loses_next : (b : Block) → IfSome now (λ disk. IsPartRead tables (get_or tos i d) (Ok b) (reads_of disk)) → (disk : Disk) → o ≡ Some disk → LosesBehind tos (drop (i + 1) tos) shape (reads_of disk)
+  loses_next b read disk is file at lost = from_next disk file at is (inr (b, of_next (Ok b) read disk is, lost))
+
+  pub loses_here : {T : Type 0} (result : Result T LogFault) (cause : LogFault) → result ≡ Err cause → IfSome now (λ disk. IsPartRead tables (get_or tos i d) (Err cause) (reads_of disk))
+      → (whole : List Touched) → tos ≡ whole → IfSome o (λ disk. (file at : ℕ) → result ≡ Err (fault.Damaged file at) → LosesBlock whole shape (reads_of disk) file at)
+  loses_here result cause failed read whole all = by o refl
+    where
+      by : (p : Option Disk) → o ≡ p → IfSome p (λ disk. (file at : ℕ) → result ≡ Err (fault.Damaged file at) → LosesBlock whole shape (reads_of disk) file at)
+      by None is = tt
+      by (Some disk) is = λ file at damaged.
+          subst (λ (l : List Touched). LosesBlock l shape (reads_of disk) file at) all
+          (from_next disk file at is
+          (inl (subst (λ (f : LogFault). IsPartRead shape (get_or tos i d) (Err f) (reads_of disk)) (same_cause result cause (fault.Damaged file at) failed damaged) (of_next (Err cause) read disk is))))

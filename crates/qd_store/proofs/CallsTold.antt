@@ -4,6 +4,7 @@ use Rattle.qd_base.specs.declared.op.Entry.{Entry}
 use Rattle.qd_catalog.specs.Versions as rows
 use Rattle.qd_catalog.specs.Versions.{Retires}
 use Rattle.qd_durable.specs.Moments.{Told}
+use Rattle.qd_durable.proofs.Writes.{told_map}
 use Rattle.qd_sequencer.specs.Calls.{Accepts}
 use Rattle.qd_txnfile.specs.Versions.{Version}
 use Rattle.qd_versions.specs.Stores as versions
@@ -15,12 +16,11 @@ use Rattle.qd_store.specs.Stores.{IsStore, Store}
 use Rattle.qd_store.proofs.Committing.{committed}
 use Rattle.qd_store.proofs.Swept.{SameRows, sweeps}
 use Rattle.qd_store.proofs.Retiring.{retired_versions}
-use Rattle.qd_store.proofs.ToldLemmas.{told_weaker}
 
 pub commit_told : {T E : Type 0} (result : Result T E) (old inside new : Store) → old ≡ inside → new.versions ≡ inside.versions → versions.IsStore inside.versions → (Own : Entry → Type 0) (before after : Option Disk)
     → Told before after (Accepts result inside.sequence new.sequence Own) → Told before after (Commits result old new Own)
 commit_told result old inside new is same law Own before after told = subst (λ (s : Store). Told before after (Commits result s new Own)) (sym is)
-    (told_weaker (Accepts result inside.sequence new.sequence Own) (Commits result inside new Own) before after (λ a b accepts. committed result inside new Own a b law same accepts) told)
+    (told_map (Accepts result inside.sequence new.sequence Own) (Commits result inside new Own) before after (λ a b accepts. committed result inside new Own a b law same accepts) told)
 
 pub retired_holds : (old inside new : Store) (row : ℕ) → old ≡ inside → new.sequence ≡ inside.sequence → Retires inside.versions.versions new.versions.versions row → row ≢ inside.versions.versions.current → new.versions.root ≡ inside.versions.root
     → (h : List Entry) (next : Version) (disk : Disk) → IsStore old h next disk → IsStore new h next disk
@@ -41,4 +41,4 @@ pub swept_told : {E : Type 0} (result : Result Bool E) (old inside new : Store) 
     → SameRows inside.versions.versions new.versions.versions → ((block : ℕ) → slice_get inside.versions.versions.retired 0 ≡ Some block → rows.IsListed inside.versions.versions block → ⊥)
     → Told before after (SweepsFront result inside.versions new.versions) → Told before after (Stands old new)
 swept_told result old inside new before after is same law leave rows_same unlisted told = subst (λ (s : Store). Told before after (Stands s new)) (sym is)
-    (told_weaker (SweepsFront result inside.versions new.versions) (Stands inside new) before after (λ a b front. sweeps result inside new a b law leave same rows_same unlisted front) told)
+    (told_map (SweepsFront result inside.versions new.versions) (Stands inside new) before after (λ a b front. sweeps result inside new a b law leave same rows_same unlisted front) told)

@@ -1,17 +1,16 @@
 -- What a commit makes of a store, from what the sequencer makes of its logs.
-use Rattle.std.proofs.Common.{◌≡◌, ◌⊎◌, inl, inr, ℕ, ◌^◌, ◌<◌, nat_eq, nat_le, true, false, ◌||◌, List, [], ◌∷◌, All, Option, Some, None, is_some, Result, Ok, Err, refl, sym, subst, arith}
+use Rattle.std.proofs.Common.{◌≡◌, ◌⊎◌, inr, ℕ, ◌^◌, ◌<◌, nat_eq, nat_le, true, false, ◌||◌, List, [], ◌∷◌, All, Option, Some, None, is_some, Result, Ok, Err, refl, sym, subst, arith}
 use Rattle.std.proofs.lemmas.Bool.Decides.{nat_tests}
 use Rattle.std.proofs.lemmas.List.Elements.{All-weaker}
 use Rattle.qd_base.specs.declared.op.Entry.{Entry}
 use Rattle.qd_catalog.specs.declared.version.Version as catalog
 use Rattle.qd_catalog.specs.Versions.{version_at}
-use Rattle.qd_durable.specs.Moments.{LeavesOnly, SameBut}
-use Rattle.qd_base.specs.declared.part.WalRef.{WalRef}
-use Rattle.qd_durable.proofs.Moved.{but_both, leaves_both, leaves_weaker, moves_both}
+use Rattle.qd_durable.specs.Moments.{LeavesOnly}
+use Rattle.qd_durable.proofs.Moved.{leaves_weaker}
 use Rattle.qd_files.proofs.FileLemmas.{own_files}
 use Rattle.qd_manifest.specs.declared.shape.TableParts.{TableParts}
 use Rattle.qd_manifest.specs.Spelling.{blocks_of}
-use Rattle.qd_sequencer.specs.Calls.{Accepts, IsAccepted, Settles}
+use Rattle.qd_sequencer.specs.Calls.{Accepts, Settles}
 use Rattle.qd_sequencer.specs.Sequences.{Sequence}
 use Rattle.qd_sequencer.proofs.Held.{may_hold}
 use Rattle.qd_sequencer.specs.Histories as histories
@@ -19,7 +18,6 @@ use Rattle.qd_sequencer.specs.Histories.{MayHold, is_log_file}
 use Rattle.qd_txnfile.specs.States.{IsDirty}
 use Rattle.qd_txnfile.specs.Versions.{Version}
 use Rattle.qd_versions.specs.Stores as versions
-use Rattle.qd_versions.specs.Stores.{current_version, manifest_in}
 use Rattle.qd_versions.proofs.Kept.{leaves_and}
 use Rattle.qd_volume.specs.Disk.{Disk}
 use Rattle.qd_store.specs.Stores.{HasVersions, IsStore, Store}
@@ -92,43 +90,3 @@ module _ {T E : Type 0} (Own : Entry → Type 0) where
     behind = λ h is. settles.behind h is;
     elsewhere = settles.elsewhere;
   }
-
-  -- and one behind it is one commit
-  pub settled_first : (result : Result T E) (old mid new : Sequence) (a b c : Disk) → mid.refs ≡ old.refs → mid.pending ≡ None → Settles old mid a b → Accepts result mid new Own b c → Accepts result old new Own a c
-  settled_first result old mid new a b c refs clean settles accepts = record {
-    any_moment = λ h is.
-        leaves_both a b c (MayHold old.refs h (λ e. Own e ⊎ histories.IsPending old.pending a e))
-        (leaves_weaker (MayHold old.refs h (histories.IsPending old.pending a)) (MayHold old.refs h (λ e. Own e ⊎ histories.IsPending old.pending a e)) a b
-        (λ image holds. may_hold old.refs h (histories.IsPending old.pending a) (λ e. Own e ⊎ histories.IsPending old.pending a e) image (λ e p. inr p) holds)
-        (settles.any_moment h is))
-        (leaves_weaker (MayHold mid.refs h (λ e. Own e ⊎ histories.IsPending mid.pending b e)) (MayHold old.refs h (λ e. Own e ⊎ histories.IsPending old.pending a e)) b c
-        (λ image holds. subst (λ (l : List WalRef). MayHold l h (λ e. Own e ⊎ histories.IsPending old.pending a e) image) refs
-        (may_hold mid.refs h (λ e. Own e ⊎ histories.IsPending mid.pending b e) (λ e. Own e ⊎ histories.IsPending old.pending a e) image (λ e p. one e p) holds))
-        (accepts.any_moment h (settles.behind h is)));
-    behind = λ h is. accepts.behind h (settles.behind h is);
-    elsewhere = moves_both (SameBut is_log_file) (SameBut is_log_file) (SameBut is_log_file) a b c (λ x y r. r) (but_both is_log_file) settles.elsewhere accepts.elsewhere;
-  }
-    where
-      one : (e : Entry) → Own e ⊎ histories.IsPending mid.pending b e → Own e ⊎ histories.IsPending old.pending a e
-      one e (inl own) = inl own
-      one e (inr pending) = absurd (subst (λ (o : Option WalRef). histories.IsPending o b e) clean pending)
-
--- which transactions may be a call's own
-module _ {T E : Type 0} where
-  pub accepts_weaker : (result : Result T E) (P Q : Entry → Type 0) (old new : Sequence) (before after : Disk) → ((e : Entry) → P e → Q e) → Accepts result old new P before after → Accepts result old new Q before after
-  accepts_weaker result P Q old new before after weaker accepts = record {
-    any_moment = λ h is.
-        leaves_weaker (MayHold old.refs h (λ e. P e ⊎ histories.IsPending old.pending before e)) (MayHold old.refs h (λ e. Q e ⊎ histories.IsPending old.pending before e)) before after
-        (λ image holds. may_hold old.refs h (λ e. P e ⊎ histories.IsPending old.pending before e) (λ e. Q e ⊎ histories.IsPending old.pending before e) image (λ e p. one e p) holds)
-        (accepts.any_moment h is);
-    behind = λ h is. by h result (accepts.behind h is);
-    elsewhere = accepts.elsewhere;
-  }
-    where
-      one : (e : Entry) → P e ⊎ histories.IsPending old.pending before e → Q e ⊎ histories.IsPending old.pending before e
-      one e (inl p) = inl (weaker e p)
-      one e (inr p) = inr p
-
-      by : (h : List Entry) (r : Result T E) → IsAccepted r new h P after → IsAccepted r new h Q after
-      by h (Ok done) a = (a.0, weaker a.0 a.1, a.2, a.3)
-      by h (Err fault) a = a

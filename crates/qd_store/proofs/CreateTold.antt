@@ -5,6 +5,7 @@ use Rattle.qd_catalog.specs.Versions as rows
 use Rattle.qd_catalog.specs.Versions.{version_at}
 use Rattle.qd_durable.specs.Moments.{Told}
 use Rattle.qd_durable.proofs.Moved.{leaves_both}
+use Rattle.qd_durable.proofs.Writes.{told_both, told_map}
 use Rattle.qd_io.specs.declared.fault.IoFault.{IoFault}
 use Rattle.qd_manifest.specs.Spelling.{IsManifest}
 use Rattle.qd_sequencer.specs.Calls as logs
@@ -23,7 +24,6 @@ use Rattle.qd_store.specs.Stores.{AreLimits, IsBook, Store}
 use Rattle.qd_store.specs.Calls.{Creates, IsBeingMade}
 use Rattle.qd_store.proofs.Creating.{any_moment, behind, being_made, made_whole, unmade_moments, unmade_now}
 use Rattle.qd_store.proofs.OpenedStore.{one_of_it, row_of_it}
-use Rattle.qd_store.proofs.ToldLemmas.{told_both, told_weaker}
 
 -- ---- the store of no transaction
 
@@ -49,7 +49,7 @@ not_logged fault answer a b made = record {
 }
 
 pub not_logged_told : (fault answer : IoFault) (before after : Option Disk) → Told before after (logs.Makes {E = IoFault} (Err fault)) → Told before after (Creates {E = IoFault} (Err answer))
-not_logged_told fault answer before after told = told_weaker (logs.Makes {E = IoFault} (Err fault)) (Creates {E = IoFault} (Err answer)) before after (λ a b made. not_logged fault answer a b made) told
+not_logged_told fault answer before after told = told_map (logs.Makes {E = IoFault} (Err fault)) (Creates {E = IoFault} (Err answer)) before after (λ a b made. not_logged fault answer a b made) told
 
 module _ (sequence : Sequence) where
   not_rooted : (fault answer : IoFault) (a b c : Disk) → logs.Makes {E = IoFault} (Ok sequence) a b → roots.Creates {E = IoFault} (Err fault) b c → Creates {E = IoFault} (Err answer) a c

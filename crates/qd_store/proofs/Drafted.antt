@@ -15,22 +15,22 @@ use Rattle.qd_catalog.specs.declared.version.Version.{Version}
 use Rattle.qd_catalog.specs.Versions.{current_n, n_of, version_at}
 use Rattle.qd_draft.specs.Drafts.{Drafting}
 use Rattle.qd_draft.specs.Laws.{RowsAreFew}
-use Rattle.qd_draft.specs.Plans.{read_in, with_batch}
+use Rattle.qd_draft.specs.Plans.{all_touched, read_in, with_batch}
 use Rattle.qd_draft.specs.Stands.{StandsFor}
 use Rattle.qd_durable.specs.declared.fault.LogFault.{LogFault}
 use Rattle.qd_durable.specs.declared.fault.LogFault.TheVariants as fault
-use Rattle.qd_manifest.specs.declared.shape.TableParts.{TableParts}
 use Rattle.qd_manifest.specs.declared.shape.TheConstants.{BLOCKS_PER_TRANSACTION}
-use Rattle.qd_manifest.specs.Spelling.{AreParts}
 use Rattle.qd_txnfile.specs.Versions as root
 use Rattle.qd_versions.specs.Stores as versions
-use Rattle.qd_volume.specs.Disk.{Disk}
-use Rattle.qd_store.specs.Drafting.{AreRead, AreReadFrom, HasArrived, IsArrived, IsArrivedFrom}
+use Rattle.qd_volume.specs.Disk.{Disk, Image, reads_of}
+use Rattle.qd_store.specs.Damage.{IsDamagedOver, IsDraftDamage, LosesBlock}
+use Rattle.qd_store.specs.Drafting.{AreArrived, AreRead, AreReadFrom, HasArrived, IsArrived, IsArrivedFrom}
 use Rattle.qd_store.specs.Drafts.{Drafted, IsDraftOver, IsDraftedFrom, between, plan_of}
 use Rattle.qd_store.specs.Prefixes.{IsShown}
 use Rattle.qd_store.specs.Stores.{IsStore, Store}
 use Rattle.qd_store.proofs.Arrived.{shown_now}
 use Rattle.qd_store.proofs.Between.{replay_between}
+use Rattle.qd_store.proofs.BlocksRead.{same_cause}
 use Rattle.qd_store.proofs.Fills.{drafted}
 use Rattle.qd_store.proofs.Plausible.{rows_few}
 
@@ -45,17 +45,7 @@ planned next x es upto arrived plan has is =
 -- ---- whatever the files hold
 
 module _ (v : versions.Store) (law : versions.IsStore v) (upto : ℕ) (arrived : Drafting) (is : IsArrived v.versions upto arrived) where
-  -- what the plan and the reading of the blocks need
-  pub its_parts : All (λ (t : TableParts). AreParts t.schema t.parts) arrived.shape
-  its_parts = subst (λ (d : Drafting). All (λ (t : TableParts). AreParts t.schema t.parts) d.shape) (sym is.4.draft) (law.tables v.versions.current is.0 is.2).parts
-
   module _ (plan : Drafting) (plan_is : plan ≡ record arrived { tables = map with_batch arrived.tables }) where
-    pub its_tables : (x : Version) × (version_at v.versions v.versions.current ≡ Some x) × (plan.shape ≡ x.shape)
-    its_tables = (is.0, is.2, ap (λ (d : Drafting). d.shape) plan_is ∙ ap (λ (d : Drafting). d.shape) is.4.draft)
-
-    pub its_number : plan.upto ≡ upto
-    its_number = ap (λ (d : Drafting). d.upto) plan_is ∙ ap (λ (d : Drafting). d.upto) is.4.draft
-
     pub drafted_over : (few : upto ≤ 2 ^ 30) (more : (n : ℕ) → current_n v.versions ≡ Some n → n < upto) (blocks : List Block)
         → AreRead plan.shape plan.tables blocks → IsDraftOver v.versions (record { plan = plan; blocks = blocks })
     drafted_over few more blocks read =
@@ -106,12 +96,7 @@ module _ (s : Store) (law : versions.IsStore s.versions) (rows : RowsAreFew) (up
         },
       )
 
-  -- where the transactions, or the blocks, aren't read
-  pub none_arrived : (cause : LogFault) → IsArrivedFrom (Err cause) s h upto → IsDraftedFrom (Err cause) s h upto
-  none_arrived (fault.Damaged file place) arrived = arrived
-  none_arrived fault.Vol arrived = tt
-  none_arrived fault.Memory arrived = tt
-
+  -- where the blocks aren't read
   pub none_read : (cause : LogFault) (arrived plan : Drafting) → IsArrivedFrom (Ok arrived) s h upto
       → ((x : Version) → version_at s.versions.versions s.versions.versions.current ≡ Some x → AreReadFrom (Err cause) plan.shape plan.tables h x.n)
       → IsDraftedFrom (Err cause) s h upto
@@ -147,3 +132,32 @@ module _ (s : Store) (law : versions.IsStore s.versions) (rows : RowsAreFew) (up
   undrafted_told cause (Some disk) now same has read =
       let told : ReadsTold (Err cause) disk = subst (λ (o : Option Disk). IfSome o (ReadsTold (Err cause))) same read in
       λ h next is. none_read s law rows upto h next disk is cause arrived plan (has h next is) (told h next is)
+
+-- ---- where a draft finds damage
+
+module _ {T : Type 0} (result : Result T LogFault) (cause : LogFault) (failed : result ≡ Err cause) (s : Store) (upto : ℕ) where
+  -- before it plans
+  pub arrives_damaged : (o : Option Disk) → IfSome o (λ disk. AreArrived (Err cause) s upto (reads_of disk))
+      → IfSome o (λ disk. (file at : ℕ) → result ≡ Err (fault.Damaged file at) → IsDraftDamage s upto (reads_of disk) file at)
+  arrives_damaged None read = tt
+  arrives_damaged (Some disk) read = λ file at damaged.
+      subst (λ (f : LogFault). AreArrived (Err f) s upto (reads_of disk)) (same_cause result cause (fault.Damaged file at) failed damaged) read
+
+  -- behind that
+  module _ {B : Type 0} (blocks : Result B LogFault) (lost : blocks ≡ Err cause) (arrived plan : Drafting) (plan_is : plan ≡ record arrived { tables = map with_batch arrived.tables }) where
+    in_blocks : (image : Image) (file at : ℕ) → AreArrived (Ok arrived) s upto image → LosesBlock (all_touched 0 plan.shape plan.tables) plan.shape image file at → IsDraftDamage s upto image file at
+    in_blocks image file at (x, es, current, may, spelled, has) loses = (
+      x,
+      current,
+      IsDamagedOver.InBlocks es file at may spelled has.lawful
+          (subst (λ (p : Drafting). LosesBlock (all_touched 0 p.shape p.tables) p.shape image file at) (planned s.versions.versions.next_block x es upto arrived plan has plan_is) loses),
+    )
+
+    pub reads_damaged : (o now : Option Disk) → now ≡ o → IfSome o (λ disk. AreArrived (Ok arrived) s upto (reads_of disk))
+        → IfSome now (λ disk. (file at : ℕ) → blocks ≡ Err (fault.Damaged file at) → LosesBlock (all_touched 0 plan.shape plan.tables) plan.shape (reads_of disk) file at)
+        → IfSome o (λ disk. (file at : ℕ) → result ≡ Err (fault.Damaged file at) → IsDraftDamage s upto (reads_of disk) file at)
+    reads_damaged None now same has loses = tt
+    reads_damaged (Some disk) now same has loses = λ file at damaged.
+        in_blocks (reads_of disk) file at has
+        (subst (λ (p : Option Disk). IfSome p (λ disk. (file at : ℕ) → blocks ≡ Err (fault.Damaged file at) → LosesBlock (all_touched 0 plan.shape plan.tables) plan.shape (reads_of disk) file at)) same loses
+        file at (subst (λ (f : LogFault). blocks ≡ Err f) (same_cause result cause (fault.Damaged file at) failed damaged) lost))

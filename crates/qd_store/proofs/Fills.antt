@@ -26,7 +26,8 @@ use Rattle.qd_draft.specs.Plans.{all_touched, read_in}
 use Rattle.qd_draft.specs.Stands.{rows_in_parts, StandsFor}
 use Rattle.qd_draft.proofs.ShapeLemmas.{shown}
 use Rattle.qd_versions.specs.Stores.{manifest_in}
-use Rattle.qd_store.specs.Drafting.{rows_shown, AreRead, HasItsTimes, IsReadOf, MayHaveBlocks}
+use Rattle.qd_store.specs.Damage.{rows_shown, HasItsTimes, MayHaveBlocks}
+use Rattle.qd_store.specs.Drafting.{AreRead, IsReadOf}
 use Rattle.qd_store.specs.Drafts.{plan_of, Drafted, IsDraftInto}
 use Rattle.qd_store.proofs.Fillers.{Fits, filler, filler_fits}
 use Rattle.qd_store.proofs.Growing.{replay_few, AreFew}

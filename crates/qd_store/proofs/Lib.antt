@@ -1,5 +1,4 @@
 -- Lemmas that the proofs of this crate share.
-pub mod ToldLemmas
 pub mod Sides
 pub mod OneOf
 pub mod Committing

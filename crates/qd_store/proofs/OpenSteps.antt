@@ -7,6 +7,7 @@ use Rattle.qd_catalog.specs.Versions as rows
 use Rattle.qd_catalog.specs.Versions.{n_of, version_at}
 use Rattle.qd_durable.specs.declared.fault.LogFault.{LogFault}
 use Rattle.qd_durable.specs.Moments.{Told}
+use Rattle.qd_durable.proofs.Writes.{told_both, told_map, told_still}
 use Rattle.qd_io.specs.declared.fault.IoFault.{IoFault}
 use Rattle.qd_manifest.specs.declared.shape.Manifest.{Manifest}
 use Rattle.qd_manifest.specs.declared.shape.TableParts.{TableParts}
@@ -30,7 +31,6 @@ use Rattle.qd_store.specs.Stores.{AreLimits, IsBook, Store}
 use Rattle.qd_store.proofs.OpenedStore.{one_of_it, row_of_it}
 use Rattle.qd_store.proofs.OpenTold as told
 use Rattle.qd_store.proofs.OpenTold.{HasLog, HasRoot, HasSynced, synced_none, synced_one}
-use Rattle.qd_store.proofs.ToldLemmas.{told_both, told_same, told_weaker}
 
 -- a call that leaves a volume, and says a fact of it
 told_with : (P : Disk → Disk → Type 0) (Q : Disk → Type 0) (R : Disk → Disk → Type 0) (before now later : Option Disk) → Told before now P → later ≡ now → IfSome now Q → ((a b : Disk) → P a b → Q b → R a b) → Told before later R
@@ -40,7 +40,7 @@ told_with P Q R (Some a) now later (b, e, p) same q with_fact = (b, same ∙ e, 
 -- ---- the mark
 
 pub mark_failed : (e : IoFault) (old now : Option Disk) → now ≡ old → Told old now (Opens (Err (open_fault e)))
-mark_failed e old now same = told_same (Opens (Err (open_fault e))) old now same (λ a. told.failed e a a (synced_none a))
+mark_failed e old now same = subst (λ (o : Option Disk). Told old o (Opens (Err (open_fault e)))) (sym same) (told_still (Opens (Err (open_fault e))) old (λ a. told.failed e a a (synced_none a)))
 
 pub no_mark : (old now : Option Disk) → now ≡ old → (is : Bool) → is ≡ false → IfSome old (λ disk. IsLooked is (reads_of disk)) → Told old now (Opens (Err fault.NotMade))
 no_mark None now same is isnt absent = same
@@ -83,7 +83,7 @@ module _ (old between now : Option Disk) where
 -- ---- the store
 
 pub no_memory : (refs : List WalRef) (v : stores.Store) (old now : Option Disk) → Told old now (HasRoot refs v) → Told old now (Opens (Err fault.Memory))
-no_memory refs v old now has = told_weaker (HasRoot refs v) (Opens (Err fault.Memory)) old now (λ a b h. told.no_memory a b h.log.synced) has
+no_memory refs v old now has = told_map (HasRoot refs v) (Opens (Err fault.Memory)) old now (λ a b h. told.no_memory a b h.log.synced) has
 
 -- the number and the tables of the version that was opened
 module _ (v : stores.Store) (m : Manifest) (opened : rows.IsOpened v.versions v.root.n m.next_block m.shape) (row : ℕ) (current : row ≡ v.versions.current) where

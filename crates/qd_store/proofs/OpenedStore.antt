@@ -1,8 +1,8 @@
 -- The versions of a store that was opened.
-use Rattle.std.proofs.Common.{◌≡◌, ℕ, ◌+◌, List, [], Option, Some, None, sym, ◌∙◌, ap, ap₂, subst, arith, get_or}
+use Rattle.std.proofs.Common.{◌≡◌, ℕ, zero, suc, ◌+◌, true, List, [], ◌∷◌, Option, Some, None, is_some, refl, sym, ◌∙◌, ap, ap₂, subst, arith, get_or, replicate}
 use Rattle.qd_catalog.specs.declared.version.Version as catalog
 use Rattle.qd_catalog.specs.Versions as rows
-use Rattle.qd_catalog.specs.Versions.{version_at}
+use Rattle.qd_catalog.specs.Versions.{IsLive, version_at}
 use Rattle.qd_durable.specs.Moments.{EachNow}
 use Rattle.qd_manifest.specs.declared.shape.Manifest.{Manifest}
 use Rattle.qd_manifest.specs.declared.shape.TableParts.{TableParts}
@@ -35,6 +35,16 @@ not_dirty (other.Written n) current any dirty = dirty
 pub never_dirty : (v : versions.Store) (disk : Disk) → ((next : Version) → IsRooted v next disk) → IsDirty v.root.other → ⊥
 never_dirty v disk rooted dirty = not_dirty v.root.other (current_version v.versions) (λ next. (rooted next).root.follows) dirty
 
+-- no other row than the first is live
+none_behind : (o : Option catalog.Version) → o ≡ None → (count row : ℕ) → is_some (get_or (replicate count o) row o) ≡ true → ⊥
+none_behind o is zero row live = cc
+none_behind o is (suc count) zero live = cc
+none_behind o is (suc count) (suc row) live = none_behind o is count row live
+
+only_first : (y : catalog.Version) (row count : ℕ) → is_some (get_or (Some y ∷ replicate count None) row None) ≡ true → row ≡ 0
+only_first y zero count live = refl
+only_first y (suc row) count live = absurd (none_behind None refl count row live)
+
 -- the catalogue of one version
 module _ (c : rows.Versions) (n next : ℕ) (shape : List TableParts) (opened : rows.IsOpened c n next shape) where
   pub row_of_it : version_at c c.current ≡ Some (record { n = n; shape = shape })
@@ -45,6 +55,11 @@ module _ (c : rows.Versions) (n next : ℕ) (shape : List TableParts) (opened : 
 
   pub one_of_it : (row : ℕ) (x : catalog.Version) → version_at c row ≡ Some x → x ≡ record { n = n; shape = shape }
   one_of_it row x at = row_is x (record { n = n; shape = shape }) row 63 (subst (λ (l : List (Option catalog.Version)). get_or l row None ≡ Some x) opened.versions at)
+
+  pub alone_of_it : (row : ℕ) → IsLive c row → row ≡ c.current
+  alone_of_it row live =
+      only_first (record { n = n; shape = shape }) row 63 (subst (λ (l : List (Option catalog.Version)). is_some (get_or l row None) ≡ true) opened.versions live)
+      ∙ sym opened.current
 
 module _ (manifests : OneManifestIsSpelled) (v : versions.Store) (m : Manifest) (sound : IsManifest v.root.n m) (opened : rows.IsOpened v.versions v.root.n m.next_block m.shape)
     (f : Found) (found : IsManifest f.n f.manifest) (is : current_version v.versions ≡ version_of f) where

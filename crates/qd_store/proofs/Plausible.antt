@@ -20,7 +20,7 @@ use Rattle.qd_manifest.specs.declared.shape.TheConstants.{BLOCKS_PER_TRANSACTION
 use Rattle.qd_manifest.specs.Spelling.{no_part}
 use Rattle.qd_rows.specs.Sets.{absent}
 use Rattle.qd_scan.specs.Sources.{IsBlockOf}
-use Rattle.qd_store.specs.Drafting.{HasItsTimes, MayHaveBlocks, rows_shown}
+use Rattle.qd_store.specs.Damage.{HasItsTimes, MayHaveBlocks, rows_shown}
 use Rattle.qd_store.proofs.Between.{lawful_front}
 
 -- ---- the parts of a table

@@ -4,6 +4,7 @@ use Rattle.qd_base.specs.declared.op.Entry.{Entry}
 use Rattle.qd_catalog.specs.declared.version.Version as catalog
 use Rattle.qd_catalog.specs.Versions.{Adds, SameVersions}
 use Rattle.qd_durable.specs.Moments.{Told}
+use Rattle.qd_durable.proofs.Writes.{told_map}
 use Rattle.qd_manifest.specs.declared.shape.TableParts.{TableParts}
 use Rattle.qd_sequencer.specs.Laws.{OtherFilesLeaveTheSequence}
 use Rattle.qd_txnfile.specs.Versions.{Version}
@@ -16,7 +17,6 @@ use Rattle.qd_volume.specs.Disk.{Disk}
 use Rattle.qd_store.specs.Calls.{IsPublished, Publishes, StandsNext}
 use Rattle.qd_store.specs.Stores.{AreLimits, IsBook, IsStore, Store}
 use Rattle.qd_store.proofs.Publishing.{failed_at_gate, failed_clean, failed_in_repair, is_published, publish_moments, set_some}
-use Rattle.qd_store.proofs.ToldLemmas.{told_weaker}
 
 module _ {E : Type 0} (result : Result ℕ E) (old new : Store) (n : ℕ) (shape : List TableParts) (blocks : List NewBlock) (v : Version) (before after : Disk) (law : versions.IsStore old.versions) (logs : OtherFilesLeaveTheSequence)
     (v_is : v ≡ stored n (old.versions.versions.next_block + length blocks) shape) (may : MayPublish old.versions.versions n shape (length blocks))
@@ -43,7 +43,7 @@ pub published_told : {E : Type 0} (result : Result ℕ E) (old inside new : Stor
     → Told before after (Publishes result old new n shape blocks (stored n (old.versions.versions.next_block + length blocks) shape))
 published_told result old inside new n shape blocks before after is law logs may numbered logs_same added same told =
     subst (λ (s : Store). Told before after (Publishes result s new n shape blocks (stored n (s.versions.versions.next_block + length blocks) shape))) (sym is)
-    (told_weaker (roots.Publishes result inside.versions new.versions (stored n (inside.versions.versions.next_block + length blocks) shape) blocks) (Publishes result inside new n shape blocks (stored n (inside.versions.versions.next_block + length blocks) shape)) before after
+    (told_map (roots.Publishes result inside.versions new.versions (stored n (inside.versions.versions.next_block + length blocks) shape) blocks) (Publishes result inside new n shape blocks (stored n (inside.versions.versions.next_block + length blocks) shape)) before after
     (λ a b p. publishes result inside new n shape blocks (stored n (inside.versions.versions.next_block + length blocks) shape) a b law logs refl may numbered logs_same added same p) told)
 
 -- no version shows more transactions than there are, behind the call

@@ -14,6 +14,7 @@ use Rattle.qd_draft.specs.Laws.{MergingStands}
 use Rattle.qd_draft.specs.Next.{versions_blocks}
 use Rattle.qd_draft.specs.Stands.{StandsFor}
 use Rattle.qd_durable.specs.Moments.{Told}
+use Rattle.qd_durable.proofs.Writes.{told_map}
 use Rattle.qd_txnfile.specs.Versions.{Version}
 use Rattle.qd_versions.specs.declared.published.NewBlock.{NewBlock}
 use Rattle.qd_versions.specs.Publishing.{MayPublish}
@@ -23,7 +24,6 @@ use Rattle.qd_store.specs.Calls.{IsPublished, Publishes, StandsNext}
 use Rattle.qd_store.specs.Drafts.{between, IsMerged, IsMergedOver, IsNextOf, Merging}
 use Rattle.qd_store.specs.Merges.{next_version, PublishesMerged}
 use Rattle.qd_store.specs.Stores.{Store}
-use Rattle.qd_store.proofs.ToldLemmas.{told_weaker}
 use Rattle.qd_store.proofs.MergedVersion.{may_over, newer, new_made, old_kept, stands_after}
 
 -- ---- a merge of a history's next transactions
@@ -83,12 +83,12 @@ module _ (T E F : Type 0) (law : MergingStands) (old new : Store) (m : Merging) 
   pub told_published : (row : T) → Told before after (Publishes {T = T} {E = E} (Ok row) old new m.upto m.shape m.blocks (next_version old m))
       → Told before after (PublishesMerged {T = T} {E = F} (Ok row) old new m)
   told_published row told =
-      told_weaker (Publishes {T = T} {E = E} (Ok row) old new m.upto m.shape m.blocks (next_version old m)) (PublishesMerged {T = T} {E = F} (Ok row) old new m) before after
+      told_map (Publishes {T = T} {E = E} (Ok row) old new m.upto m.shape m.blocks (next_version old m)) (PublishesMerged {T = T} {E = F} (Ok row) old new m) before after
       (λ a b p. publishes_merged law (Ok row) (Ok row) old new m a b (λ h last v is. is) p) told
 
   pub told_failed : (fault : E) (answer : F) → Told before after (Publishes {T = T} {E = E} (Err fault) old new m.upto m.shape m.blocks (next_version old m)) → Told before after (PublishesMerged {T = T} {E = F} (Err answer) old new m)
   told_failed fault answer told =
-      told_weaker (Publishes {T = T} {E = E} (Err fault) old new m.upto m.shape m.blocks (next_version old m)) (PublishesMerged {T = T} {E = F} (Err answer) old new m) before after
+      told_map (Publishes {T = T} {E = E} (Err fault) old new m.upto m.shape m.blocks (next_version old m)) (PublishesMerged {T = T} {E = F} (Err answer) old new m) before after
       (λ a b p. publishes_merged law (Err fault) (Err answer) old new m a b (λ h last v is. is) p) told
 
 -- ---- what is lent by a store, and by a merge

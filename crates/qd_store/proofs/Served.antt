@@ -28,8 +28,9 @@ use Rattle.qd_draft.proofs.PieceLemmas.{IsPiece}
 use Rattle.qd_draft.proofs.PlanLemmas.{merge_acts, touched_count}
 use Rattle.qd_draft.proofs.ServeLemmas.{made_again}
 use Rattle.qd_draft.proofs.ShapeLemmas.{first_pieces, AreGrown, IsOld}
+use Rattle.qd_draft.proofs.VersionLemmas.{all_old}
 use Rattle.qd_store.specs.Drafts.{plan_of, Drafted, IsDraft, IsSomeDraft, MayFollow}
-use Rattle.qd_store.proofs.GrownTables.{batches_grown, old_tables}
+use Rattle.qd_store.proofs.GrownTables.{batches_grown}
 
 -- ---- blocks that are read
 
@@ -108,7 +109,7 @@ module _ (law : MergingStands) (next : ℕ) (x : Version) (es : List Entry) (con
       )
 
   plan_served : MayFollow next x es contents db → AreBlocksFor x.shape (plan_of next x es).tables (read_in contents x.shape (plan_of next x es).tables)
-  plan_served follows = serves contents x.shape (plan_of next x es).tables (old_tables contents x.shape db follows.stands) (batches_grown x.shape es)
+  plan_served follows = serves contents x.shape (plan_of next x es).tables (all_old contents x.shape db follows.stands) (batches_grown x.shape es)
 
   -- how many blocks the plan writes
   pub plan_written : length (made_after contents x.shape es) ≡ written_in x.shape (plan_of next x es).tables

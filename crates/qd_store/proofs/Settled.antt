@@ -1,25 +1,36 @@
 -- What a failed commit left is settled, and a commit behind that is one with it.
-use Rattle.std.proofs.Common.{◌≡◌, ◌⊎◌, inl, inr, ℕ, List, fold, unwrap_or, Option, None, Result, Ok, Err, sym, subst}
+use Rattle.std.proofs.Common.{◌≡◌, ◌⊎◌, inl, inr, ℕ, List, fold, unwrap_or, Option, None, Some, Result, Ok, Err, IfErr, OnOk, refl, sym, subst}
 use Rattle.qd_base.specs.declared.op.Entry.{Entry}
 use Rattle.qd_base.specs.declared.part.WalRef.{WalRef}
 use Rattle.qd_base.specs.declared.schema.Schema.{Schema}
 use Rattle.qd_base.specs.Schemas.{schemas_step}
 use Rattle.qd_durable.specs.Moments.{Told}
-use Rattle.qd_durable.proofs.Moved.{leaves_both, leaves_weaker}
+use Rattle.qd_durable.proofs.Moved.{leaves_both, leaves_still, leaves_weaker}
+use Rattle.qd_durable.proofs.Writes.{told_both, told_map}
 use Rattle.qd_entry.specs.Spelling.{SpellsEntry}
+use Rattle.qd_io.specs.declared.fault.IoFault.{IoFault}
+use Rattle.qd_io.specs.declared.fault.IoFault.TheVariants as io
+use Rattle.qd_lines.specs.declared.fault.LineFault.{LineFault}
+use Rattle.qd_lines.specs.declared.fault.LineFault.TheVariants as lines
 use Rattle.qd_prepare.specs.declared.prepare.Prepared.{Prepared}
 use Rattle.qd_prepare.specs.Prepared.{IsPrepared}
+use Rattle.qd_sequencer.specs.declared.fault.CommitFault.{CommitFault}
+use Rattle.qd_sequencer.specs.declared.fault.CommitFault.TheVariants as commit
 use Rattle.qd_sequencer.specs.Calls.{Settles}
+use Rattle.qd_sequencer.specs.Faults.{fault_of, IsUnrefused}
 use Rattle.qd_sequencer.specs.Histories as histories
 use Rattle.qd_sequencer.specs.Histories.{IsLawfulOver}
-use Rattle.qd_sequencer.specs.Sequences.{IsAsBefore}
+use Rattle.qd_sequencer.specs.Sequences.{IsAsBefore, Sequence}
 use Rattle.qd_txnfile.specs.Versions.{Version}
 use Rattle.qd_versions.specs.Stores as versions
 use Rattle.qd_volume.specs.Disk.{Disk, Image}
+use Rattle.qd_writes.specs.declared.check.StmtFault.{StmtFault}
+use Rattle.qd_writes.specs.declared.check.StmtFault.TheVariants as stmt
 use Rattle.qd_store.specs.Calls.{Commits, IsCommitted, MayBe, MayShow, ShowsOneOf, Stands}
+use Rattle.qd_store.specs.Faults.{line_fault, stmt_fault, IsSettled}
+use Rattle.qd_store.specs.Laws.{StoresAreWhole}
 use Rattle.qd_store.specs.Stores.{Store}
 use Rattle.qd_store.proofs.Committing.{committed, settled_alone}
-use Rattle.qd_store.proofs.ToldLemmas.{told_both, told_weaker}
 
 -- ---- what an image may show
 
@@ -79,7 +90,44 @@ pub settles_told : (old inside new : Store) (before after : Option Disk) → old
     → Told before after (Settles inside.sequence new.sequence) → Told before after (Stands old new)
 settles_told old inside new before after is law same told =
     subst (λ (s : Store). Told before after (Stands s new)) (sym is)
-    (told_weaker (Settles inside.sequence new.sequence) (Stands inside new) before after (λ a b s. settles inside new a b law same s) told)
+    (told_map (Settles inside.sequence new.sequence) (Stands inside new) before after (λ a b s. settles inside new a b law same s) told)
+
+-- ---- a call that does nothing
+
+pub idle_told : StoresAreWhole → (s : Store) → versions.IsStore s.versions → (o : Option Disk) → Told o o (Stands s s)
+idle_told law s sound None = refl
+idle_told law s sound (Some disk) = (
+  disk,
+  refl,
+  record {
+    any_moment = λ h next is. leaves_still (MayLeave s disk h next) disk (law.shows s h next disk sound is);
+    behind = λ h next is. is;
+  },
+)
+
+-- ---- what is pending behind a commit
+
+-- behind the faults of a repair nothing is said
+pub unsettled : (T : Type 0) (cause : IoFault) (s : Sequence) → IsSettled {T = T} (Err (fault_of cause)) s
+unsettled T io.Failed s = tt
+unsettled T io.Memory s = tt
+
+-- a commit that is asked for only where there is room, and nothing is refused
+pub settled_behind : {T : Type 0} (result : Result T CommitFault) (s : Sequence) (full : Type 0) → OnOk result (s.pending ≡ None) → IfErr result (IsUnrefused full) → (full → ⊥) → IsSettled result s
+settled_behind (Ok done) s full clean causes room = clean
+settled_behind (Err commit.Vol) s full clean causes room = tt
+settled_behind (Err commit.Memory) s full clean causes room = tt
+settled_behind (Err commit.Full) s full clean causes room = absurd (room causes)
+settled_behind (Err (commit.Refused code place)) s full clean causes room = absurd causes
+
+-- a batch, and a statement, that is refused where nothing is pending
+pub settled_lines : (T : Type 0) (cause : LineFault) (s : Sequence) → s.pending ≡ None → IsSettled {T = T} (Err (line_fault cause)) s
+settled_lines T (lines.Refused code line) s clean = clean
+settled_lines T lines.Memory s clean = tt
+
+pub settled_stmt : (T : Type 0) (cause : StmtFault) (s : Sequence) → s.pending ≡ None → IsSettled {T = T} (Err (stmt_fault cause)) s
+settled_stmt T (stmt.Refused code place) s clean = clean
+settled_stmt T stmt.Memory s clean = tt
 
 -- ---- a commit that ends with it
 
@@ -92,7 +140,7 @@ module _ (T E : Type 0) (Own : Entry → Type 0) (fault : E) (old new : Store) w
   }
 
   pub alone_told : (before after : Option Disk) → Told before after (Stands old new) → Told before after (Commits {T = T} {E = E} (Err fault) old new Own)
-  alone_told before after told = told_weaker (Stands old new) (Commits {T = T} {E = E} (Err fault) old new Own) before after stands_alone told
+  alone_told before after told = told_map (Stands old new) (Commits {T = T} {E = E} (Err fault) old new Own) before after stands_alone told
 
 -- ---- a commit behind it
 

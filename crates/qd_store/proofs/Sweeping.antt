@@ -1,37 +1,26 @@
 -- What a sweep leaves of a store: the files of a block that no version lists go.
-use Rattle.std.proofs.Common.{◌≡◌, ◌≢◌, ◌⊎◌, inl, inr, ℕ, ◌^◌, ◌<◌, ◌≤◌, nat_eq, Bool, true, false, ◌||◌, List, All, Option, Some, None, Contains, refl, sym, ◌∙◌, ap, subst, arith}
-use Rattle.std.specs.Prelude.{slice_index_or}
+use Rattle.std.proofs.Common.{◌≡◌, ◌≢◌, ◌⊎◌, inl, inr, ℕ, ◌^◌, ◌<◌, ◌≤◌, nat_eq, Bool, true, false, ◌||◌, List, All, Option, Some, Contains, refl, sym, subst, arith}
 use Rattle.std.proofs.lemmas.List.Elements.{All-contains_itself, All-weaker}
 use Rattle.qd_base.specs.declared.op.Entry.{Entry}
 use Rattle.qd_catalog.specs.declared.version.Version as catalog
 use Rattle.qd_catalog.specs.Versions.{IsListed, lists, version_at}
-use Rattle.qd_durable.specs.Moments.{LeavesOnly, Moves, SameBut}
 use Rattle.qd_files.specs.Files.{is_file_of}
 use Rattle.qd_files.proofs.FileLemmas.{own_files}
 use Rattle.qd_manifest.specs.declared.shape.TableParts.{TableParts}
 use Rattle.qd_manifest.specs.Spelling.{blocks_of}
 use Rattle.qd_txnfile.specs.States.{GivesKnown, IsDirty}
-use Rattle.qd_sequencer.specs.Histories as histories
-use Rattle.qd_sequencer.specs.Histories.{MayHold}
-use Rattle.qd_sequencer.specs.Laws.{IsElsewhere, OtherFilesLeaveTheSequence}
-use Rattle.qd_sequencer.specs.Sequences.{IsSequence}
-use Rattle.qd_durable.proofs.Moved.{leaves_weaker}
+use Rattle.qd_sequencer.specs.Laws.{IsElsewhere}
 use Rattle.qd_txnfile.specs.declared.half.Other.{Other}
 use Rattle.qd_txnfile.specs.declared.half.Other.TheVariants as other
 use Rattle.qd_txnfile.specs.Versions.{GivesVersion, Version, is_version_file}
 use Rattle.qd_versions.specs.Publishing.{GivesBefore}
-use Rattle.qd_versions.proofs.Kept.{leaves_and}
 use Rattle.std.proofs.lemmas.Bool.Decides.{nat_tests}
 use Rattle.qd_versions.specs.Stores as versions
-use Rattle.qd_versions.specs.Stores.{IsRooted, current_version}
 use Rattle.qd_versions.proofs.Blocks.{in_listed}
 use Rattle.qd_versions.proofs.Files.{low_of, of_not_version}
 use Rattle.qd_volume.specs.Disk.{Disk, Image}
-use Rattle.qd_store.specs.Stores.{HasVersions, IsPending, IsStore, Store}
-use Rattle.qd_store.specs.Calls.{MayShow, ShowsOneOf}
-use Rattle.qd_store.proofs.Committing.{the_current}
-use Rattle.qd_store.proofs.OneOf.{shows_one_of}
-use Rattle.qd_store.proofs.Sides.{Shows, Spares, made_now, shown_kept, versions_with}
+use Rattle.qd_store.specs.Stores.{HasVersions}
+use Rattle.qd_store.proofs.Sides.{Spares}
 
 abbrev pub swept : ℕ → ℕ → Bool
 swept block file = is_version_file file || is_file_of block file
@@ -55,7 +44,7 @@ pub apart_spared : (block : ℕ) (shape : List TableParts) → ((b : ℕ) → Co
 apart_spared block shape apart =
     All-weaker (Contains (blocks_of shape)) (Spares (swept block)) (λ b in_shape. sweep_spares block b (apart b in_shape)) (blocks_of shape) (All-contains_itself (blocks_of shape))
 
-module _ (old new : versions.Store) (block : ℕ) (h : List Entry) (next : Version) (before after : Disk) (moves : Moves (SameBut (swept block)) before after) (has : HasVersions old h next before)
+module _ (old : versions.Store) (block : ℕ) (h : List Entry) (next : Version) (before : Disk) (has : HasVersions old h next before)
     (unlisted : IsListed old.versions block → ⊥) (low : block < old.versions.next_block) where
   -- no version lists the block that is swept
   pub live_apart : (row : ℕ) (x : catalog.Version) → version_at old.versions row ≡ Some x → (b : ℕ) → Contains (blocks_of x.shape) b → b ≢ block
@@ -75,34 +64,7 @@ module _ (old new : versions.Store) (block : ℕ) (h : List Entry) (next : Versi
   pub left_spared : (d : IsDirty old.root.other) → All (Spares (swept block)) (blocks_of (has.pending d).left.manifest.shape)
   left_spared d = apart_spared block (has.pending d).left.manifest.shape (left_apart d)
 
-  -- the versions are as before, or the queue has lost the block
-  module _ (versions_same : new.versions.versions ≡ old.versions.versions) (current_same : new.versions.current ≡ old.versions.current) (next_same : new.versions.next_block ≡ old.versions.next_block)
-      (rooted : IsRooted new next after) (root : (IsDirty new.root.other → IsDirty old.root.other) ⊎ (IsDirty new.root.other → ⊥)) where
-    row_same : (row : ℕ) → version_at new.versions row ≡ version_at old.versions row
-    row_same row = ap (λ (l : List (Option catalog.Version)). slice_index_or l row None) versions_same
-
-    pending_now : IsDirty new.root.other → (IsDirty new.root.other → IsDirty old.root.other) ⊎ (IsDirty new.root.other → ⊥) → IsPending new h next after
-    pending_now dirty (inr clean) = absurd (clean dirty)
-    pending_now dirty (inl before_too) =
-        let d = before_too dirty in
-        let p = has.pending d in record {
-          left = record { manifest = p.left.manifest; sound = p.left.sound; spelled = p.left.spelled; shown = shown_kept (swept block) before after moves h next.n p.left.manifest.shape (left_spared d) p.left.shown };
-          blocks = λ b in_shape. by b (p.blocks b in_shape);
-        }
-      where
-        by : (b : ℕ) → (lists (version_at old.versions old.versions.current) b ≡ true) ⊎ (old.versions.next_block ≤ b) → (lists (version_at new.versions new.versions.current) b ≡ true) ⊎ (new.versions.next_block ≤ b)
-        by b (inl listed) = inl (subst (λ (n : ℕ). lists (version_at new.versions n) b ≡ true) (sym current_same) (subst (λ (o : Option catalog.Version). lists o b ≡ true) (sym (row_same old.versions.current)) listed))
-        by b (inr high) = inr (subst (λ (n : ℕ). n ≤ b) (sym next_same) high)
-
-    pub swept_versions : HasVersions new h next after
-    swept_versions = record {
-      made = made_now (swept block) before after moves (zero_spared block) has.made;
-      rooted = rooted;
-      pending = λ dirty. pending_now dirty root;
-      live = λ row x at. let was = sym (row_same row) ∙ at in shown_kept (swept block) before after moves h x.n x.shape (live_spared row x was) (has.live row x was);
-    }
-
--- ---- at each moment
+-- ---- the files of a sweep
 
 swept_high : (block file : ℕ) → block < 2 ^ 52 → 2 ^ 63 ≤ file → (is : Bool) → is_file_of block file ≡ is → is ≡ false
 swept_high block file small high true is = let apart = own_files.apart block file small is in absurd (omega (arith, apart.1, high))
@@ -124,22 +86,3 @@ given_known other.Older current next before image (inr gives) = gives
 given_known other.Closed current next before image (inr gives) = gives
 given_known (other.Written n) current next before image (inr gives) = gives
 given_known (other.Opening n) current next before image (inr gives) = inl gives
-
-module _ (old : Store) (h : List Entry) (next : Version) (before after : Disk) (is : IsStore old h next before) (law : versions.IsStore old.versions) (sequence : OtherFilesLeaveTheSequence)
-    (block : ℕ) (small : block < 2 ^ 52) (moves : Moves (SameBut (swept block)) before after) (unlisted : IsListed old.versions.versions block → ⊥) (low : block < old.versions.versions.next_block)
-    (given : LeavesOnly before after (GivesKnown old.versions.root.other (current_version old.versions.versions) next)) where
-  pub sweep_moments : LeavesOnly before after (ShowsOneOf h (histories.IsPending old.sequence.pending before) (MayShow old next))
-  sweep_moments =
-      let v = old.versions in
-      let c = the_current (version_at v.versions v.versions.current) law.live in
-      leaves_weaker
-      (λ image. MayHold old.sequence.refs h (histories.IsPending old.sequence.pending before) image × Shows v h next c.0 before (λ d. (is.versions.pending d).left) image)
-      (ShowsOneOf h (histories.IsPending old.sequence.pending before) (MayShow old next)) before after
-      (λ image both. shows_one_of v h (histories.IsPending old.sequence.pending before) old.sequence.refs next c.0 before (λ d. (is.versions.pending d).left) image c.1 (law.current c.0 c.1).sound (is.versions.live v.versions.current c.0 c.1).few both.1 both.0)
-      (leaves_and (MayHold old.sequence.refs h (histories.IsPending old.sequence.pending before)) (Shows v h next c.0 before (λ d. (is.versions.pending d).left)) before after
-      (sequence (swept block) old.sequence h before after (sweep_elsewhere block small) moves is.sequence).0
-      (versions_with (swept block) before after moves v h next is.versions (zero_spared block)
-      (live_spared v v block h next before after moves is.versions unlisted low) (left_spared v v block h next before after moves is.versions unlisted low) given c.0 c.1))
-
-  pub sweep_sequence : IsSequence old.sequence h after
-  sweep_sequence = (sequence (swept block) old.sequence h before after (sweep_elsewhere block small) moves is.sequence).1

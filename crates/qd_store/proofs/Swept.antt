@@ -119,7 +119,7 @@ module _ {E : Type 0} (result : Result Bool E) (old new : Store) (before after :
       let free = unlisted block (subst (λ (q : List ℕ). slice_get q 0 ≡ Some block) (sym is) refl) in
       let moves = subst (λ (q : List ℕ). Moves (SameBut (is_swept_file q)) before after) is front.elsewhere in
       with_files (swept block) moves (sweep_elsewhere block small) (zero_spared block)
-      (λ h next stands. (live_spared old.versions old.versions block h next before after moves stands.versions free low, left_spared old.versions old.versions block h next before after moves stands.versions free low))
+      (λ h next stands. (live_spared old.versions block h next before stands.versions free low, left_spared old.versions block h next before stands.versions free low))
     where
       in_queue : Contains old.versions.versions.retired block
       in_queue = subst (λ (q : List ℕ). Contains q block) (sym is) (0, omega arith, refl)

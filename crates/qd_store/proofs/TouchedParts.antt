@@ -1,5 +1,5 @@
 -- The parts that a merge reads: each is there, and its block is read.
-use Rattle.std.proofs.Common.{◌≡◌, ℕ, zero, suc, ◌+◌, ◌<◌, List, [], ◌∷◌, ◌++◌, drop, length, map, Option, Some, None, Ok, Err, IfSome, get_or, slice_get, slice_index_or, refl, sym, ap, ap₂, ◌∙◌, subst, arith}
+use Rattle.std.proofs.Common.{◌≡◌, ℕ, zero, suc, ◌+◌, ◌<◌, List, [], ◌∷◌, ◌++◌, drop, length, map, Option, Some, None, Result, Ok, Err, IfSome, get_or, slice_get, slice_index_or, refl, sym, ap, ap₂, ◌∙◌, subst, arith}
 use Rattle.std.specs.List.{AllByRecursion}
 use Rattle.std.proofs.lemmas.List.Elements.{All-contains}
 use Rattle.std.proofs.lemmas.Option.{get_or_from_slice_get, same_Some, slice_get-get_or}
@@ -18,6 +18,7 @@ use Rattle.qd_draft.specs.Next.{acts_of, batch_of, first_parts}
 use Rattle.qd_draft.specs.Plans.{all_touched, block_at, read_in, touch}
 use Rattle.qd_draft.specs.Stands.{StandsFor}
 use Rattle.qd_draft.proofs.PlanLemmas.{merge_acts}
+use Rattle.qd_durable.specs.declared.fault.LogFault.{LogFault}
 use Rattle.qd_durable.specs.declared.fault.LogFault.TheVariants as fault
 use Rattle.qd_files.specs.Laws.{OneBlockIsHeld}
 use Rattle.qd_files.specs.Reading.{IsBlockRead}
@@ -30,11 +31,12 @@ use Rattle.qd_time.specs.Units.{unit_of}
 use Rattle.qd_txnfile.specs.Versions.{Version}
 use Rattle.qd_versions.specs.Reading.{IsPartAt}
 use Rattle.qd_volume.specs.Disk.{Disk, reads_of}
-use Rattle.qd_store.specs.Drafting.{block_there, IsReadOf, IsThere}
+use Rattle.qd_store.specs.Damage.{IsPartRead, IsThere}
+use Rattle.qd_store.specs.Drafting.{block_there, IsReadOf}
 use Rattle.qd_store.specs.Prefixes.{IsShown}
 use Rattle.qd_store.specs.Stores.{IsStore, Store}
 use Rattle.qd_store.proofs.Opened.{in_shape}
-use Rattle.qd_store.proofs.PartsRead.{got, not_damaged, read_is}
+use Rattle.qd_store.proofs.PartsRead.{got, read_is}
 use Rattle.qd_store.proofs.Unique.{stands_one}
 
 -- ---- the parts of a table
@@ -142,12 +144,9 @@ module _ (s : Store) (row : ℕ) (x : catalog.Version) (at : version_at s.versio
         (in_shape x.shape there.table there.part (got x.shape to.table there.table there.its_table) (got there.table.parts to.part there.part there.its_part)))
         ∙ sym (there_block contents x.shape to.table to.part there.table there.part there.its_table there.its_part)
 
-    pub touched_sound : (file at : ℕ) → IsBlockRead (Err (fault.Damaged file at)) there.table.schema there.part (reads_of disk) → ⊥
-    touched_sound file at read = not_damaged one h x.n x.shape disk shown there.table there.part to.table to.part there.its_table there.its_part file at read
-
 -- ---- a part of the current version that is read by its row
 
-module _ (s : Store) (row : ℕ) (y : catalog.Version) (is_row : row ≡ s.versions.versions.current) (found : version_at s.versions.versions s.versions.versions.current ≡ Some y) (to : Touched) (there : IsThere y.shape to) (b : Block) where
+module _ (s : Store) (row : ℕ) (y : catalog.Version) (is_row : row ≡ s.versions.versions.current) (found : version_at s.versions.versions s.versions.versions.current ≡ Some y) (to : Touched) (there : IsThere y.shape to) where
   module _ (x : catalog.Version) (at : version_at s.versions.versions s.versions.versions.current ≡ Some x) where
     by_row : version_at s.versions.versions row ≡ Some x
     by_row = ap (λ r. version_at s.versions.versions r) is_row ∙ at
@@ -155,13 +154,26 @@ module _ (s : Store) (row : ℕ) (y : catalog.Version) (is_row : row ≡ s.versi
     here : IsThere x.shape to
     here = subst (λ (z : catalog.Version). IsThere z.shape to) (same_Some y x (sym found ∙ at)) there
 
-    pub read_by_row : ((t : TableParts) (p : Part) → IsPartAt s.versions.versions row to.table to.part t p → IsBlockOf t.schema p b) → IsWhole b → (a : Block) → a ≡ b → IsReadOf x.shape to a
-    read_by_row of whole a is =
-        subst (λ (r : Block). IsReadOf x.shape to r) (sym is)
-        (is_read s row x by_row to here b (of here.table here.part (part_there s row x by_row to here)) whole)
+    -- what is read of its files
+    pub files_by_row : (result : Result Block LogFault) (o : Option Disk) → ((t : TableParts) (p : Part) → IsPartAt s.versions.versions row to.table to.part t p → IfSome o (λ disk. IsBlockRead result t.schema p (reads_of disk)))
+        → IfSome o (λ disk. IsPartRead x.shape to result (reads_of disk))
+    files_by_row result None read = tt
+    files_by_row result (Some disk) read = record { there = here; read = read here.table here.part (part_there s row x by_row to here) }
 
-  pub told_by_row : OneBlockIsHeld → (a : Block) → a ≡ b → (o : Option Disk) → ((t : TableParts) (p : Part) → IsPartAt s.versions.versions row to.table to.part t p → IfSome o (λ disk. IsBlockRead (Ok b) t.schema p (reads_of disk)))
-      → IfSome o (λ disk. (h : List Entry) (next : Version) → IsStore s h next disk → (x : catalog.Version) → version_at s.versions.versions s.versions.versions.current ≡ Some x → (contents : ℕ → Block) → StandsFor contents x.shape (first h x.n) → a ≡ block_there contents x.shape to)
-  told_by_row one a is None read = tt
-  told_by_row one a is (Some disk) read = λ h next store x at contents stands.
-      is ∙ touched_is s row x (by_row x at) to (here x at) one h next disk store b (read (here x at).table (here x at).part (part_there s row x (by_row x at) to (here x at))) contents stands
+    -- there was no memory to hold it
+    pub no_memory : (o : Option Disk) → IfSome o (λ disk. IsPartRead x.shape to (Err fault.Memory) (reads_of disk))
+    no_memory None = tt
+    no_memory (Some disk) = record { there = here; read = tt }
+
+  module _ (b : Block) where
+    pub read_by_row : (x : catalog.Version) (at : version_at s.versions.versions s.versions.versions.current ≡ Some x)
+        → ((t : TableParts) (p : Part) → IsPartAt s.versions.versions row to.table to.part t p → IsBlockOf t.schema p b) → IsWhole b → (a : Block) → a ≡ b → IsReadOf x.shape to a
+    read_by_row x at of whole a is =
+        subst (λ (r : Block). IsReadOf x.shape to r) (sym is)
+        (is_read s row x (by_row x at) to (here x at) b (of (here x at).table (here x at).part (part_there s row x (by_row x at) to (here x at))) whole)
+
+    pub told_by_row : OneBlockIsHeld → (a : Block) → a ≡ b → (o : Option Disk) → ((t : TableParts) (p : Part) → IsPartAt s.versions.versions row to.table to.part t p → IfSome o (λ disk. IsBlockRead (Ok b) t.schema p (reads_of disk)))
+        → IfSome o (λ disk. (h : List Entry) (next : Version) → IsStore s h next disk → (x : catalog.Version) → version_at s.versions.versions s.versions.versions.current ≡ Some x → (contents : ℕ → Block) → StandsFor contents x.shape (first h x.n) → a ≡ block_there contents x.shape to)
+    told_by_row one a is None read = tt
+    told_by_row one a is (Some disk) read = λ h next store x at contents stands.
+        is ∙ touched_is s row x (by_row x at) to (here x at) one h next disk store b (read (here x at).table (here x at).part (part_there s row x (by_row x at) to (here x at))) contents stands

@@ -1,5 +1,5 @@
 -- What is read and taken on the way to a draft. No public clause cites this module.
-use Rattle.std.specs.Prelude.{◌≡◌, ℕ, ◌+◌, ◌*◌, ◌≤◌, List, drop, length, map, All, Some, Result, Ok, Err, slice_get, sum_by}
+use Rattle.std.specs.Prelude.{◌≡◌, ℕ, ◌+◌, List, drop, length, map, Some, Result, Ok, Err, slice_get, slice_range}
 use Rattle.std.specs.List.{AllZip}
 use Rattle.std.specs.Arc.{arc_value}
 use Rattle.std.specs.declared.sync.Arc.{Arc}
@@ -23,12 +23,12 @@ use Rattle.qd_draft.specs.Stands.{StandsFor}
 use Rattle.qd_durable.specs.declared.fault.LogFault.{LogFault}
 use Rattle.qd_durable.specs.declared.fault.LogFault.TheVariants as fault
 use Rattle.qd_manifest.specs.declared.shape.TableParts.{TableParts}
-use Rattle.qd_manifest.specs.declared.shape.TheConstants.{BLOCKS_PER_TRANSACTION}
 use Rattle.qd_manifest.specs.Spelling.{schemas_in}
 use Rattle.qd_scan.specs.Sources.{IsBlockOf}
 use Rattle.qd_sequencer.specs.Histories.{AreSpelled}
 use Rattle.qd_sequencer.specs.Reading.{BreaksOff}
 use Rattle.qd_volume.specs.Disk.{Image}
+use Rattle.qd_store.specs.Damage.{IsDraftDamage, IsPartRead, MayHaveBlocks}
 use Rattle.qd_store.specs.Drafts.{between}
 use Rattle.qd_store.specs.Stores.{Store}
 
@@ -50,20 +50,6 @@ AreTaken (Err (fault.Damaged file place)) refs old image = BreaksOff refs (schem
 AreTaken (Err fault.Vol) refs old image = Unit {0}
 AreTaken (Err fault.Memory) refs old image = Unit {0}
 
--- ---- whether a version can be one of lawful transactions
-
-abbrev pub rows_shown : List Part → ℕ
-rows_shown parts = sum_by (λ p. p.rows) parts
-
--- a part of one row has one time
-abbrev pub HasItsTimes : Part → Type 0
-HasItsTimes p = p.rows ≡ 1 → p.lo ≡ p.hi
-
--- No table shows more rows than so many transactions may insert cells, and blocks may have the times of its parts.
-pub record MayHaveBlocks (n : ℕ) (shape : List TableParts) : Type 0 where
-  pub few : All (λ t. rows_shown t.parts ≤ n * BLOCKS_PER_TRANSACTION) shape
-  pub timed : All (λ t. All HasItsTimes t.parts) shape
-
 -- ---- transactions that have arrived behind the current version
 
 pub record HasArrived (next : ℕ) (x : Version) (es : List Entry) (upto : ℕ) (d : Drafting) : Type 0 where
@@ -81,14 +67,19 @@ IsArrivedFrom (Err (fault.Damaged file at)) s h upto = ⊥
 IsArrivedFrom (Err fault.Vol) s h upto = Unit {0}
 IsArrivedFrom (Err fault.Memory) s h upto = Unit {0}
 
+-- those at their places of a told volume, or where a draft finds damage before it plans
+abbrev pub AreArrived : Result Drafting LogFault → Store → ℕ → Image → Type 0
+AreArrived (Ok d) s upto image = (x : Version) × (es : List Entry) × (version_at s.versions.versions s.versions.versions.current ≡ Some x) × MayHaveBlocks x.n x.shape × AreSpelled (slice_range s.sequence.refs x.n upto) es image × HasArrived s.versions.versions.next_block x es upto d
+AreArrived (Err (fault.Damaged file at)) s upto image = IsDraftDamage s upto image file at
+AreArrived (Err fault.Vol) s upto image = Unit {0}
+AreArrived (Err fault.Memory) s upto image = Unit {0}
+
 -- ---- blocks that are read
 
--- a version has the part
-pub record IsThere (shape : List TableParts) (to : Touched) : Type 0 where
-  pub table : TableParts
-  pub part : Part
-  pub its_table : slice_get shape to.table ≡ Some table
-  pub its_part : slice_get table.parts to.part ≡ Some part
+-- what is read of a part's files, as a block that others may hold too
+abbrev pub IsTouchedRead : Result (Arc Block Global) LogFault → List TableParts → Touched → Image → Type 0
+IsTouchedRead (Ok b) shape to image = IsPartRead shape to (Ok (arc_value b)) image
+IsTouchedRead (Err cause) shape to image = IsPartRead shape to (Err cause) image
 
 -- the part's block by its number
 abbrev pub block_there : (ℕ → Block) → List TableParts → Touched → Block

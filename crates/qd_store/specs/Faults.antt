@@ -1,5 +1,5 @@
 -- When a call of a store answers which fault.
-use Rattle.std.specs.Prelude.{◌≡◌, ◌≢◌, ◌≤◌, ℕ, Some, Result, Ok, Err, length}
+use Rattle.std.specs.Prelude.{◌≡◌, ◌≢◌, ◌≤◌, ℕ, None, Some, Result, Ok, Err, length}
 use Rattle.qd_base.specs.declared.code.Code.{Code}
 use Rattle.qd_base.specs.declared.op.Entry.{Entry}
 use Rattle.qd_catalog.specs.Versions.{Versions, current_n}
@@ -12,6 +12,7 @@ use Rattle.qd_lines.specs.declared.fault.LineFault.{LineFault}
 use Rattle.qd_lines.specs.declared.fault.LineFault.TheVariants as lines
 use Rattle.qd_sequencer.specs.declared.fault.CommitFault.{CommitFault}
 use Rattle.qd_sequencer.specs.declared.fault.CommitFault.TheVariants as commit
+use Rattle.qd_sequencer.specs.Sequences.{Sequence}
 use Rattle.qd_versions.specs.declared.fault.PublishFault as root
 use Rattle.qd_versions.specs.declared.fault.PublishFault.TheVariants as rooted
 use Rattle.qd_writes.specs.declared.check.StmtFault.{StmtFault}
@@ -50,6 +51,14 @@ Causes Refuses full commit.Memory = Unit {0}
 -- A transaction is there of which a fact holds, and there is no room for it.
 abbrev pub IsFullFor : Store → (Entry → Type 0) → Type 0
 IsFullFor s Own = (s.limits.max_txns ≤ length s.sequence.refs) × (e : Entry) × Own e
+
+-- What an earlier commit left is settled before anything is answered but the fault of that, or want of memory.
+abbrev pub IsSettled : {T : Type 0} → Result T CommitFault → Sequence → Type 0
+IsSettled (Ok answer) s = s.pending ≡ None
+IsSettled (Err (commit.Refused code place)) s = s.pending ≡ None
+IsSettled (Err commit.Full) s = s.pending ≡ None
+IsSettled (Err commit.Vol) s = Unit {0}
+IsSettled (Err commit.Memory) s = Unit {0}
 
 -- the fault of a batch, and that of a statement, as those of a commit
 abbrev pub line_fault : LineFault → CommitFault

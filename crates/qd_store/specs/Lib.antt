@@ -7,6 +7,7 @@ pub mod Faults
 pub mod Arriving
 pub mod Calls
 pub mod Drafts
+pub mod Damage
 pub mod Drafting
 pub mod Merges
 pub mod Reading

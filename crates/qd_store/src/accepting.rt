@@ -10,7 +10,7 @@ ghost use Rattle.qd_sequencer.specs.Faults.{CountsFault};
 ghost use Rattle.qd_sequencer.specs.Sequences.{IsAsBefore, chosen};
 ghost use Rattle.qd_store.specs.Arriving.{IsBehind, IsPlaced, SaysLines, SaysStmt};
 ghost use Rattle.qd_store.specs.Calls.{Commits, Stands};
-ghost use Rattle.qd_store.specs.Faults.{Causes, IsFullFor};
+ghost use Rattle.qd_store.specs.Faults.{Causes, IsFullFor, IsSettled};
 ghost use Rattle.std.specs.Prelude.{◌≡◌, ◌+◌, ◌<◌, ◌≤◌, ℕ, None, Err, length, IfErr, IfOk, OnErr, OnOk};
 
 use crate::book::Book;
@@ -55,6 +55,7 @@ impl Book {
         ensures versions { self.new.versions ≡ self.old.versions }
         ensures said { OnOk result (IsBehind self.old.sequence.schemas self.new.sequence.schemas (SaysLines self.old.sequence.schemas now batch.now)) }
         ensures room { OnOk result (length self.old.sequence.refs < self.old.limits.max_txns) }
+        ensures settled { IsSettled result self.new.sequence }
         ensures causes { IfErr result (Causes (λ code line. IsLineFault self.old.sequence.schemas now batch.now (lines.Refused code line)) (IsFullFor self.old (SaysLines self.old.sequence.schemas now batch.now))) }
         ensures told { Told (V.storage volume.old).disk (V.storage volume.new).disk (Commits result self.old self.new (SaysLines self.old.sequence.schemas now batch.now)) }
         ensures counted { CountsFault (V.storage volume.old).faults (V.storage volume.new).faults result }
@@ -83,6 +84,7 @@ impl Book {
         ensures versions { self.new.versions ≡ self.old.versions }
         ensures said { OnOk result (IsBehind self.old.sequence.schemas self.new.sequence.schemas (SaysStmt self.old.sequence.schemas stmt.now)) }
         ensures room { OnOk result (length self.old.sequence.refs < self.old.limits.max_txns) }
+        ensures settled { IsSettled result self.new.sequence }
         ensures causes { IfErr result (Causes (λ code place. write self.old.sequence.schemas stmt.now ≡ Err (record { code = code; place = place })) (IsFullFor self.old (SaysStmt self.old.sequence.schemas stmt.now))) }
         ensures told { Told (V.storage volume.old).disk (V.storage volume.new).disk (Commits result self.old self.new (SaysStmt self.old.sequence.schemas stmt.now)) }
         ensures counted { CountsFault (V.storage volume.old).faults (V.storage volume.new).faults result }

@@ -16,12 +16,14 @@ ghost use Rattle.qd_versions.specs.Publishing.{AreNumbered, IsFull, MayPublish};
 ghost use Rattle.qd_versions.specs.Stores.{stored};
 ghost use Rattle.qd_store.specs.Arriving.{IsPlaced};
 ghost use Rattle.qd_store.specs.Calls.{Commits, Publishes, Stands};
+ghost use Rattle.qd_store.specs.Faults.{IsSettled};
 ghost use Rattle.qd_store.specs.Stores.{IsStore};
 ghost use Rattle.qd_txnfile.specs.Versions.{Version};
 ghost use Rattle.qd_volume.specs.Disk.{Disk};
-ghost use Rattle.std.specs.Prelude.{◌≡◌, ◌≢◌, ◌↔◌, ◌+◌, ◌<◌, ◌≤◌, ℕ, [], true, false, List, length, fold, unwrap_or, Err, Ok, IfErr, IfOk, IfSome, OnErr, OnOk};
+ghost use Rattle.std.specs.Prelude.{◌≡◌, ◌≢◌, ◌↔◌, ◌+◌, ◌<◌, ◌≤◌, ℕ, [], true, false, List, length, fold, unwrap_or, None, Err, Ok, IfErr, IfOk, IfSome, OnErr, OnOk};
 
 use crate::book::Book;
+use crate::laws::stores_are_whole;
 use qd_base::Schemas;
 use qd_io::IoFault;
 use qd_manifest::Shape;
@@ -31,7 +33,8 @@ use qd_volume::Volume;
 use std::alloc::Global;
 
 impl Book {
-    /// Commits the transaction of these bytes, which leaves the given schemas, where it changes any.
+    /// Commits the transaction of these bytes, which leaves the given schemas, where it changes any. Where there is no room for it,
+    /// nothing is called.
     pub(crate) fn commit<V: Volume>(
         &mut self,
         volume: &mut V,
@@ -47,13 +50,18 @@ impl Book {
         ensures schemas { OnOk result (self.new.sequence.schemas ≡ unwrap_or after self.old.sequence.schemas) }
         ensures room { OnOk result (length self.old.sequence.refs < self.old.limits.max_txns) }
         ensures stays { OnErr result (IsAsBefore self.old.sequence self.new.sequence) }
+        ensures settled { self.old.sequence.pending ≡ None → IsSettled result self.new.sequence }
         ensures versions { self.new.versions ≡ self.old.versions }
         ensures causes { IfErr result (IsUnrefused (self.old.limits.max_txns ≤ length self.old.sequence.refs)) }
         ensures told { (e : Entry) → SpellsEntry bytes.now e → IsLawfulOver self.old.sequence.schemas e → unwrap_or after self.old.sequence.schemas ≡ fold schemas_step self.old.sequence.schemas e.ops →
             Told (V.storage volume.old).disk (V.storage volume.new).disk (Commits result self.old self.new (λ x. x ≡ e)) }
         ensures counted { CountsFault (V.storage volume.old).faults (V.storage volume.new).faults result }
     {
+        stores_are_whole();
         self.versions.keeps_its_law();
+        if self.sequencer.len() >= self.limits.max_txns as u64 {
+            return Err(CommitFault::Full);
+        }
         self.sequencer
             .commit(volume, &self.limits, writer, bytes, after)
     }

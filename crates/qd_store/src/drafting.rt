@@ -2,14 +2,17 @@
 ghost use Rattle.qd_base.specs.declared.op.Entry.{Entry};
 ghost use Rattle.qd_catalog.specs.declared.version.Version as shown;
 ghost use Rattle.qd_catalog.specs.Versions.{current_n, version_at};
+ghost use Rattle.qd_draft.specs.Plans.{all_touched};
+ghost use Rattle.qd_durable.specs.declared.fault.LogFault.TheVariants as damage;
 ghost use Rattle.qd_durable.specs.Faults.{CountsVol};
-ghost use Rattle.qd_store.specs.Drafting.{AreRead, AreReadFrom, AreSomeTaken, AreTaken, HasItsTimes, IsArrived, IsArrivedFrom, IsReadOf, IsThere, IsTouchedFrom, MayHaveBlocks, rows_shown};
+ghost use Rattle.qd_store.specs.Damage.{HasItsTimes, IsDraftDamage, IsThere, LosesBlock, MayHaveBlocks, rows_shown};
+ghost use Rattle.qd_store.specs.Drafting.{AreArrived, AreRead, AreReadFrom, AreSomeTaken, AreTaken, IsArrived, IsArrivedFrom, IsReadOf, IsTouchedFrom, IsTouchedRead};
 ghost use Rattle.qd_store.specs.Drafts.{IsDraftOver, IsDraftedFrom};
 ghost use Rattle.qd_store.specs.Stores.{IsStore};
 ghost use Rattle.qd_txnfile.specs.Versions.{Version};
 ghost use Rattle.qd_volume.specs.Disk.{reads_of};
 ghost use Rattle.std.specs.Arc.{arc_value};
-ghost use Rattle.std.specs.Prelude.{◌≡◌, ◌+◌, ◌*◌, ◌^◌, ◌<◌, ◌≤◌, ◌↔◌, [], ◌∷◌, ℕ, All, List, Some, length, map, IfOk, IfSome, IsTrue};
+ghost use Rattle.std.specs.Prelude.{◌≡◌, ◌+◌, ◌*◌, ◌^◌, ◌<◌, ◌≤◌, ◌↔◌, [], ◌∷◌, ℕ, All, List, Some, Err, length, map, IfOk, IfSome, IsTrue};
 
 use crate::book::Book;
 use qd_base::{Part, WalRef};
@@ -62,6 +65,7 @@ impl Book {
         ensures over { IfOk result (λ d. IsDraftOver self.now.versions.versions d) }
         ensures upto { IfOk result (λ d. d.plan.upto ≡ upto) }
         ensures told { IfSome (V.storage volume.old).disk (λ disk. (h : List Entry) (next : Version) → IsStore self.now h next disk → IsDraftedFrom result self.now h upto) }
+        ensures damaged { IfSome (V.storage volume.old).disk (λ disk. (file at : ℕ) → result ≡ Err (damage.Damaged file at) → IsDraftDamage self.now upto (reads_of disk) file at) }
         ensures stays { (V.storage volume.new).disk ≡ (V.storage volume.old).disk }
         ensures counted { CountsVol (V.storage volume.old).faults (V.storage volume.new).faults result }
     {
@@ -84,6 +88,7 @@ impl Book {
         requires few { upto ≤ length self.now.sequence.refs }
         ensures arrived { IfOk result (λ d. IsArrived self.now.versions.versions upto d) }
         ensures told { IfSome (V.storage volume.old).disk (λ disk. (h : List Entry) (next : Version) → IsStore self.now h next disk → IsArrivedFrom result self.now h upto) }
+        ensures read { IfSome (V.storage volume.old).disk (λ disk. AreArrived result self.now upto (reads_of disk)) }
         ensures stays { (V.storage volume.new).disk ≡ (V.storage volume.old).disk }
         ensures counted { CountsVol (V.storage volume.old).faults (V.storage volume.new).faults result }
     {
@@ -114,6 +119,7 @@ impl Book {
         requires of { (x : shown.Version) × (version_at self.now.versions.versions self.now.versions.versions.current ≡ Some x) × (plan.now.shape ≡ x.shape) }
         ensures read { IfOk result (λ list. AreRead plan.now.shape plan.now.tables (map arc_value list.items)) }
         ensures told { IfSome (V.storage volume.old).disk (λ disk. (h : List Entry) (next : Version) → IsStore self.now h next disk → (x : shown.Version) → version_at self.now.versions.versions self.now.versions.versions.current ≡ Some x → AreReadFrom result plan.now.shape plan.now.tables h x.n) }
+        ensures damaged { IfSome (V.storage volume.old).disk (λ disk. (file at : ℕ) → result ≡ Err (damage.Damaged file at) → LosesBlock (all_touched 0 plan.now.shape plan.now.tables) plan.now.shape (reads_of disk) file at) }
         ensures stays { (V.storage volume.new).disk ≡ (V.storage volume.old).disk }
         ensures counted { CountsVol (V.storage volume.old).faults (V.storage volume.new).faults result }
     {
@@ -135,6 +141,7 @@ impl Book {
         requires there { (x : shown.Version) × (version_at self.now.versions.versions self.now.versions.versions.current ≡ Some x) × IsThere x.shape to }
         ensures read { (x : shown.Version) → version_at self.now.versions.versions self.now.versions.versions.current ≡ Some x → IfOk result (λ b. IsReadOf x.shape to (arc_value b)) }
         ensures told { IfSome (V.storage volume.old).disk (λ disk. (h : List Entry) (next : Version) → IsStore self.now h next disk → (x : shown.Version) → version_at self.now.versions.versions self.now.versions.versions.current ≡ Some x → IsTouchedFrom result x.shape to h x.n) }
+        ensures files { (x : shown.Version) → version_at self.now.versions.versions self.now.versions.versions.current ≡ Some x → IfSome (V.storage volume.old).disk (λ disk. IsTouchedRead result x.shape to (reads_of disk)) }
         ensures stays { (V.storage volume.new).disk ≡ (V.storage volume.old).disk }
         ensures counted { CountsVol (V.storage volume.old).faults (V.storage volume.new).faults result }
     {

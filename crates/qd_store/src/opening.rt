@@ -1,9 +1,10 @@
 //! A store that is opened.
+ghost use Rattle.qd_catalog.specs.Versions.{IsLive};
 ghost use Rattle.qd_durable.specs.Moments.{Told};
 ghost use Rattle.qd_store.specs.Faults.{CountsOpen};
 ghost use Rattle.qd_store.specs.Opening.{Opens};
 ghost use Rattle.qd_store.specs.Stores.{AreLimits};
-ghost use Rattle.std.specs.Prelude.{◌≡◌, IfOk, None};
+ghost use Rattle.std.specs.Prelude.{◌≡◌, ℕ, IfOk, None};
 
 use crate::book::Book;
 use crate::fault::OpenFault;
@@ -28,6 +29,7 @@ pub(crate) fn open<V: Volume>(
     requires limits { AreLimits limits }
     ensures limits { IfOk result (λ b. b.limits ≡ limits) }
     ensures clean { IfOk result (λ b. b.sequence.pending ≡ None) }
+    ensures alone { IfOk result (λ b. (row : ℕ) → IsLive b.versions.versions row → row ≡ b.versions.versions.current) }
     ensures told { Told (V.storage volume.old).disk (V.storage volume.new).disk (Opens result) }
     ensures counted { CountsOpen (V.storage volume.old).faults (V.storage volume.new).faults result }
 {

@@ -6,6 +6,7 @@ ghost use Rattle.qd_base.specs.Lawful.{AreSchemas};
 ghost use Rattle.qd_block.specs.Blocks.{IsWhole};
 ghost use Rattle.qd_catalog.specs.declared.version.Version as shown;
 ghost use Rattle.qd_catalog.specs.Versions.{Adds, IsLive, Retires, SameVersions, Sweeps, current_n, n_of, version_at};
+ghost use Rattle.qd_durable.specs.declared.fault.LogFault.TheVariants as damage;
 ghost use Rattle.qd_durable.specs.Faults.{CountsVol};
 ghost use Rattle.qd_durable.specs.Moments.{Told};
 ghost use Rattle.qd_files.specs.Reading.{IsBlockRead};
@@ -21,8 +22,9 @@ ghost use Rattle.qd_sequencer.specs.Sequences.{IsAsBefore, chosen, without_write
 ghost use Rattle.qd_store.specs.declared.fault.PublishFault.TheVariants as fault;
 ghost use Rattle.qd_store.specs.Arriving.{IsBehind, IsPlaced, SaysLines, SaysStmt};
 ghost use Rattle.qd_store.specs.Calls.{Commits, Creates, Stands};
+ghost use Rattle.qd_store.specs.Damage.{IsDraftDamage};
 ghost use Rattle.qd_store.specs.Drafts.{IsDraftOver, IsDraftedFrom, IsMergedOver};
-ghost use Rattle.qd_store.specs.Faults.{Causes, CountsOpen, CountsPublish, IsFullFor, IsMoved};
+ghost use Rattle.qd_store.specs.Faults.{Causes, CountsOpen, CountsPublish, IsFullFor, IsMoved, IsSettled};
 ghost use Rattle.qd_store.specs.Merges.{PublishesMerged};
 ghost use Rattle.qd_store.specs.Opening.{Opens};
 ghost use Rattle.qd_store.specs.Owned.{IsOfVolume, storage_in, store_in};
@@ -92,7 +94,8 @@ impl<V: Volume> Model for Unmade<V> {
 }
 
 impl<V: Volume> Store<V> {
-    /// Makes a store without a transaction on a volume without one. It costs five writes and four syncs.
+    /// Makes a store without a transaction on a volume without one: its one version is live, and shows none. It costs five writes and
+    /// four syncs.
     ///
     /// Where the volume was not made before, a crash leaves at each moment a volume that isn't made, or the whole store without a
     /// transaction; after an `Ok` only that. An `Err` gives the volume back: it failed, or there was no memory, and the call may
@@ -101,6 +104,7 @@ impl<V: Volume> Store<V> {
         requires limits { AreLimits limits }
         ensures limits { IfOk result (λ s. s.store.limits ≡ limits) }
         ensures empty { IfOk result (λ s. (s.store.sequence.refs ≡ []) × (s.store.versions.root.n ≡ 0)) }
+        ensures alone { IfOk result (λ s. (row : ℕ) → IsLive s.store.versions.versions row → row ≡ s.store.versions.versions.current) }
         ensures causes { IfErr result IsOfVolume }
         ensures told { Told (V.storage volume).disk (storage_in result).disk (Creates (store_in result)) }
         ensures counted { CountsOpen (V.storage volume).faults (storage_in result).faults (store_in result) }
@@ -119,14 +123,15 @@ impl<V: Volume> Store<V> {
     /// transactions. It costs four syncs, the log in large reads, the version files, and two calls of the volume for each
     /// transaction behind the version; time and memory linear in what it reads, but that transactions are kept one at a time.
     ///
-    /// A whole volume is opened with exactly the history and the version that are found there, and nothing is pending then. An `Err` gives the volume back,
-    /// with each file as it was: [`OpenFault::NotMade`] comes exactly where the mark isn't there, [`OpenFault::Damaged`] only where
-    /// the files are damaged at that place, and never of a whole volume. Behind [`OpenFault::Vol`] and [`OpenFault::Memory`] the call
-    /// may be made again.
+    /// A whole volume is opened with exactly the history and the version that are found there. Nothing is pending then, and that
+    /// version is the only live one. An `Err` gives the volume back, with each file as it was: [`OpenFault::NotMade`] comes exactly
+    /// where the mark isn't there, [`OpenFault::Damaged`] only where the files are damaged at that place, and never of a whole volume.
+    /// Behind [`OpenFault::Vol`] and [`OpenFault::Memory`] the call may be made again.
     pub fn open_store(alloc: Global, volume: V, limits: Limits) -> Result<Store<V>, Unmade<V>>
         requires limits { AreLimits limits }
         ensures limits { IfOk result (λ s. s.store.limits ≡ limits) }
         ensures clean { IfOk result (λ s. s.store.sequence.pending ≡ None) }
+        ensures alone { IfOk result (λ s. (row : ℕ) → IsLive s.store.versions.versions row → row ≡ s.store.versions.versions.current) }
         ensures told { Told (V.storage volume).disk (storage_in result).disk (Opens (store_in result)) }
         ensures counted { CountsOpen (V.storage volume).faults (storage_in result).faults (store_in result) }
     {
@@ -146,7 +151,7 @@ impl<V: Volume> Store<V> {
     /// the history, or with one transaction more: this one, or the one of an earlier commit that failed. After an `Err` all is as
     /// before, and the call may be made again. What an earlier commit left is settled first, so that [`CommitFault::Vol`] comes before
     /// [`CommitFault::Refused`]; then comes [`CommitFault::Full`], exactly where there are as many transactions as may be, and at last
-    /// [`CommitFault::Vol`] of the writes.
+    /// [`CommitFault::Vol`] of the writes. Nothing is pending behind an `Ok`, `Refused` and `Full`.
     pub fn accept_lines(
         &mut self,
         alloc: Global,
@@ -163,6 +168,7 @@ impl<V: Volume> Store<V> {
         ensures versions { self.new.store.versions ≡ self.old.store.versions }
         ensures said { OnOk result (IsBehind self.old.store.sequence.schemas self.new.store.sequence.schemas (SaysLines self.old.store.sequence.schemas now batch.now)) }
         ensures room { OnOk result (length self.old.store.sequence.refs < self.old.store.limits.max_txns) }
+        ensures settled { IsSettled result self.new.store.sequence }
         ensures causes { IfErr result (Causes (λ code line. IsLineFault self.old.store.sequence.schemas now batch.now (lines.Refused code line)) (IsFullFor self.old.store (SaysLines self.old.store.sequence.schemas now batch.now))) }
         ensures told { Told self.old.storage.disk self.new.storage.disk (Commits result self.old.store self.new.store (SaysLines self.old.store.sequence.schemas now batch.now)) }
         ensures counted { CountsFault self.old.storage.faults self.new.storage.faults result }
@@ -187,6 +193,7 @@ impl<V: Volume> Store<V> {
         ensures versions { self.new.store.versions ≡ self.old.store.versions }
         ensures said { OnOk result (IsBehind self.old.store.sequence.schemas self.new.store.sequence.schemas (SaysStmt self.old.store.sequence.schemas stmt.now)) }
         ensures room { OnOk result (length self.old.store.sequence.refs < self.old.store.limits.max_txns) }
+        ensures settled { IsSettled result self.new.store.sequence }
         ensures causes { IfErr result (Causes (λ code place. write self.old.store.sequence.schemas stmt.now ≡ Err (record { code = code; place = place })) (IsFullFor self.old.store (SaysStmt self.old.store.sequence.schemas stmt.now))) }
         ensures told { Told self.old.storage.disk self.new.storage.disk (Commits result self.old.store self.new.store (SaysStmt self.old.store.sequence.schemas stmt.now)) }
         ensures counted { CountsFault self.old.storage.faults self.new.storage.faults result }
@@ -209,15 +216,17 @@ impl<V: Volume> Store<V> {
     /// the parts that it touches, no others. It costs two calls of the volume for each transaction and each column of a touched part,
     /// and time and memory linear in what it reads, n log n where rows are late, and in the lists of parts.
     ///
-    /// The store and what its volume holds stay as they are. [`LogFault::Damaged`] says where the files of the log or of a block break
-    /// their layout, or byte 1 of a version file, where no lawful transactions leave such a version; it never comes where `IsStore`
-    /// holds. Behind [`LogFault::Vol`] and [`LogFault::Memory`] the call may be made again.
+    /// The store and what its volume holds stay as they are. [`LogFault::Damaged`] says what breaks first: byte 1 of the first version
+    /// file, where no lawful transactions leave such a version; the first of the transactions that isn't spelled, or not lawful behind
+    /// those before it; or the first block of those that are read whose files break their layout or aren't the part's. It never comes
+    /// where `IsStore` holds. Behind [`LogFault::Vol`] and [`LogFault::Memory`] the call may be made again.
     pub fn draft(&mut self, alloc: Global, upto: u64) -> Result<Draft, LogFault>
         requires more { (n : ℕ) → current_n self.old.store.versions.versions ≡ Some n → n < upto }
         requires few { upto ≤ length self.old.store.sequence.refs }
         ensures over { IfOk result (λ d. IsDraftOver self.old.store.versions.versions d) }
         ensures upto { IfOk result (λ d. d.plan.upto ≡ upto) }
         ensures told { IfSome self.old.storage.disk (λ disk. (h : List Entry) (next : Version) → IsStore self.old.store h next disk → IsDraftedFrom result self.old.store h upto) }
+        ensures damaged { IfSome self.old.storage.disk (λ disk. (file at : ℕ) → result ≡ Err (damage.Damaged file at) → IsDraftDamage self.old.store upto (reads_of disk) file at) }
         ensures store { self.new.store ≡ self.old.store }
         ensures stays { self.new.storage.disk ≡ self.old.storage.disk }
         ensures counted { CountsVol self.old.storage.faults self.new.storage.faults result }

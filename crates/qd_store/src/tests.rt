@@ -9,6 +9,7 @@ mod plain;
 mod refused;
 mod rounds;
 mod shown;
+mod sparse;
 mod steps;
 mod stopped;
 mod swept;

@@ -1,7 +1,8 @@
 -- What a command did, from what its run says, and what it did where no memory was found; and the words that ask for it.
 use Rattle.std.proofs.Common.{◌≡◌, ℕ, ◌≤◌, ◌⊎◌, ◌↔◌, inl, inr, List, [], ◌∷◌, ◌++◌, length, Option, Some, None, refl, sym, ◌∙◌, ap, subst, arith}
 use Rattle.std.proofs.lemmas.List.{append-nil, take_all}
-use Rattle.qd_io.specs.Clocks.{Supply, Timeline}
+use Rattle.qd_host.specs.Hosts.{Supply}
+use Rattle.qd_io.specs.Clocks.{Timeline}
 use Rattle.qd_io.specs.Ends.{HasRisen, Stream}
 use Rattle.qd_base.specs.declared.limits.TheConstants.{LAST_OFFSET}
 use Rattle.qd_base.specs.declared.request.Request.{Request}

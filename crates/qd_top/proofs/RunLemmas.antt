@@ -3,7 +3,8 @@ use Rattle.std.proofs.Common.{◌≡◌, ℕ, ◌+◌, ◌<◌, ◌≤◌, ◌�
 use Rattle.std.specs.List.{range_with_len}
 use Rattle.std.proofs.lemmas.List.{append-nil, append_assoc, length-append, take-append-drop, take_all}
 use Rattle.std.proofs.Math.Seq.{take-append-add}
-use Rattle.qd_io.specs.Clocks.{Supply, Timeline, Times, after_clock}
+use Rattle.qd_host.specs.Hosts.{Supply, after_clock}
+use Rattle.qd_io.specs.Clocks.{Timeline, Times}
 use Rattle.qd_io.specs.Ends.{HasRisen, Stream, WritesAll, counts_together}
 use Rattle.qd_io.specs.declared.fault.IoFault.{IoFault}
 use Rattle.qd_base.specs.declared.limits.TheConstants.{LAST_OFFSET}
@@ -25,7 +26,8 @@ use Rattle.qd_words.specs.declared.command.Command.{Command}
 use Rattle.qd_words.specs.declared.command.Command.TheVariants as command
 use Rattle.qd_words.specs.declared.command.TheConstants.{MAX_GEN_LINES}
 use Rattle.qd_session.specs.Allowed.{Allowed}
-use Rattle.qd_list.specs.Listed.{AllowedAlone, Listed, listed_shown}
+use Rattle.qd_session.specs.Alone.{AllowedAlone}
+use Rattle.qd_list.specs.Listed.{Listed, listed_shown}
 use Rattle.qd_session.specs.Looks.{Look}
 use Rattle.qd_session.specs.Legal.{Legal, LegalRun, done_numbers}
 use Rattle.qd_session.specs.Session.{Dialogue, Faults, IsBad, IsClean, IsCutShort, IsWaiting, Moment, Moves, PutTo, Serves, TakenFrom, moment, refusal, requests_in, transcript, with_turns}

@@ -1,5 +1,5 @@
 -- What a run of the program took and wrote, by its status.
-use Rattle.std.specs.Prelude.{◌≡◌, ℕ, ◌+◌, ◌-◌, ◌≤◌, ◌⊎◌, List, [], ◌∷◌, ◌++◌, codes, length, take, Option, Some, None}
+use Rattle.std.specs.Prelude.{◌≡◌, ℕ, false, ◌+◌, ◌-◌, ◌≤◌, ◌⊎◌, List, [], ◌∷◌, ◌++◌, codes, length, take, Option, Some, None}
 use Rattle.std.specs.List.{flat_map, range_with_len}
 use Rattle.qd_base.specs.declared.limits.TheConstants.{LAST_OFFSET}
 use Rattle.qd_base.specs.declared.op.Entry.{Entry}
@@ -7,7 +7,8 @@ use Rattle.qd_base.specs.declared.request.Request.{Request}
 use Rattle.qd_base.specs.declared.request.Reply.{Reply}
 use Rattle.qd_base.specs.declared.request.Reply.TheVariants as reply
 use Rattle.qd_base.specs.Script.{Ending}
-use Rattle.qd_io.specs.Clocks.{Supply, Timeline}
+use Rattle.qd_host.specs.Hosts.{Supply}
+use Rattle.qd_io.specs.Clocks.{Timeline}
 use Rattle.qd_io.specs.Ends.{HasRisen, Stream, counts_together}
 use Rattle.qd_frames.specs.Frames.{Steps}
 use Rattle.qd_gen.specs.Generated.{input as generated}
@@ -57,7 +58,7 @@ no_store clock = record { history = []; applied = 0; clock = clock }
 
 -- what a session knows of a store in memory
 abbrev pub look_of : Store → Look
-look_of s = record { sequenced = length s.history; known = s.applied; clock = s.clock; volume_faults = 0; pinned = [] }
+look_of s = record { sequenced = length s.history; known = s.applied; clock = s.clock; volume_faults = 0; pinned = []; pending = false }
 
 -- the clock that a host gives: no call of it was made
 abbrev pub fresh : Supply → Timeline

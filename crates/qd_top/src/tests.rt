@@ -3,7 +3,9 @@ ghost use Rattle.std.specs.Prelude.{◌<◌, ◌≤◌, length};
 
 use super::top;
 use qd_base::Txt;
-use qd_io::{MemClock, MemHost, MemSink, MemSource};
+use qd_host::MemHost;
+use qd_io::{MemClock, MemSink, MemSource};
+use qd_volume::MemVolume;
 use std::alloc::{AllocError, Global};
 use std::test::Fail;
 
@@ -23,7 +25,7 @@ fn served(
     requires { 0 < length times.now }
 {
     let words = [Txt::from_bytes(alloc, b"run")?];
-    let mut host = MemHost::empty(alloc);
+    let mut host = MemHost::new(alloc, MemVolume::new(alloc, &[])?, &[])?;
     host.set_clock(MemClock::new(alloc, times, clock_fails)?);
     let status = top(
         &(),

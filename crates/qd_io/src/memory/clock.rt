@@ -55,7 +55,7 @@ impl MemClock {
     }
 
     /// A clock that gives the same time at each call. It takes no memory.
-    pub(crate) fn steady(alloc: Global, time: u64) -> MemClock
+    pub fn steady(alloc: Global, time: u64) -> MemClock
         ensures { result ≡ steady time }
     {
         MemClock {

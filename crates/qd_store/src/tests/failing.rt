@@ -1,17 +1,18 @@
 //! Histories in which each call of the device fails once.
 use super::plain::Plain;
 use super::shown::shows;
+use super::sparse::SparseVolume;
 use super::steps::{Step, Stop, calls_of, opened, states_of, take};
 use super::stopped::{HISTORY, SWEPT};
 use crate::{OpenFault, Store, Unmade};
 use qd_base::Limits;
-use qd_volume::MemVolume;
+use qd_volume::Volume;
 use std::alloc::Global;
 use std::process::Abort;
 use std::test::Fail;
 
 /// Makes a store, again where the volume fails.
-fn made(alloc: Global, volume: MemVolume) -> Result<Store<MemVolume>, OpenFault> {
+fn made(alloc: Global, volume: SparseVolume) -> Result<Store<SparseVolume>, OpenFault> {
     let Unmade { volume, why } = match Store::create(alloc, volume, Limits::usual()) {
         Ok(store) => return Ok(store),
         Err(unmade) => unmade,
@@ -29,7 +30,7 @@ fn made(alloc: Global, volume: MemVolume) -> Result<Store<MemVolume>, OpenFault>
 fn taken(
     rt: &impl Abort,
     alloc: Global,
-    store: &mut Store<MemVolume>,
+    store: &mut Store<SparseVolume>,
     step: Step,
 ) -> Result<bool, Stop> {
     let before = (store.hist_len(), store.version_n());
@@ -50,8 +51,8 @@ fn gone_on(
     alloc: Global,
     steps: &[Step],
     fault: u64,
-) -> Result<Store<MemVolume>, Fail> {
-    let mut store = made(alloc, MemVolume::new(alloc, &[fault])?)?;
+) -> Result<Store<SparseVolume>, Fail> {
+    let mut store = made(alloc, SparseVolume::new(alloc, &[fault])?)?;
     let mut again = false;
     for step in steps {
         if taken(rt, alloc, &mut store, *step)? {
@@ -63,10 +64,10 @@ fn gone_on(
 }
 
 /// Compares a store that shows all transactions with the plain replay.
-fn shows_all(
+fn shows_all<V: Volume>(
     rt: &impl Abort,
     alloc: Global,
-    store: &mut Store<MemVolume>,
+    store: &mut Store<V>,
     states: &[Plain],
 ) -> Result<(), Fail> {
     let row = store.current();
@@ -88,33 +89,25 @@ fn fails_at(
 ) -> Result<(), Fail> {
     let mut store = gone_on(rt, alloc, steps, fault)?;
     shows_all(rt, alloc, &mut store, states)?;
-    let mut store = opened(alloc, store.into_volume().crash(0)?)?;
+    let mut store = opened(alloc, store.into_volume().inner.crash(0)?)?;
     shows_all(rt, alloc, &mut store, states)
 }
 
-#[test]
-fn each_device_call_fails_once(rt: HostRuntime) -> Result<(), Fail> {
-    let alloc = rt.alloc();
-    let states = states_of(alloc, &HISTORY)?;
-    for fault in 0..calls_of(alloc, &HISTORY)? {
-        fails_at(&rt, alloc, &HISTORY, states.as_slice(), fault)?;
+/// Fails each call of a history once.
+fn fails_at_each(rt: &impl Abort, alloc: Global, steps: &[Step]) -> Result<(), Fail> {
+    let states = states_of(alloc, steps)?;
+    for fault in 0..calls_of(alloc, steps)? {
+        fails_at(rt, alloc, steps, states.as_slice(), fault)?;
     }
     Ok(())
 }
 
 #[test]
-fn calls_of_a_sweep_fail_once(rt: HostRuntime) -> Result<(), Fail> {
-    let alloc = rt.alloc();
-    let states = states_of(alloc, &SWEPT)?;
-    let begun = calls_of(alloc, &SWEPT[..6])?;
-    for fault in begun..begun.saturating_add(6) {
-        fails_at(&rt, alloc, &SWEPT, states.as_slice(), fault)?;
-    }
-    fails_at(
-        &rt,
-        alloc,
-        &SWEPT,
-        states.as_slice(),
-        begun.saturating_add(511),
-    )
+fn each_device_call_fails_once(rt: HostRuntime) -> Result<(), Fail> {
+    fails_at_each(&rt, rt.alloc(), &HISTORY)
+}
+
+#[test]
+fn each_device_call_before_and_in_a_sweep_fails_once(rt: HostRuntime) -> Result<(), Fail> {
+    fails_at_each(&rt, rt.alloc(), &SWEPT)
 }

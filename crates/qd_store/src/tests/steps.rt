@@ -5,6 +5,7 @@ ghost use Rattle.std.specs.Bool.{OnTrue};
 
 use super::plain::Plain;
 use super::rounds::{RoundFault, round};
+use super::sparse::SparseVolume;
 use crate::{CommitFault, Committed, LogFault, OpenFault, PublishFault, Store, Unmade};
 use qd_base::{Entry, Limits, Memory, Schemas};
 use qd_ilp::parse_batch;
@@ -223,13 +224,16 @@ fn entry_of_step(alloc: Global, schemas: &Schemas, step: Step) -> Result<Option<
     }
 }
 
-/// How many calls of the device a history makes.
+/// How many calls of the device a history makes, where files are removed that are there.
 pub(super) fn calls_of(alloc: Global, steps: &[Step]) -> Result<u64, Stop> {
-    let mut store = new_store(alloc, &[])?;
+    let volume = SparseVolume::new(alloc, &[])?;
+    let Ok(mut store) = Store::create(alloc, volume, Limits::usual()) else {
+        return Err(Stop::Other);
+    };
     for step in steps {
         take(alloc, &mut store, *step)?;
     }
-    Ok(store.into_volume().calls())
+    Ok(store.into_volume().inner.calls())
 }
 
 /// Opens the store of a volume.

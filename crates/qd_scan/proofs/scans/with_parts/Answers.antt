@@ -1,4 +1,4 @@
-use Rattle.std.proofs.Common.{◌≡◌, ◌<◌, ◌∙◌, List, length, ap, arith, subst, sym}
+use Rattle.std.proofs.Common.{◌≡◌, ◌<◌, ◌∙◌, List, length, ap, arith, refl, subst, sym}
 use Rattle.std.specs.Arc.{arc_value}
 use Rattle.qd_base.specs.declared.part.Part.{Part}
 use Rattle.qd_block.specs.Blocks.{IsWhole}
@@ -14,6 +14,7 @@ loop-i-init g c =
       scanned = scan_from s c.args.table c.args.lo c.args.hi c.ended_before-first.result c.args.rows lent (c.as_slice-parts.ensures.items ∙ c.parts.ensures.parts) c.ended_before-first.ensures.within c.ended_before-first.ensures.before
           c.requires.cols c.requires.single c.requires.empty;
       stays = stays_here s;
+      fixed = refl;
     }
 
 pub loop-i-preserved : goal.loop-i-preserved
@@ -33,6 +34,7 @@ loop-i-preserved g c =
           (rows_before s now c.args.table c.loop-i.i b c.loop-i.invariant.stays c.in_ok-block.ensures.told)
           c.in_ok-add_rows.ensures.left c.in_ok-add_rows.ensures.right c.in_ok-add_rows.ensures.rows c.loop-i.invariant.scanned;
       stays = stays_then s now later c.loop-i.invariant.stays c.part.ensures.stays;
+      fixed = c.part.ensures.fixed ∙ c.loop-i.invariant.fixed;
     }
 
 pub returns-clause-scanned : goal.returns-clause-scanned

@@ -6,6 +6,7 @@ use Rattle.qd_manifest.specs.declared.shape.TableParts.{TableParts}
 use Rattle.qd_seq.specs.States.{Log}
 use Rattle.qd_store.specs.Stores.{Store}
 use Rattle.qd_store.proofs.OpenSteps.{book_of_one, entries_failed, log_failed, log_opened, mark_failed, no_mark, no_memory, number_here, ready, root_opened, store_opened, sync_failed, tables_here, versions_failed}
+use Rattle.qd_store.proofs.OpenedStore.{alone_of_it}
 use Rattle.qd_store.proofs.opening.open.Goals as goal
 
 pub returns-in_err-is_marked-clause-told : goal.returns-in_err-is_marked-clause-told
@@ -77,3 +78,9 @@ returns-clause-told g c =
     (log_opened _ _ _ c.in_ok-log.log (ready _ _ c.in_ok-sync.field-0 _ _ _ c.in_ok-is_marked.ensures.stays c.in_ok-is_marked.field-0 c.if-not-branch.false c.in_ok-is_marked.ensures.told c.in_ok-sync.ensures.told) c.in_ok-log.ensures.told)
     c.refs.result.now c.refs.ensures.list c.in_ok-versions.ensures.told)
     c.in_ok-sequencer.ensures.stays s refl c.in_ok-sequencer.ensures.list.0 c.in_ok-sequencer.ensures.told
+
+pub returns-clause-alone : goal.returns-clause-alone
+returns-clause-alone g c =
+    let v = c.in_ok-versions.versions in
+    let o = c.in_ok-versions.ensures.opened in
+    alone_of_it v.versions v.root.n o.0.next_block o.0.shape o.2

@@ -1,3 +1,5 @@
+use Rattle.std.proofs.Common.{ap}
+use Rattle.qd_host.specs.Hosts.{Supply}
 use Rattle.qd_print.specs.Printed.{reply_bytes}
 use Rattle.qd_top.specs.Run.{Ran}
 use Rattle.qd_top.proofs.RunLemmas.{by-host}
@@ -8,4 +10,4 @@ returns-clause-ran g c =
     by-host (g.H.Host.supply c.args.host.now) (g.H.Host.supply c.clock-clock.new.self) (g.H.Host.supply c.clock_back.new.self) (g.H.Clk.Clock.timeline c.clock-clock.result) (g.H.Clk.Clock.timeline c.run_ends-status.new.clock)
     (λ before clock.
     Ran reply_bytes before clock (g.S.Ends.stream c.args.input.now).input (g.S.Ends.stream c.run_ends-status.new.input).input (g.K.Ends.stream c.args.output.now).output (g.K.Ends.stream c.run_ends-status.new.output).output
-    c.run_ends-status.result) c.clock-clock.ensures.told c.clock-clock.ensures.none_failed c.clock-clock.ensures.counted c.clock_back.ensures c.run_ends-status.ensures.ran
+    c.run_ends-status.result) c.clock-clock.ensures.told c.clock-clock.ensures.none_failed (ap (λ (h : Supply). h.clock_faults) c.clock-clock.ensures.rest) c.clock_back.ensures c.run_ends-status.ensures.ran

@@ -4,7 +4,7 @@ use Rattle.qd_sequencer.specs.declared.fault.CommitFault.{CommitFault}
 use Rattle.qd_sequencer.specs.declared.fault.Committed.{Committed}
 use Rattle.qd_store.specs.Arriving.{SaysStmt}
 use Rattle.qd_store.specs.Stores.{Store}
-use Rattle.qd_store.proofs.Settled.{alone_told, ready_told}
+use Rattle.qd_store.proofs.Settled.{alone_told, ready_told, settled_stmt, unsettled}
 use Rattle.qd_store.proofs.book.Book.accept_sql.Goals as goal
 
 pub returns-in_err-settle-clause-told : goal.returns-in_err-settle-clause-told
@@ -24,3 +24,11 @@ pub returns-in-Err-clause-told : goal.returns-in-Err-clause-told
 returns-in-Err-clause-told g c =
     let old = c.args.self.now in
     alone_told Committed CommitFault (SaysStmt old.sequence.schemas c.args.stmt.now) c.of_stmt.result old c.settle.new.self _ _ c.settle.ensures.told
+
+pub returns-in_err-settle-clause-settled : goal.returns-in_err-settle-clause-settled
+returns-in_err-settle-clause-settled g c =
+    let p = err_from_is_err_and c.from_residual.result c.from_residual.ensures.1 in
+    rw p.1 (rw p.2 (unsettled Committed c.in_err-settle.field-0.0 c.settle.new.self.sequence))
+
+pub returns-in-Err-clause-settled : goal.returns-in-Err-clause-settled
+returns-in-Err-clause-settled g c = rw c.of_stmt.ensures.fault (settled_stmt Committed _ c.settle.new.self.sequence c.in_ok-settle.ensures.clean)

@@ -1,6 +1,8 @@
+use Rattle.std.proofs.Common.{[]}
 use Rattle.std.proofs.lemmas.Result.{err_from_is_err_and}
 use Rattle.qd_store.specs.Stores.{Store}
 use Rattle.qd_store.proofs.CreateTold.{book_of_none, is_marked_told, none_shown, not_logged_told, not_marked_told, not_rooted_told, sound_of}
+use Rattle.qd_store.proofs.OpenedStore.{alone_of_it}
 use Rattle.qd_store.proofs.book.Book.create.Goals as goal
 
 pub returns-in_err-sequencer-clause-told : goal.returns-in_err-sequencer-clause-told
@@ -31,3 +33,6 @@ returns-clause-told g c =
     let s : Store = record { sequence = c.in_ok-sequencer.sequencer; versions = c.in_ok-versions.versions; limits = c.args.limits } in
     is_marked_told s c.other_files_leave_the_sequence.ensures (sound_of c.in_ok-versions.versions c.keeps_its_law.ensures.law c.in_ok-versions.ensures.opened) c.in_ok-versions.ensures.clean c.in_ok-versions.ensures.opened
     c.in_ok-write_mark.field-0 _ _ _ _ c.in_ok-sequencer.ensures.told c.in_ok-versions.ensures.told c.in_ok-write_mark.ensures.told
+
+pub returns-clause-alone : goal.returns-clause-alone
+returns-clause-alone g c = alone_of_it c.in_ok-versions.versions.versions 0 0 [] c.in_ok-versions.ensures.opened

@@ -1,9 +1,21 @@
-use Rattle.std.proofs.Common.{◌≤◌, ◌^◌, subst, arith}
+use Rattle.std.proofs.Common.{◌≡◌, ◌≤◌, ◌^◌, Err, refl, subst, arith}
 use Rattle.std.proofs.lemmas.Result.{err_from_is_err_and}
+use Rattle.qd_durable.specs.declared.fault.LogFault.{LogFault}
 use Rattle.qd_versions.specs.Stores as versions
 use Rattle.qd_store.specs.Stores.{IsBook, Store}
-use Rattle.qd_store.proofs.Drafted.{drafted_over, drafted_told, undrafted_told}
+use Rattle.qd_store.proofs.Drafted.{arrives_damaged, drafted_over, drafted_told, reads_damaged, undrafted_told}
 use Rattle.qd_store.proofs.book.Book.draft.Goals as goal
+
+pub returns-in_err-arrived-clause-damaged : goal.returns-in_err-arrived-clause-damaged
+returns-in_err-arrived-clause-damaged g c =
+    let p = err_from_is_err_and c.from_residual.result c.from_residual.ensures.1 in
+    arrives_damaged c.from_residual.result c.in_err-arrived.field-0.0 (subst (λ (f : LogFault). c.from_residual.result ≡ Err f) p.2 p.1) c.args.self.now c.args.upto _ c.in_err-arrived.ensures.read
+
+pub returns-in_err-blocks-clause-damaged : goal.returns-in_err-blocks-clause-damaged
+returns-in_err-blocks-clause-damaged g c =
+    let p = err_from_is_err_and c.from_residual-in_err-blocks.result c.from_residual-in_err-blocks.ensures.1 in
+    reads_damaged c.from_residual-in_err-blocks.result c.in_err-blocks.field-0.0 (subst (λ (f : LogFault). c.from_residual-in_err-blocks.result ≡ Err f) p.2 p.1) c.args.self.now c.args.upto
+    _ refl c.in_ok-arrived.arrived c.in_ok-plan.plan c.in_ok-plan.ensures.plan _ _ c.in_ok-arrived.ensures.stays c.in_ok-arrived.ensures.read c.in_err-blocks.ensures.damaged
 
 pub returns-in_err-blocks-clause-told : goal.returns-in_err-blocks-clause-told
 returns-in_err-blocks-clause-told g c =

@@ -1,0 +1,15 @@
+use Rattle.qd_host.proofs.Counts.{never_falls, rises_by_some, rises_with}
+use Rattle.qd_host.specs.Hosts.{risen}
+use Rattle.qd_host.proofs.laws.faults_come_back.Goals as goal
+
+pub returns-clause-clock : goal.returns-clause-clock
+returns-clause-clock c = λ faults supply. rises_by_some supply.clock_faults faults
+
+pub returns-clause-clock_never_falls : goal.returns-clause-clock_never_falls
+returns-clause-clock_never_falls c = λ faults supply. never_falls supply.clock_faults faults
+
+pub returns-clause-volume : goal.returns-clause-volume
+returns-clause-volume c = λ storage supply. rises_with supply.volume_faults supply.lent_faults storage.faults
+
+pub returns-clause-volume_never_falls : goal.returns-clause-volume_never_falls
+returns-clause-volume_never_falls c = λ storage supply. never_falls supply.volume_faults (risen supply.lent_faults storage.faults)

@@ -1,0 +1,6 @@
+-- The definitions that the contracts of this crate cite.
+pub mod Heap
+pub mod Hosts
+pub mod Lent
+pub mod Memory
+pub mod Standard

@@ -1,0 +1,153 @@
+//! The machine that the program runs on.
+ghost use Rattle.qd_io.specs.Ends.{Counts};
+ghost use Rattle.std.specs.Prelude.{◌≡◌};
+
+use crate::heap::HeapVolume;
+use crate::hosts::Host;
+use crate::lent::{Lent, counted};
+use qd_io::{IoFault, StdClock};
+use qd_volume::{FolderVolume, Volume};
+use std::alloc::Global;
+use std::fs::{File, Files};
+
+/// A volume of the machine. It tells nothing of its content.
+#[derive(Drop)]
+pub enum StdVolume<R: Files<File = File> + Drop> {
+    /// Over a folder.
+    Folder(FolderVolume<R>),
+
+    /// In memory, until the program ends.
+    Memory(HeapVolume),
+}
+
+impl<R: Files<File = File> + Drop> Volume for StdVolume<R> {
+    ghost use Rattle.std.specs.Prelude.{None};
+    ghost use Rattle.qd_host.specs.Standard.{faults_in};
+
+    ghost storage = { λ volume. record { disk = None; faults = faults_in ⟦<FolderVolume<R> as Volume>⟧.storage ⟦<HeapVolume as Volume>⟧.storage volume } };
+
+    fn read(&mut self, file: u64, at: u64, buf: &mut [u8]) -> Result<usize, IoFault> {
+        match self {
+            StdVolume::Folder(volume) => volume.read(file, at, buf),
+            StdVolume::Memory(volume) => volume.read(file, at, buf),
+        }
+    }
+
+    fn write_at(&mut self, file: u64, at: u64, bytes: &[u8]) -> Result<(), IoFault> {
+        match self {
+            StdVolume::Folder(volume) => volume.write_at(file, at, bytes),
+            StdVolume::Memory(volume) => volume.write_at(file, at, bytes),
+        }
+    }
+
+    fn cut(&mut self, file: u64, len: u64) -> Result<(), IoFault> {
+        match self {
+            StdVolume::Folder(volume) => volume.cut(file, len),
+            StdVolume::Memory(volume) => volume.cut(file, len),
+        }
+    }
+
+    fn sync(&mut self, file: u64) -> Result<(), IoFault> {
+        match self {
+            StdVolume::Folder(volume) => volume.sync(file),
+            StdVolume::Memory(volume) => volume.sync(file),
+        }
+    }
+
+    fn remove(&mut self, file: u64) -> Result<(), IoFault> {
+        match self {
+            StdVolume::Folder(volume) => volume.remove(file),
+            StdVolume::Memory(volume) => volume.remove(file),
+        }
+    }
+
+    fn len(&mut self, file: u64) -> Result<u64, IoFault> {
+        match self {
+            StdVolume::Folder(volume) => volume.len(file),
+            StdVolume::Memory(volume) => volume.len(file),
+        }
+    }
+}
+
+/// The machine that the program runs on. It tells nothing of what it gives: a real device tells nothing.
+///
+/// It has one volume in memory, which is empty at first. While that one is lent, it gives further ones that are empty, and
+/// of those that come back it keeps the last.
+#[derive(Drop)]
+pub struct StdHost<R> {
+    rt: R,
+    clock_faults: u64,
+    shelf: Option<HeapVolume>,
+    volume_faults: u64,
+}
+
+impl<R: std::time::Clock + Copy + Files<File = File> + Drop> StdHost<R> {
+    /// The machine, of which nothing is taken yet. It takes no memory.
+    pub fn new(rt: R, alloc: Global) -> StdHost<R>
+        ensures clocks { (⟦<StdHost<R> as Host>⟧.supply result).clock_faults ≡ 0 }
+        ensures volumes { (⟦<StdHost<R> as Host>⟧.supply result).volume_faults ≡ 0 }
+    {
+        StdHost {
+            rt,
+            clock_faults: 0,
+            shelf: Some(HeapVolume::new(alloc)),
+            volume_faults: 0,
+        }
+    }
+
+    /// Opens the volume of a folder, and counts where that fails.
+    fn open(&mut self, alloc: Global, dir: &[u8]) -> Result<StdVolume<R>, IoFault>
+        ensures counted { Counts self.old.volume_faults self.new.volume_faults result }
+        ensures clocks { self.new.clock_faults ≡ self.old.clock_faults }
+    {
+        let folder = FolderVolume::open(self.rt, alloc, dir);
+        let volume = counted(folder, &mut self.volume_faults)?;
+        Ok(StdVolume::Folder(volume))
+    }
+
+    /// The volume in memory, or where it is lent an empty one.
+    fn in_memory(&mut self, alloc: Global) -> StdVolume<R>
+        ensures volumes { self.new.volume_faults ≡ self.old.volume_faults }
+        ensures clocks { self.new.clock_faults ≡ self.old.clock_faults }
+    {
+        match self.shelf.take() {
+            Some(memory) => StdVolume::Memory(memory),
+            None => StdVolume::Memory(HeapVolume::new(alloc)),
+        }
+    }
+}
+
+impl<R: std::time::Clock + Copy + Files<File = File> + Drop> Host for StdHost<R> {
+    type Clk = Lent<StdClock<R>>;
+
+    type Vol = Lent<StdVolume<R>>;
+
+    ghost use Rattle.std.specs.Prelude.{None};
+
+    ghost supply = { λ host. record { clock_times = None; clock_faults = host.clock_faults; shelf = None; volume_faults = host.volume_faults; lent_faults = 0 } };
+
+    fn clock(&mut self) -> Lent<StdClock<R>> {
+        Lent::new(StdClock::new(self.rt))
+    }
+
+    fn clock_back(&mut self, clock: Lent<StdClock<R>>) {
+        self.clock_faults = self.clock_faults.saturating_add(clock.faults());
+    }
+
+    /// Opens the folder, or gives the volume in memory. What fails is an opening.
+    fn volume(&mut self, alloc: Global, dir: Option<&[u8]>) -> Result<Lent<StdVolume<R>>, IoFault> {
+        let volume = match dir {
+            Some(dir) => self.open(alloc, dir)?,
+            None => self.in_memory(alloc),
+        };
+        Ok(Lent::new(volume))
+    }
+
+    /// Closes a folder. A volume in memory is kept for the next call.
+    fn put_back(&mut self, volume: Lent<StdVolume<R>>) {
+        self.volume_faults = self.volume_faults.saturating_add(volume.faults());
+        if let StdVolume::Memory(memory) = volume.into_device() {
+            self.shelf = Some(memory);
+        }
+    }
+}

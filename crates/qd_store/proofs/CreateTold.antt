@@ -89,3 +89,8 @@ module _ (s : Store) where
     pub is_marked_told : (done : Unit {0}) (before between late after : Option Disk) → Told before between (logs.Makes {E = IoFault} (Ok s.sequence)) → Told between late (roots.Creates {E = IoFault} (Ok s.versions)) → Told late after (Marks {T = Unit {0}} {E = IoFault} (Ok done)) → Told before after (Creates {E = IoFault} (Ok s))
     is_marked_told done before between late after first second third =
         told_both Both (Marks {T = Unit {0}} {E = IoFault} (Ok done)) (Creates {E = IoFault} (Ok s)) before late after (λ a c d both marks. is_marked done a c d both marks) (both_told before between late first second) third
+
+-- ---- a store that was made is made, whatever the faults are called
+
+pub made_told : (E F : Type 0) (s : Store) (before after : Option Disk) → Told before after (Creates {E = E} (Ok s)) → Told before after (Creates {E = F} (Ok s))
+made_told E F s before after told = told_map (Creates {E = E} (Ok s)) (Creates {E = F} (Ok s)) before after (λ a b made. record { any_moment = made.any_moment; created = made.created }) told

@@ -5,7 +5,7 @@ ghost use Rattle.qd_io.specs.Ends.{Counts};
 ghost use Rattle.qd_store.specs.Calls.{Creates};
 ghost use Rattle.qd_store.specs.Stores.{AreLimits, IsBook};
 ghost use Rattle.qd_versions.specs.Stores as versions;
-ghost use Rattle.std.specs.Prelude.{◌≡◌, ℕ, [], IfOk};
+ghost use Rattle.std.specs.Prelude.{◌≡◌, ℕ, [], IfOk, None};
 
 use crate::mark::write_mark;
 use qd_base::Limits;
@@ -44,6 +44,7 @@ impl Book {
         requires limits { AreLimits limits }
         ensures limits { IfOk result (λ b. b.limits ≡ limits) }
         ensures empty { IfOk result (λ b. (b.sequence.refs ≡ []) × (b.versions.root.n ≡ 0)) }
+        ensures clean { IfOk result (λ b. b.sequence.pending ≡ None) }
         ensures alone { IfOk result (λ b. (row : ℕ) → IsLive b.versions.versions row → row ≡ b.versions.versions.current) }
         ensures told { Told (V.storage volume.old).disk (V.storage volume.new).disk (Creates result) }
         ensures counted { Counts (V.storage volume.old).faults (V.storage volume.new).faults result }

@@ -94,8 +94,8 @@ impl<V: Volume> Model for Unmade<V> {
 }
 
 impl<V: Volume> Store<V> {
-    /// Makes a store without a transaction on a volume without one: its one version is live, and shows none. It costs five writes and
-    /// four syncs.
+    /// Makes a store without a transaction on a volume without one: its one version is live and shows none, and nothing is pending. It
+    /// costs five writes and four syncs.
     ///
     /// Where the volume was not made before, a crash leaves at each moment a volume that isn't made, or the whole store without a
     /// transaction; after an `Ok` only that. An `Err` gives the volume back: it failed, or there was no memory, and the call may
@@ -104,6 +104,7 @@ impl<V: Volume> Store<V> {
         requires limits { AreLimits limits }
         ensures limits { IfOk result (λ s. s.store.limits ≡ limits) }
         ensures empty { IfOk result (λ s. (s.store.sequence.refs ≡ []) × (s.store.versions.root.n ≡ 0)) }
+        ensures clean { IfOk result (λ s. s.store.sequence.pending ≡ None) }
         ensures alone { IfOk result (λ s. (row : ℕ) → IsLive s.store.versions.versions row → row ≡ s.store.versions.versions.current) }
         ensures causes { IfErr result IsOfVolume }
         ensures told { Told (V.storage volume).disk (storage_in result).disk (Creates (store_in result)) }

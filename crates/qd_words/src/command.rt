@@ -1,18 +1,23 @@
 //! What a command line asks for.
 ghost use Rattle.std.specs.Prelude.{◌≡◌, ◌≤◌, ◌^◌, ◌<◌, ◌↔◌, ℕ, decimal, map, Some};
 ghost use Rattle.qd_words.specs.declared.command.Command.{Command};
-ghost use Rattle.qd_words.specs.Words.{Asks};
+ghost use Rattle.qd_words.specs.Parts.{AsksPlain};
 
 use crate::number::number_of;
+use qd_base::Txt;
 
 /// The greatest number of lines that can be asked for.
 pub const MAX_GEN_LINES: u32 = 1_000_000;
 
-/// What a command line asks for.
-#[derive(Clone, Copy, Debug, PartialEq, Eq)]
+/// What a command line asks for. Contracts see the folder of `Run` as its bytes.
+#[derive(Debug, Drop)]
 pub enum Command {
     /// To serve the frames of the input.
-    Run,
+    Run {
+        /// The folder in which the database is kept, a text in UTF-8 that isn't empty and doesn't begin with a hyphen;
+        /// none where it is kept in memory alone.
+        dir: Option<Txt>,
+    },
     /// To serve an input that the program makes for itself.
     Gen {
         /// The number that the values of its lines begin with.
@@ -22,20 +27,20 @@ pub enum Command {
     },
 }
 
-/// The command that plain words ask for, if any.
-pub(super) fn command_of(words: &[&str]) -> Option<Command>
-    ensures { (command : Command) → ((result ≡ Some command) ↔ Asks command (map (λ w. w.now) words.now)) }
+/// The command that plain words ask for beside the folder that was named, if any.
+pub(super) fn command_of(dir: Option<Txt>, words: &[&str]) -> Option<Command>
+    ensures { (command : Command) → ((result ≡ Some command) ↔ AsksPlain command dir (map (λ w. w.now) words.now)) }
 {
     match words {
         [name] => {
             if *name == "run" {
-                Some(Command::Run)
+                Some(Command::Run { dir })
             } else {
                 None
             }
         }
         [name, number, lines] => {
-            if *name == "gen" {
+            if *name == "gen" && dir.is_none() {
                 gen_of(number, lines)
             } else {
                 None

@@ -6,6 +6,7 @@
 mod command;
 mod laws;
 mod number;
+mod option;
 mod reading;
 #[cfg(test)]
 mod tests;

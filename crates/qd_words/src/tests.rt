@@ -13,7 +13,7 @@ fn asked(alloc: Global, line: &str) -> Result<Option<Command>, Memory> {
     read_words(alloc, words.as_slice())
 }
 
-/// Lines that ask for nothing today.
+/// Lines that ask for nothing.
 const OTHERS: &[&str] = &[
     "",
     "Run",
@@ -35,13 +35,66 @@ const OTHERS: &[&str] = &[
     "--",
     "run --",
     "-- run",
-    "run --dir d",
-    "run --dir=d",
-    "--dir d run",
-    "--dir=d run",
+    "--dir",
+    "--dir=",
+    "--dir d",
+    "--dir=d",
     "run --dir",
+    "--dir run",
     "run --dir=",
+    "--dir= run",
+    "--dir= d run",
+    "run --dir= d",
+    "run --dir ",
+    "--dir  run",
     "run --dir a --dir b",
+    "run --dir a --dir a",
+    "run --dir=a --dir=b",
+    "run --dir=a --dir b",
+    "--dir a run --dir b",
+    "--dir=a run --dir=b",
+    "--dir a --dir b run",
+    "--dir --dir d run",
+    "--dir=a run run",
+    "--dir run run run",
+    "run --dir a b",
+    "--dir a b run",
+    "--dir a b",
+    "run --dir=a b",
+    "run --dir -",
+    "run --dir=-",
+    "run --dir -d",
+    "run --dir=-d",
+    "-d run",
+    "--dir -d run",
+    "--dir=-d run",
+    "run --dir --",
+    "run --dir=--",
+    "run --dir=--dir",
+    "run --dir --dir",
+    "--dir -- run",
+    "-- --dir d run",
+    "run -- --dir d",
+    "run --dir d --",
+    "run -d d",
+    "run -d=d",
+    "run --di d",
+    "run --di=d",
+    "run --dird",
+    "run --dirD d",
+    "run --dirs d",
+    "run --dirs=d",
+    "run -dir d",
+    "run -dir=d",
+    "run dir d",
+    "run dir=d",
+    "run --DIR d",
+    "run --dir\td",
+    "run\t--dir d",
+    "run\t--dir=d",
+    "\t--dir=d run",
+    "run --dir =d -",
+    "run --dir d --connections 1",
     "run d",
     "gen",
     "gen 1",
@@ -70,7 +123,14 @@ const OTHERS: &[&str] = &[
     "gen 1  1",
     "gen 1 1 ",
     "gen 1 1 --dir d",
+    "gen 1 1 --dir=d",
     "gen --dir=d 1 1",
+    "gen --dir d 1 1",
+    "gen 1 --dir=d 1",
+    "--dir=d gen 1 1",
+    "--dir d gen 1 1",
+    "gen --dir=1 1",
+    "gen 1 --dir 1",
     "1 gen 1",
     "serve",
     "serve 8080",
@@ -91,10 +151,18 @@ fn other_lines(rt: HostRuntime) -> Result<(), Fail> {
     Ok(())
 }
 
+/// Whether what was found is to serve so many lines of such a number.
+fn generates(found: &Option<Command>, first: u32, count: u32) -> bool {
+    match found {
+        Some(Command::Gen { number, lines }) => *number == first && *lines == count,
+        _ => false,
+    }
+}
+
 #[test]
 fn lines_of_commands(rt: HostRuntime) -> Result<(), Fail> {
     let alloc = rt.alloc();
-    assert!(rt; asked(alloc, "run")? == Some(Command::Run));
+    assert!(rt; matches!(asked(alloc, "run")?, Some(Command::Run { dir: None })));
     let cases: [(&str, u32, u32); 6] = [
         ("gen 0 1", 0, 1),
         ("gen 1 8640", 1, 8_640),
@@ -104,8 +172,79 @@ fn lines_of_commands(rt: HostRuntime) -> Result<(), Fail> {
         ("gen 4294967295 1000000", u32::MAX, 1_000_000),
     ];
     for (line, number, lines) in cases {
-        assert!(rt; asked(alloc, line)? == Some(Command::Gen { number, lines }));
+        assert!(rt; generates(&asked(alloc, line)?, number, lines));
     }
+    Ok(())
+}
+
+/// Whether what was found is to run over a folder of this name.
+fn runs_in(found: &Option<Command>, name: &[u8]) -> bool {
+    match found {
+        Some(Command::Run { dir: Some(dir) }) => dir.bytes() == name,
+        _ => false,
+    }
+}
+
+#[test]
+fn lines_that_name_a_folder(rt: HostRuntime) -> Result<(), Fail> {
+    let alloc = rt.alloc();
+    let cases: [(&str, &str); 22] = [
+        ("run --dir d", "d"),
+        ("run --dir=d", "d"),
+        ("--dir d run", "d"),
+        ("--dir=d run", "d"),
+        ("--dir run run", "run"),
+        ("run --dir run", "run"),
+        ("--dir=run run", "run"),
+        ("run --dir=run", "run"),
+        ("run --dir=a=b", "a=b"),
+        ("run --dir==", "="),
+        ("--dir==d run", "=d"),
+        ("run --dir =", "="),
+        ("run --dir dir=d", "dir=d"),
+        ("run --dir=d-", "d-"),
+        ("run --dir /var/lib/tsdb", "/var/lib/tsdb"),
+        ("--dir=../d/ run", "../d/"),
+        ("run --dir \td", "\td"),
+        ("run --dir=\td\t", "\td\t"),
+        ("--dir=\t run", "\t"),
+        ("run --dir=Mühle", "Mühle"),
+        ("run --dir 日誌", "日誌"),
+        ("--dir gen run", "gen"),
+    ];
+    for (line, name) in cases {
+        assert!(rt; runs_in(&asked(alloc, line)?, name.as_bytes()));
+    }
+    Ok(())
+}
+
+/// Tells whether words ask for nothing.
+fn asks_nothing(alloc: Global, words: &[&[u8]]) -> Result<bool, Memory> {
+    let mut texts = Vec::new(alloc);
+    for word in words {
+        texts.push(Txt::from_bytes(alloc, word)?)?;
+    }
+    Ok(read_words(alloc, texts.as_slice())?.is_none())
+}
+
+#[test]
+fn names_with_blanks(rt: HostRuntime) -> Result<(), Fail> {
+    let alloc = rt.alloc();
+    let words = vec![in alloc;
+        Txt::from_bytes(alloc, b"run")?,
+        Txt::from_bytes(alloc, b"--dir= d")?,
+    ]?;
+    assert!(rt; runs_in(&read_words(alloc, words.as_slice())?, b" d"));
+    let words = vec![in alloc;
+        Txt::from_bytes(alloc, b"--dir")?,
+        Txt::from_bytes(alloc, b"a b ")?,
+        Txt::from_bytes(alloc, b"run")?,
+    ]?;
+    assert!(rt; runs_in(&read_words(alloc, words.as_slice())?, b"a b "));
+    assert!(rt; asks_nothing(alloc, &[b"run", b"--dir d"])?);
+    assert!(rt; asks_nothing(alloc, &[b"run", b" --dir=d"])?);
+    assert!(rt; asks_nothing(alloc, &[b"run", b"--dir =d"])?);
+    assert!(rt; asks_nothing(alloc, &[b"run --dir=d"])?);
     Ok(())
 }
 
@@ -118,7 +257,14 @@ fn no_words(rt: HostRuntime) -> Result<(), Fail> {
 #[test]
 fn words_that_are_no_text(rt: HostRuntime) -> Result<(), Fail> {
     let alloc = rt.alloc();
-    let words = vec![in alloc; Txt::from_bytes(alloc, b"ru\xffn")?]?;
-    assert!(rt; read_words(alloc, words.as_slice())?.is_none());
+    assert!(rt; asks_nothing(alloc, &[b"ru\xffn"])?);
+    assert!(rt; asks_nothing(alloc, &[b"run", b"\xff"])?);
+    assert!(rt; asks_nothing(alloc, &[b"run", b"--dir", b"\xff"])?);
+    assert!(rt; asks_nothing(alloc, &[b"--dir", b"d\xc3", b"run"])?);
+    assert!(rt; asks_nothing(alloc, &[b"run", b"--dir=\xc3("])?);
+    assert!(rt; asks_nothing(alloc, &[b"--dir=\xed\xa0\x80", b"run"])?);
+    assert!(rt; asks_nothing(alloc, &[b"run", b"--dir\xff=d"])?);
+    assert!(rt; asks_nothing(alloc, &[b"--dir=d", b"ru\xffn"])?);
+    assert!(rt; asks_nothing(alloc, &[b"--dir", b"d", b"run", b"\xff"])?);
     Ok(())
 }

@@ -1,4 +1,4 @@
-use Rattle.qd_words.proofs.Commands.{one_command}
+use Rattle.qd_words.proofs.Asked.{one_command}
 use Rattle.qd_words.proofs.laws.words_ask_for_one.Goals as goal
 
 pub returns : goal.returns

@@ -1,8 +1,11 @@
-use Rattle.std.proofs.Common.{codes, arith}
-use Rattle.qd_words.proofs.Commands.{texts_more}
+use Rattle.std.proofs.Common.{codes, rules}
+use Rattle.qd_words.proofs.Commands.{both_there, other_back}
 use Rattle.qd_words.proofs.reading.plain_texts.Goals as goal
 
-pub loop-word-preserved : goal.loop-word-preserved
-loop-word-preserved c =
-    let more = texts_more c.args.words.now c.loop-word.texts.items c.push-in-Some.new.self.items c.in-Some.text c.loop-word.word-index c.word-item.result c.bytes.result.now (codes "tsdb") (omega arith) c.word-item.is c.bytes.ensures.same c.in-Some.ensures.0 c.in-Some.ensures.1 c.loop-word.invariant.there c.loop-word.invariant.plain c.in_ok-push-in-Some.ensures.items in
-    record { there = more.0; plain = more.1 }
+pub returns : goal.returns
+returns c =
+    both_there c.push.new.self.items c.push_plain.new.texts.items c.push_plain-2.new.texts.items (codes "tsdb") c.args.front.now c.args.back.now (search rules)
+    (c.in_ok-push_plain.ensures.pushed c.if-not-branch.false) (c.in_ok-push_plain-2.ensures.pushed c.if-not-branch-2.false)
+
+pub returns-then-not-branch-2 : goal.returns-then-not-branch-2
+returns-then-not-branch-2 c = other_back c.args.front.now c.args.back.now (c.in_ok-push_plain-2.ensures.other c.if-not-branch-2.true)

@@ -1,142 +1,260 @@
--- What a command did, from what its run says, and what it did where no memory was found; and the words that ask for it.
-use Rattle.std.proofs.Common.{◌≡◌, ℕ, ◌≤◌, ◌⊎◌, ◌↔◌, inl, inr, List, [], ◌∷◌, ◌++◌, length, Option, Some, None, refl, sym, ◌∙◌, ap, subst, arith}
+-- What a command did, from what is said of its status, and what it did where no memory was found; and the words that ask for it.
+use Rattle.std.proofs.Common.{◌≡◌, ℕ, ◌≤◌, ◌⊎◌, ◌↔◌, inl, inr, List, [], length, if◌then◌else◌, nat_eq, Option, Some, None, refl, sym, ◌∙◌, ap, subst, arith}
 use Rattle.std.proofs.lemmas.List.{append-nil, take_all}
-use Rattle.qd_host.specs.Hosts.{Supply}
-use Rattle.qd_io.specs.Clocks.{Timeline}
-use Rattle.qd_io.specs.Ends.{HasRisen, Stream}
+use Rattle.qd_back.specs.Volumes.{IsDamagedAt, IsUnopened, MayFind}
+use Rattle.qd_store.proofs.OpenTold.{reads_now}
 use Rattle.qd_base.specs.declared.limits.TheConstants.{LAST_OFFSET}
+use Rattle.qd_base.specs.declared.op.Entry.{Entry}
 use Rattle.qd_base.specs.declared.request.Request.{Request}
-use Rattle.qd_base.specs.declared.request.Request.TheVariants as request
 use Rattle.qd_base.specs.declared.request.Reply.{Reply}
-use Rattle.qd_base.specs.Script.{Ending, Waiting, Ended}
-use Rattle.qd_frames.specs.Frames.{Steps, frame}
+use Rattle.qd_base.specs.Script.{Ending, Ended}
+use Rattle.qd_durable.specs.Moments.{Told}
+use Rattle.qd_durable.proofs.Writes.{told_still}
+use Rattle.qd_frames.specs.Frames.{Steps}
 use Rattle.qd_gen.specs.Framed.{IsReadAsAsked}
 use Rattle.qd_gen.specs.Generated.{requests, input as generated}
+use Rattle.qd_host.specs.Hosts.{Supply}
+use Rattle.qd_io.specs.Ends.{HasRisen, Stream}
 use Rattle.qd_print.specs.Printed.{reply_bytes}
 use Rattle.qd_quiet.specs.Quieted.{without_done}
-use Rattle.qd_session.specs.Session.{IsClean, PutTo, TakenFrom}
+use Rattle.qd_session.specs.Session.{IsClean, PutTo}
+use Rattle.qd_volume.specs.Disk.{Disk, reads_of}
 use Rattle.qd_words.specs.Words.{Asks}
 use Rattle.qd_words.specs.declared.command.Command.{Command}
 use Rattle.qd_words.specs.declared.command.Command.TheVariants as command
 use Rattle.qd_words.specs.declared.command.TheConstants.{MAX_GEN_LINES}
-use Rattle.qd_top.specs.Run.{Answered, ByHost, CountsReads, CountsWrites, CutRun, Did, EndsWith, FinishedRun, IsServedWell, IsWellFramed, OverGenerated, Ran, RefusedRun, Replied, RunKind, Served, ServedBy, StoppedRun, Store, fresh, no_store, prints, reached, usage}
+use Rattle.qd_top.specs.Run.{Answered, AsksToRun, CommandKind, CountsReads, CountsWrites, CutShort, Damaged, Did, EndsWith, FinishedRun, FoundDamage, IsServedWell, IsWellFramed, NoneFailed, NoVolume, OutOfMemory, OverStore, Ran, RefusedRun, Served, ServedBy, StoppedRun, Traffic, Unopened, prints, reached, traffic, usage}
 use Rattle.qd_top.specs.Status.{number_of}
 use Rattle.qd_top.specs.declared.status.Status.{Status}
 use Rattle.qd_top.specs.declared.status.Status.TheVariants as status
-use Rattle.qd_top.proofs.RunLemmas.{complete-from, ends-from, finished-from, out_of_memory-from, read-cause-from, reads-stay-from, refused-from, stopped-from, write-cause-from, writes-stay-from, written-from}
+use Rattle.qd_top.proofs.RunLemmas.{not_refused}
+
+-- the status of a number
+status_with : ℕ → Status
+status_with n =
+    if nat_eq n 0
+    then status.Finished
+    else if nat_eq n 1
+    then status.Usage
+    else if nat_eq n 2
+    then status.BadFrame
+    else if nat_eq n 3
+    then status.ReadFault
+    else if nat_eq n 4
+    then status.WriteFault
+    else if nat_eq n 5
+    then status.NoVolume
+    else if nat_eq n 6
+    then status.Damaged
+    else status.NoMemory
+
+status_with-number_of : (s : Status) → status_with (number_of s) ≡ s
+unfolding status_with
+status_with-number_of status.Finished = refl
+status_with-number_of status.Usage = refl
+status_with-number_of status.BadFrame = refl
+status_with-number_of status.ReadFault = refl
+status_with-number_of status.WriteFault = refl
+status_with-number_of status.NoVolume = refl
+status_with-number_of status.Damaged = refl
+status_with-number_of status.NoMemory = refl
+
+-- each number is that of one status alone
+one_status : (s t : Status) → number_of s ≡ number_of t → s ≡ t
+one_status s t e = sym (status_with-number_of s) ∙ ap status_with e ∙ status_with-number_of t
+
+-- where the status has this number, the count has risen
+pub read-cause-from : (s : Status) (before now : ℕ) → number_of s ≡ 3 → CountsReads before now s → (before ≤ now) × HasRisen before now
+read-cause-from s before now e c = subst (λ (t : Status). CountsReads before now t) (one_status s status.ReadFault e) c
+
+-- and otherwise it stays
+pub reads-stay-from : (s : Status) (before now : ℕ) → (number_of s ≡ 3 → ⊥) → CountsReads before now s → now ≡ before
+reads-stay-from status.ReadFault before now e c = absurd (e refl)
+reads-stay-from status.Finished before now e c = c
+reads-stay-from status.Usage before now e c = c
+reads-stay-from status.BadFrame before now e c = c
+reads-stay-from status.WriteFault before now e c = c
+reads-stay-from status.NoVolume before now e c = c
+reads-stay-from status.Damaged before now e c = c
+reads-stay-from status.NoMemory before now e c = c
+
+pub write-cause-from : (s : Status) (before now : ℕ) → number_of s ≡ 4 → CountsWrites before now s → (before ≤ now) × HasRisen before now
+write-cause-from s before now e c = subst (λ (t : Status). CountsWrites before now t) (one_status s status.WriteFault e) c
+
+pub writes-stay-from : (s : Status) (before now : ℕ) → (number_of s ≡ 4 → ⊥) → (number_of s ≡ 1 → ⊥) → CountsWrites before now s → now ≡ before
+writes-stay-from status.WriteFault before now e u c = absurd (e refl)
+writes-stay-from status.Usage before now e u c = absurd (u refl)
+writes-stay-from status.Finished before now e u c = c
+writes-stay-from status.BadFrame before now e u c = c
+writes-stay-from status.ReadFault before now e u c = c
+writes-stay-from status.NoVolume before now e u c = c
+writes-stay-from status.Damaged before now e u c = c
+writes-stay-from status.NoMemory before now e u c = c
+
+-- ---- a command, by the number of its status
+
+module _ (print : Reply → List ℕ) (found : Option (List Entry)) (host host' : Supply) (t : Traffic) where
+  -- what a command with the number of a status did
+  is_run_of : (s u : Status) → number_of s ≡ number_of u → Ran print found host host' t s → Ran print found host host' t u
+  is_run_of s u e r = subst (λ (v : Status). Ran print found host host' t v) (one_status s u e) r
+
+  finished-from : (s : Status) → number_of s ≡ 0 → Ran print found host host' t s → OverStore FinishedRun print found host host' t
+  finished-from s e r = is_run_of s status.Finished e r
+
+  refused-from : (s : Status) → number_of s ≡ 2 → Ran print found host host' t s → OverStore RefusedRun print found host host' t
+  refused-from s e r = is_run_of s status.BadFrame e r
+
+  stopped-from : (s : Status) → number_of s ≡ 3 → Ran print found host host' t s → OverStore StoppedRun print found host host' t
+  stopped-from s e r = is_run_of s status.ReadFault e r
+
+  cut-from : (s : Status) → number_of s ≡ 4 → Ran print found host host' t s → CutShort print found host host' t
+  cut-from s e r = is_run_of s status.WriteFault e r
+
+  no_volume-from : (s : Status) → number_of s ≡ 5 → Ran print found host host' t s → NoVolume print found host host' t
+  no_volume-from s e r = is_run_of s status.NoVolume e r
+
+  damaged-from : (s : Status) → number_of s ≡ 6 → Ran print found host host' t s → Damaged print found host host' t
+  damaged-from s e r = is_run_of s status.Damaged e r
+
+  no_memory-from : (s : Status) → number_of s ≡ 7 → Ran print found host host' t s → OutOfMemory print found host host' t
+  no_memory-from s e r = is_run_of s status.NoMemory e r
+
+  -- a volume that isn't made, or is whole, isn't damaged
+  never_damaged : (h : List Entry) (missing : List ℕ) → MayFind (Some h) host.shelf → FoundDamage host host' t missing → ⊥
+  never_damaged h missing may d = by host.shelf may d.volume
+    where
+      by : (shelf : Option Disk) → MayFind (Some h) shelf → Told shelf host'.shelf (IsDamagedAt d.file d.at) → ⊥
+      by None (n, holds) told = holds
+      by (Some disk) (n, inl (unmade, none, zero)) told = unmade (reads_of disk) (reads_now disk) told.2.made
+      by (Some disk) (n, inr (whole, f, finds, is, number)) told = told.2.not_whole whole
+
+  -- over whole frames and a volume that isn't made or is whole, and where no count rises, a command finishes or finds no memory
+  complete-from : (s : Status) (reads reads' writes writes' : ℕ) (h : List Entry) → found ≡ Some h → MayFind found host.shelf → Ran print found host host' t s → CountsReads reads reads' s → CountsWrites writes writes' s
+      → IsWellFramed t.input → (HasRisen reads reads' → ⊥) → (HasRisen writes writes' → ⊥) → (HasRisen host.volume_faults host'.volume_faults → ⊥) → (number_of s ≡ 0) ⊎ (number_of s ≡ 7)
+  complete-from status.Finished reads reads' writes writes' h is may r read write well no_read no_write no_volume = inl refl
+  complete-from status.Usage reads reads' writes writes' h is may r read write well no_read no_write no_volume = absurd r
+  complete-from status.BadFrame reads reads' writes writes' h is may r read write well no_read no_write no_volume = absurd (not_refused print r.before r.after t well r.ran)
+  complete-from status.ReadFault reads reads' writes writes' h is may r read write well no_read no_write no_volume = absurd (no_read read.1)
+  complete-from status.WriteFault reads reads' writes writes' h is may r read write well no_read no_write no_volume = absurd (no_write write.1)
+  complete-from status.NoVolume reads reads' writes writes' h is may r read write well no_read no_write no_volume = absurd (no_volume r.1)
+  complete-from status.Damaged reads reads' writes writes' h is may r read write well no_read no_write no_volume = absurd (never_damaged h [] (subst (λ (o : Option (List Entry)). MayFind o host.shelf) is may) r)
+  complete-from status.NoMemory reads reads' writes writes' h is may r read write well no_read no_write no_volume = inr refl
+
+  -- a command doesn't end with the status of other words
+  ends-from : (dir : Option (List ℕ)) (s : Status) → Ran print found host host' t s → EndsWith (command.Run dir) (number_of s)
+  ends-from dir status.Finished r = inl refl
+  ends-from dir status.Usage r = absurd r
+  ends-from dir status.BadFrame r = inr (inl refl)
+  ends-from dir status.ReadFault r = inr (inr (inl refl))
+  ends-from dir status.WriteFault r = inr (inr (inr (inl refl)))
+  ends-from dir status.NoVolume r = inr (inr (inr (inr (inl refl))))
+  ends-from dir status.Damaged r = inr (inr (inr (inr (inr (inl refl)))))
+  ends-from dir status.NoMemory r = inr (inr (inr (inr (inr (inr refl)))))
+
+  -- over whole frames, and where no read can fail, neither a frame nor a read ends it
+  pub ends_well-from : (s : Status) (number lines : ℕ) → Ran print found host host' t s → CountsReads 0 0 s → IsWellFramed t.input → EndsWith (command.Gen number lines) (number_of s)
+  ends_well-from status.Finished number lines r read well = inl refl
+  ends_well-from status.Usage number lines r read well = absurd r
+  ends_well-from status.BadFrame number lines r read well = absurd (not_refused print r.before r.after t well r.ran)
+  ends_well-from status.ReadFault number lines r (most, inl less) well = absurd (omega (arith, less))
+  ends_well-from status.ReadFault number lines r (most, inr last) well = absurd (omega (arith, last))
+  ends_well-from status.WriteFault number lines r read well = inr (inl refl)
+  ends_well-from status.NoVolume number lines r read well = inr (inr (inl refl))
+  ends_well-from status.Damaged number lines r read well = inr (inr (inr (inl refl)))
+  ends_well-from status.NoMemory number lines r read well = inr (inr (inr (inr refl)))
 
 -- what a command served may be said in another way
-served-map : (asked : Command) (input input' : Option (List ℕ)) (P Q : Option (List ℕ) → Option (List ℕ) → Type 0) → ((served left : Option (List ℕ)) → P served left → Q served left) → ServedBy asked input input' P → ServedBy asked input input' Q
-served-map command.Run input input' P Q f s = f input input' s
-served-map (command.Gen number lines) input input' P Q f s = (s.0, f (Some (generated number lines)) s.0 s.1)
+served-map : (asked : Command) (t : Traffic) (P Q : Traffic → Type 0) → ((served : Traffic) → P served → Q served) → ServedBy asked t P → ServedBy asked t Q
+served-map (command.Run dir) t P Q f s = f t s
+served-map (command.Gen number lines) t P Q f s = (s.0, f (record t { input = Some (generated number lines); left = s.0 }) s.1)
 
-module _ (asked : Command) (input input' output output' : Stream) (host host' : Supply) (s : Status) where
-  -- it was a run with this status
+module _ (asked : Command) (found : Option (List Entry)) (input input' output output' : Stream) (host host' : Supply) (s : Status) where
+  abbrev both : Traffic
+  both = traffic input input' output output'
+
+  -- it ended with this status
   abbrev pub RanBy : Type 0
-  RanBy = Served asked input input' output output' host host' (λ print before clock i i' o o'. Ran print before clock i i' o o' s)
+  RanBy = Served asked found host host' both (λ print o h h' t. Ran print o h h' t s)
 
-  -- and so it was one of a kind
-  of_kind : (R : RunKind) → ((print : Reply → List ℕ) (before : Store) (clock : Timeline) (i i' o o' : Option (List ℕ)) → Ran print before clock i i' o o' s → R print before clock i i' o o') → RanBy → Served asked input input' output output' host host' R
-  of_kind R f r = (
-    r.0,
-    r.1,
-    served-map asked input.input input'.input (λ served left. Ran (prints asked) (no_store (fresh host)) r.0 served left output.output output'.output s) (λ served left. R (prints asked) (no_store (fresh host)) r.0 served left output.output output'.output)
-        (λ served left. f (prints asked) (no_store (fresh host)) r.0 served left output.output output'.output) r.2,
-  )
+  -- and so it did something of a kind
+  of_kind : (R : CommandKind) → ((print : Reply → List ℕ) (t : Traffic) → Ran print found host host' t s → R print found host host' t) → RanBy → Served asked found host host' both R
+  of_kind R f r = served-map asked both (λ t. Ran (prints asked) found host host' t s) (λ t. R (prints asked) found host host' t) (λ t. f (prints asked) t) r
 
   pub did : RanBy → EndsWith asked (number_of s)
-      → (IsServedWell asked input.input → (HasRisen input.reads_failed input'.reads_failed → ⊥) → (HasRisen output.writes_failed output'.writes_failed → ⊥) → (number_of s ≡ 0) ⊎ (number_of s ≡ 7))
-      → Did asked input input' output output' host host' (number_of s)
+      → ((h : List Entry) → found ≡ Some h → IsServedWell asked input.input → NoneFailed input input' output output' host host' → (number_of s ≡ 0) ⊎ (number_of s ≡ 7))
+      → Did asked found input input' output output' host host' (number_of s)
   did r ends complete = record {
     ends = ends;
-    finished = λ e. of_kind FinishedRun (λ print before clock i i' o o' ran. finished-from print before clock i i' o o' s e ran) r;
-    bad_frame = λ e. of_kind RefusedRun (λ print before clock i i' o o' ran. refused-from print before clock i i' o o' s e ran) r;
-    read_fault = λ e. of_kind StoppedRun (λ print before clock i i' o o' ran. stopped-from print before clock i i' o o' s e ran) r;
-    write_fault = λ e. of_kind CutRun (λ print before clock i i' o o' ran. written-from print before clock i i' o o' s e ran) r;
-    no_memory = λ e. of_kind CutRun (λ print before clock i i' o o' ran. out_of_memory-from print before clock i i' o o' s e ran) r;
+    finished = λ e. of_kind (OverStore FinishedRun) (λ print t ran. finished-from print found host host' t s e ran) r;
+    bad_frame = λ e. of_kind (OverStore RefusedRun) (λ print t ran. refused-from print found host host' t s e ran) r;
+    read_fault = λ e. of_kind (OverStore StoppedRun) (λ print t ran. stopped-from print found host host' t s e ran) r;
+    write_fault = λ e. of_kind CutShort (λ print t ran. cut-from print found host host' t s e ran) r;
+    no_volume = λ e. of_kind NoVolume (λ print t ran. no_volume-from print found host host' t s e ran) r;
+    damaged = λ e. of_kind Damaged (λ print t ran. damaged-from print found host host' t s e ran) r;
+    no_memory = λ e. of_kind OutOfMemory (λ print t ran. no_memory-from print found host host' t s e ran) r;
     complete = complete;
   }
 
 -- what `run` did
-pub did-run : (input input' output output' : Stream) (host host' : Supply) (s : Status)
-    → ByHost host host' (λ before clock. Ran reply_bytes before clock input.input input'.input output.output output'.output s) → CountsReads input.reads_failed input'.reads_failed s → CountsWrites output.writes_failed output'.writes_failed s
-    → Did command.Run input input' output output' host host' (number_of s)
-did-run input input' output output' host host' s ran reads writes =
-    did command.Run input input' output output' host host' s ran (ends-from reply_bytes (no_store (fresh host)) ran.0 input.input input'.input output.output output'.output s ran.2)
-    (complete-from reply_bytes (no_store (fresh host)) ran.0 input.input input'.input output.output output'.output s input.reads_failed input'.reads_failed output.writes_failed output'.writes_failed ran.2 reads writes)
-
--- over the generated input, a run that no failed write ends finishes or finds no memory
-generated-complete : (s : Status) (number lines writes writes' : ℕ) → EndsWith (command.Gen number lines) (number_of s) → CountsWrites writes writes' s → (HasRisen writes writes' → ⊥) → (number_of s ≡ 0) ⊎ (number_of s ≡ 7)
-generated-complete s number lines writes writes' (inl e) count none = inl e
-generated-complete s number lines writes writes' (inr (inl e)) count none = absurd (none (write-cause-from s writes writes' e count).1)
-generated-complete s number lines writes writes' (inr (inr e)) count none = inr e
+pub did-run : (dir : Option (List ℕ)) (found : Option (List Entry)) (input input' output output' : Stream) (host host' : Supply) (s : Status) → MayFind found host.shelf
+    → Ran reply_bytes found host host' (traffic input input' output output') s → CountsReads input.reads_failed input'.reads_failed s → CountsWrites output.writes_failed output'.writes_failed s
+    → Did (command.Run dir) found input input' output output' host host' (number_of s)
+did-run dir found input input' output output' host host' s may ran reads writes =
+    did (command.Run dir) found input input' output output' host host' s ran (ends-from reply_bytes found host host' (traffic input input' output output') dir s ran)
+    (λ h is well none. complete-from reply_bytes found host host' (traffic input input' output output') s input.reads_failed input'.reads_failed output.writes_failed output'.writes_failed h is may ran reads writes well none.reads none.writes none.volume)
 
 -- what `gen` did
-pub did-gen : (number lines : ℕ) (input output output' : Stream) (host host' : Supply) (s : Status)
-    → ByHost host host' (λ before clock. OverGenerated number lines (λ served left. Ran (without_done reply_bytes) before clock served left output.output output'.output s)) → EndsWith (command.Gen number lines) (number_of s) → CountsWrites output.writes_failed output'.writes_failed s
-    → Did (command.Gen number lines) input input output output' host host' (number_of s)
-did-gen number lines input output output' host host' s ran ends writes =
-    did (command.Gen number lines) input input output output' host host' s ran ends (λ well no_read no_write. generated-complete s number lines output.writes_failed output'.writes_failed ends writes no_write)
+pub did-gen : (number lines : ℕ) (found : Option (List Entry)) (input output output' : Stream) (host host' : Supply) (s : Status) (left : Option (List ℕ)) → MayFind found host.shelf
+    → Ran (without_done reply_bytes) found host host' (record { input = Some (generated number lines); left = left; output = output.output; written = output'.output }) s → EndsWith (command.Gen number lines) (number_of s) → CountsWrites output.writes_failed output'.writes_failed s
+    → Did (command.Gen number lines) found input input output output' host host' (number_of s)
+did-gen number lines found input output output' host host' s left may ran ends writes =
+    did (command.Gen number lines) found input input output output' host host' s (left, ran) ends (λ h is well none. by s h is ran ends writes none)
+  where
+    t : Traffic
+    t = record { input = Some (generated number lines); left = left; output = output.output; written = output'.output }
+
+    by : (u : Status) (h : List Entry) → found ≡ Some h → Ran (without_done reply_bytes) found host host' t u → EndsWith (command.Gen number lines) (number_of u) → CountsWrites output.writes_failed output'.writes_failed u
+        → NoneFailed input input output output' host host' → (number_of u ≡ 0) ⊎ (number_of u ≡ 7)
+    by u h is r (inl e) count none = inl e
+    by u h is r (inr (inl e)) count none = absurd (none.writes (write-cause-from u output.writes_failed output'.writes_failed e count).1)
+    by u h is r (inr (inr (inl e))) count none = absurd (none.volume (no_volume-from (without_done reply_bytes) found host host' t u e r).1)
+    by u h is r (inr (inr (inr (inl e)))) count none =
+        absurd (never_damaged (without_done reply_bytes) found host host' t h [] (subst (λ (o : Option (List Entry)). MayFind o host.shelf) is may) (damaged-from (without_done reply_bytes) found host host' t u e r))
+    by u h is r (inr (inr (inr (inr e)))) count none = inr e
 
 -- ---- nothing was done
-
--- no bytes spell no request, and wait for one
-nothing-spelled : Steps 0 [] [] (Waiting [] 0 reply_bytes)
-nothing-spelled = (refl, refl, refl, (request.End, frame request.End, tt, omega arith, refl))
-
-took-nothing : (input : Option (List ℕ)) → TakenFrom input input []
-took-nothing None = tt
-took-nothing (Some bytes) = (bytes, refl, refl)
 
 put-nothing : (output : Option (List ℕ)) → PutTo output output []
 put-nothing None = tt
 put-nothing (Some bytes) = ap (λ (x : List ℕ). Some x) (sym (append-nil bytes))
 
-replied-nothing : (clock : Timeline) → Replied (no_store clock) (no_store clock) [] []
-replied-nothing clock = record {
-  legal = record { run = refl; seen = omega arith; end_is_last = tt };
-  own = record { grows = ([], refl); numbers = refl };
-  applies = tt;
-  answers = tt;
-}
+-- a volume that is as it was
+volume-as_it_was : (shelf : Option Disk) → Told shelf shelf IsUnopened
+volume-as_it_was shelf = told_still IsUnopened shelf (λ disk. inl (λ file. refl))
 
-pub nothing-ran : (print : Reply → List ℕ) (clock : Timeline) (input output : Option (List ℕ)) → CutRun print (no_store clock) clock input input output output
-nothing-ran print clock input output = record {
-  taken = [];
-  requests = [];
-  later = [];
-  ending = Waiting [] 0 reply_bytes;
-  replies = [];
-  after = no_store clock;
-  written = [];
-  missing = [];
-  from = took-nothing input;
-  short = omega arith;
-  spelled = nothing-spelled;
-  replied = replied-nothing clock;
-  clock_is = refl;
-  put = put-nothing output;
-  front = inl refl;
-}
+pub nothing-done : (host : Supply) (input output : Option (List ℕ)) → Unopened host host (record { input = input; left = input; output = output; written = output })
+nothing-done host input output = record { unserved = record { unread = refl; put = put-nothing output; clock_faults = refl }; volume = volume-as_it_was host.shelf }
 
-nothing-served : (asked : Command) (print : Reply → List ℕ) (clock : Timeline) (input output : Option (List ℕ)) → ServedBy asked input input (λ served left. CutRun print (no_store clock) clock served left output output)
-nothing-served command.Run print clock input output = nothing-ran print clock input output
-nothing-served (command.Gen number lines) print clock input output = (Some (generated number lines), nothing-ran print clock (Some (generated number lines)) output)
+nothing-served : (asked : Command) (found : Option (List Entry)) (host : Supply) (input output : Option (List ℕ)) → Served asked found host host (record { input = input; left = input; output = output; written = output }) OutOfMemory
+nothing-served (command.Run dir) found host input output = inr (nothing-done host input output)
+nothing-served (command.Gen number lines) found host input output = (Some (generated number lines), inr (nothing-done host (Some (generated number lines)) output))
 
 ends-without_memory : (asked : Command) → EndsWith asked 7
-ends-without_memory command.Run = inr (inr (inr (inr refl)))
-ends-without_memory (command.Gen number lines) = inr (inr refl)
+ends-without_memory (command.Run dir) = inr (inr (inr (inr (inr (inr refl)))))
+ends-without_memory (command.Gen number lines) = inr (inr (inr (inr refl)))
 
 -- no memory was found to read the words, and nothing was done
-pub did-nothing : (asked : Command) (input output : Stream) (host : Supply) → Did asked input input output output host host 7
-did-nothing asked input output host = record {
+pub did-nothing : (asked : Command) (found : Option (List Entry)) (input output : Stream) (host : Supply) → Did asked found input input output output host host 7
+did-nothing asked found input output host = record {
   ends = ends-without_memory asked;
   finished = λ e. absurd (omega (arith, e));
   bad_frame = λ e. absurd (omega (arith, e));
   read_fault = λ e. absurd (omega (arith, e));
   write_fault = λ e. absurd (omega (arith, e));
-  no_memory = λ e. (fresh host, omega arith, nothing-served asked (prints asked) (fresh host) input.input output.output);
-  complete = λ well no_read no_write. inr refl;
+  no_volume = λ e. absurd (omega (arith, e));
+  damaged = λ e. absurd (omega (arith, e));
+  no_memory = λ e. nothing-served asked found host input.input output.output;
+  complete = λ h is well none. inr refl;
 }
 
 -- ---- the generated input
@@ -165,32 +283,38 @@ asks_none found words exact is asked a = let same : None ≡ Some asked = sym is
 
 -- ---- all that is said of the words
 
-number_among : (s : Status) → (number_of s ≡ 0) ⊎ (number_of s ≡ 1) ⊎ (number_of s ≡ 2) ⊎ (number_of s ≡ 3) ⊎ (number_of s ≡ 4) ⊎ (number_of s ≡ 7)
+number_among : (s : Status) → (number_of s ≡ 0) ⊎ (number_of s ≡ 1) ⊎ (number_of s ≡ 2) ⊎ (number_of s ≡ 3) ⊎ (number_of s ≡ 4) ⊎ (number_of s ≡ 5) ⊎ (number_of s ≡ 6) ⊎ (number_of s ≡ 7)
 number_among status.Finished = inl refl
 number_among status.Usage = inr (inl refl)
 number_among status.BadFrame = inr (inr (inl refl))
 number_among status.ReadFault = inr (inr (inr (inl refl)))
 number_among status.WriteFault = inr (inr (inr (inr (inl refl))))
-number_among status.NoMemory = inr (inr (inr (inr (inr refl))))
+number_among status.NoVolume = inr (inr (inr (inr (inr (inl refl)))))
+number_among status.Damaged = inr (inr (inr (inr (inr (inr (inl refl))))))
+number_among status.NoMemory = inr (inr (inr (inr (inr (inr (inr refl))))))
 
 -- no command ends with the number of other words
 not_usage : (asked : Command) (n : ℕ) → EndsWith asked n → n ≡ 1 → ⊥
-not_usage command.Run n (inl e) u = omega (arith, e, u)
-not_usage command.Run n (inr (inl e)) u = omega (arith, e, u)
-not_usage command.Run n (inr (inr (inl e))) u = omega (arith, e, u)
-not_usage command.Run n (inr (inr (inr (inl e)))) u = omega (arith, e, u)
-not_usage command.Run n (inr (inr (inr (inr e)))) u = omega (arith, e, u)
+not_usage (command.Run dir) n (inl e) u = omega (arith, e, u)
+not_usage (command.Run dir) n (inr (inl e)) u = omega (arith, e, u)
+not_usage (command.Run dir) n (inr (inr (inl e))) u = omega (arith, e, u)
+not_usage (command.Run dir) n (inr (inr (inr (inl e)))) u = omega (arith, e, u)
+not_usage (command.Run dir) n (inr (inr (inr (inr (inl e))))) u = omega (arith, e, u)
+not_usage (command.Run dir) n (inr (inr (inr (inr (inr (inl e)))))) u = omega (arith, e, u)
+not_usage (command.Run dir) n (inr (inr (inr (inr (inr (inr e)))))) u = omega (arith, e, u)
 not_usage (command.Gen number lines) n (inl e) u = omega (arith, e, u)
 not_usage (command.Gen number lines) n (inr (inl e)) u = omega (arith, e, u)
-not_usage (command.Gen number lines) n (inr (inr e)) u = omega (arith, e, u)
+not_usage (command.Gen number lines) n (inr (inr (inl e))) u = omega (arith, e, u)
+not_usage (command.Gen number lines) n (inr (inr (inr (inl e)))) u = omega (arith, e, u)
+not_usage (command.Gen number lines) n (inr (inr (inr (inr e)))) u = omega (arith, e, u)
 
 -- what is said of words that ask for one command, which was done
-pub answered-command : (asked : Command) (words : List (List ℕ)) (input input' output output' : Stream) (host host' : Supply) (s : Status) → Asks asked words
-    → Did asked input input' output output' host host' (number_of s)
-    → (Did asked input input' output output' host host' (number_of s) → (other : Command) → Asks other words → Did other input input' output output' host host' (number_of s))
-    → CountsReads input.reads_failed input'.reads_failed s → CountsWrites output.writes_failed output'.writes_failed s → ((Asks command.Run words → ⊥) → input' ≡ input)
-    → Answered words input input' output output' host host' (number_of s)
-answered-command asked words input input' output output' host host' s asks done alone reads writes unread = record {
+pub answered-command : (asked : Command) (words : List (List ℕ)) (found : Option (List Entry)) (input input' output output' : Stream) (host host' : Supply) (s : Status) → Asks asked words
+    → Did asked found input input' output output' host host' (number_of s)
+    → (Did asked found input input' output output' host host' (number_of s) → (other : Command) → Asks other words → Did other found input input' output output' host host' (number_of s))
+    → CountsReads input.reads_failed input'.reads_failed s → CountsWrites output.writes_failed output'.writes_failed s → ((AsksToRun words → ⊥) → input' ≡ input)
+    → Answered words found input input' output output' host host' (number_of s)
+answered-command asked words found input input' output output' host host' s asks done alone reads writes unread = record {
   statuses = number_among s;
   words = λ e known. not_usage asked (number_of s) done.ends e;
   other_words = λ other. absurd (other (asked, asks));
@@ -212,21 +336,25 @@ reads-of-gen status.Usage number lines n e = refl
 reads-of-gen status.BadFrame number lines n e = refl
 reads-of-gen status.ReadFault number lines n (inl e) = absurd (omega (arith, e))
 reads-of-gen status.ReadFault number lines n (inr (inl e)) = absurd (omega (arith, e))
-reads-of-gen status.ReadFault number lines n (inr (inr e)) = absurd (omega (arith, e))
+reads-of-gen status.ReadFault number lines n (inr (inr (inl e))) = absurd (omega (arith, e))
+reads-of-gen status.ReadFault number lines n (inr (inr (inr (inl e)))) = absurd (omega (arith, e))
+reads-of-gen status.ReadFault number lines n (inr (inr (inr (inr e)))) = absurd (omega (arith, e))
 reads-of-gen status.WriteFault number lines n e = refl
+reads-of-gen status.NoVolume number lines n e = refl
+reads-of-gen status.Damaged number lines n e = refl
 reads-of-gen status.NoMemory number lines n e = refl
 
 -- what is said where no memory was found to read the words
-pub answered-nothing : (words : List (List ℕ)) (input output : Stream) (host : Supply) → Answered words input input output output host host 7
-answered-nothing words input output host = record {
-  statuses = inr (inr (inr (inr (inr refl))));
+pub answered-nothing : (words : List (List ℕ)) (found : Option (List Entry)) (input output : Stream) (host : Supply) → Answered words found input input output output host host 7
+answered-nothing words found input output host = record {
+  statuses = inr (inr (inr (inr (inr (inr (inr refl))))));
   words = λ e. absurd (omega (arith, e));
   other_words = λ other. inr refl;
   usage = λ e. absurd (omega (arith, e));
   other_output = λ other. (usage, ([], put-nothing output.output, refl));
   unread = λ other. refl;
   unused = λ other. refl;
-  did = λ asked asks. did-nothing asked input output host;
+  did = λ asked asks. did-nothing asked found input output host;
   read_cause = λ e. absurd (omega (arith, e));
   reads_stay = λ e. refl;
   write_cause = λ e. absurd (omega (arith, e));
@@ -234,5 +362,5 @@ answered-nothing words input output host = record {
 }
 
 -- a status and its number
-pub with_number : {words : List (List ℕ)} {input input' output output' : Stream} {host host' : Supply} {n m : ℕ} → m ≡ n → Answered words input input' output output' host host' n → Answered words input input' output output' host host' m
-with_number {words} {input} {input'} {output} {output'} {host} {host'} e a = subst (λ (k : ℕ). Answered words input input' output output' host host' k) (sym e) a
+pub with_number : {words : List (List ℕ)} {found : Option (List Entry)} {input input' output output' : Stream} {host host' : Supply} {n m : ℕ} → m ≡ n → Answered words found input input' output output' host host' n → Answered words found input input' output output' host host' m
+with_number {words} {found} {input} {input'} {output} {output'} {host} {host'} e a = subst (λ (k : ℕ). Answered words found input input' output output' host host' k) (sym e) a

@@ -1,2 +1,3 @@
 mod RunLemmas
 mod CommandLemmas
+pub mod HostLemmas

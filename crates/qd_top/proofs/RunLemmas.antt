@@ -1,12 +1,14 @@
 -- From what a session over frames says of itself to what a run says.
-use Rattle.std.proofs.Common.{◌≡◌, ℕ, ◌+◌, ◌<◌, ◌≤◌, ◌⊎◌, ◌↔◌, inl, inr, List, [], ◌∷◌, ◌++◌, length, map, take, drop, if◌then◌else◌, nat_eq, Option, Some, None, Ok, Err, refl, sym, ◌∙◌, ap, subst, arith, zero, suc, ◌-◌}
+use Rattle.std.proofs.Common.{◌≡◌, ℕ, ◌+◌, ◌<◌, ◌≤◌, ◌⊎◌, inl, inr, Bool, true, false, ◌==◌, ◌||◌, List, [], ◌∷◌, ◌++◌, length, map, take, drop, Option, Some, None, Ok, Err, refl, sym, ◌∙◌, ap, subst, arith, suc, ◌-◌}
 use Rattle.std.specs.List.{range_with_len}
-use Rattle.std.proofs.lemmas.List.{append-nil, append_assoc, length-append, take-append-drop, take_all}
+use Rattle.std.proofs.lemmas.List.{append-nil, append_assoc, take-append-drop, take_all}
 use Rattle.std.proofs.Math.Seq.{take-append-add}
-use Rattle.qd_host.specs.Hosts.{Supply, after_clock}
-use Rattle.qd_io.specs.Clocks.{Timeline, Times}
-use Rattle.qd_io.specs.Ends.{HasRisen, Stream, WritesAll, counts_together}
+use Rattle.qd_back.specs.Backs.{Back, back_shown}
+use Rattle.qd_io.specs.Clocks.{Timeline}
+use Rattle.qd_io.specs.Ends.{Stream, WritesAll}
 use Rattle.qd_io.specs.declared.fault.IoFault.{IoFault}
+use Rattle.qd_base.specs.Codes.{number_of as code_number}
+use Rattle.qd_base.specs.declared.code.Code.TheVariants as code
 use Rattle.qd_base.specs.declared.limits.TheConstants.{LAST_OFFSET}
 use Rattle.qd_base.specs.declared.op.Entry.{Entry}
 use Rattle.qd_base.specs.declared.request.Request.{Request}
@@ -17,25 +19,17 @@ use Rattle.qd_base.specs.Script.{Protocol, Script, Turn, Asks as AsksTurn, Endin
 use Rattle.qd_session.specs.declared.ended.Ended.{Ended as EndedBy}
 use Rattle.qd_session.specs.declared.ended.Ended.TheVariants as ended
 use Rattle.qd_frames.specs.Frames.{Frames, Steps, frame, frames_protocol}
-use Rattle.qd_gen.specs.Framed.{IsReadAsAsked}
-use Rattle.qd_gen.specs.Generated.{requests, input as generated}
 use Rattle.qd_print.specs.Printed.{reply_bytes}
 use Rattle.qd_quiet.specs.Quieted.{quiet_ending, quiet_protocol, quiet_turn, without_done}
-use Rattle.qd_words.specs.Words.{Asks}
-use Rattle.qd_words.specs.declared.command.Command.{Command}
-use Rattle.qd_words.specs.declared.command.Command.TheVariants as command
-use Rattle.qd_words.specs.declared.command.TheConstants.{MAX_GEN_LINES}
 use Rattle.qd_session.specs.Allowed.{Allowed}
-use Rattle.qd_session.specs.Alone.{AllowedAlone}
-use Rattle.qd_list.specs.Listed.{Listed, listed_shown}
-use Rattle.qd_session.specs.Looks.{Look}
+use Rattle.qd_session.specs.Alone.{AllowedAlone, pends_behind}
+use Rattle.qd_session.specs.Looks.{Extends, Look}
 use Rattle.qd_session.specs.Legal.{Legal, LegalRun, done_numbers}
 use Rattle.qd_session.specs.Session.{Dialogue, Faults, IsBad, IsClean, IsCutShort, IsWaiting, Moment, Moves, PutTo, Serves, TakenFrom, moment, refusal, requests_in, transcript, with_turns}
 use Rattle.qd_top.specs.Frames.{EndsAs, SaysFrames, SpellsFrames, asked_by}
-use Rattle.qd_top.specs.Run.{Answered, AnswersLast, AppliesAll, ByHost, CountsReads, CountsWrites, CutRun, Did, EndsWith, FinishedRun, IsServedWell, IsWellFramed, OverGenerated, Ran, RefusedRun, Replied, Run, RunKind, Served, ServedBy, StoppedRun, Store, WroteUsage, fresh, look_of, no_store, printed, prints, reached, usage}
-use Rattle.qd_top.specs.Status.{number_of, status_of}
-use Rattle.qd_top.specs.declared.status.Status.{Status}
-use Rattle.qd_top.specs.declared.status.Status.TheVariants as status
+use Rattle.qd_top.specs.Run.{AnswersLast, AppliesAll, CountsReads, CountsWrites, CutRun, IsWellFramed, RanOver, RefusedRun, Replied, Run, Store, Traffic, WroteUsage, look_of, pends_after, printed, reached, traffic, usage}
+use Rattle.qd_top.specs.Status.{status_of}
+use Rattle.qd_top.specs.Stores.{store_of}
 
 -- the requests of turns that ask them
 requests_in-asked : (print : Reply → List ℕ) (rs : List Request) → requests_in (asked_by print rs) ≡ rs
@@ -164,25 +158,7 @@ quiet-spell-frames f new = subst (λ (x : Frames). SpellsFrames (without_done re
   spelled = h.1.2;
 })
 
--- What is there of a history behind its first c transactions, and how far the session has looked: no further than its own
--- transactions go, so each apply gives the number of these.
-record Counted (c k : ℕ) (replies : List Reply) : Type 0 where
-  most : k ≤ c
-  applies : AppliesAll c replies
-
-range_empty : (a n : ℕ) → [] ≡ range_with_len a n → n ≡ 0
-range_empty a zero e = refl
-range_empty a (suc n) e = absurd (cc (e))
-
--- the first of a range, and what is left of it
-record First (m : ℕ) (ms : List ℕ) (a n : ℕ) : Type 0 where
-  some : 0 < n
-  first_is : m ≡ a
-  rest : ms ≡ range_with_len (a + 1) (n - 1)
-
-range_first : (m : ℕ) (ms : List ℕ) (a n : ℕ) → m ∷ ms ≡ range_with_len a n → First m ms a n
-range_first m ms a zero e = absurd (cc (e))
-range_first m ms a (suc n) e = let tail : ms ≡ range_with_len (a + 1) n = cc (e) in record { some = omega arith; first_is = cc (e); rest = tail ∙ ap (λ (x : ℕ). range_with_len (a + 1) x) (omega arith) }
+-- ---- what one session alone does to the numbers
 
 -- what an acknowledgement, and an apply, say of the numbers
 done-says : (h : Option (List Entry)) (a b : Look) (time : ℕ) (q : Request) (m : ℕ) → Allowed h a b time q (reply.Done m) → (m ≡ b.sequenced) × (a.sequenced < m)
@@ -197,32 +173,54 @@ applied-says h a b time (request.Sql text) m x = absurd x
 applied-says h a b time request.Apply m x = (x.1, x.2)
 applied-says h a b time request.End m x = absurd x
 
-counted : (h : List Entry) (c : ℕ) (from : Look) (requests : List Request) (replies : List Reply) (upto : Look) → LegalRun Allowed (Some h) from requests replies upto → upto.sequenced ≤ length h → done_numbers replies ≡ range_with_len (c + 1) (length h - c) → c ≤ from.sequenced → Counted c from.sequenced replies
-counted h c from [] [] upto r le own low =
+-- the acknowledged numbers follow one another, from the first behind those that were there
+record Counted (from upto : ℕ) (replies : List Reply) : Type 0 where
+  grows : from ≤ upto
+  numbers : done_numbers replies ≡ range_with_len (from + 1) (upto - from)
+
+same_numbers : (from now upto : ℕ) (replies : List Reply) → now ≡ from → Counted now upto replies → Counted from upto replies
+same_numbers from now upto replies is c = subst (λ (n : ℕ). Counted n upto replies) is c
+
+next_number : (from now upto m : ℕ) (replies : List Reply) → m ≡ now → now ≡ from + 1 → Counted now upto replies → Counted from upto (reply.Done m ∷ replies)
+next_number from now upto m replies is more c =
+    let le = c.grows in
+    let size : upto - from ≡ suc (upto - now) = omega (arith, more, le) in
+    record {
+      grows = omega (arith, more, le);
+      numbers = ap (λ (l : List ℕ). m ∷ l) (c.numbers ∙ ap (λ (n : ℕ). range_with_len (n + 1) (upto - now)) more)
+          ∙ ap (λ (n : ℕ). n ∷ range_with_len (from + 1 + 1) (upto - now)) (is ∙ more) ∙ ap (λ (n : ℕ). range_with_len (from + 1) n) (sym size);
+    }
+
+counted : (h : Option (List Entry)) (from : Look) (requests : List Request) (replies : List Reply) (upto : Look) → LegalRun AllowedAlone h from requests replies upto → Counted from.sequenced upto.sequenced replies
+counted h from [] [] upto r =
     let same : upto.sequenced ≡ from.sequenced = ap (λ (x : Look). x.sequenced) r in
-    record { most = omega (arith, range_empty (c + 1) (length h - c) own, same, le); applies = tt }
-counted h c from [] (t ∷ replies) upto r le own low = absurd r
-counted h c from (q ∷ requests) [] upto r le own low = absurd r
-counted h c from (q ∷ requests) (reply.Done m ∷ replies) upto r le own low =
-    let f = range_first m (done_numbers replies) (c + 1) (length h - c) own in
-    let says = done-says (Some h) from r.0 r.1 q m r.4 in
-    let rest : done_numbers replies ≡ range_with_len (c + 1 + 1) (length h - (c + 1)) = f.rest ∙ ap (λ (x : ℕ). range_with_len (c + 1 + 1) x) (omega arith) in
-    let later = counted h (c + 1) r.0 requests replies upto r.5 le rest (omega (arith, says.0, f.first_is)) in
-    record { most = omega (arith, says.1, f.first_is); applies = later.applies }
-counted h c from (q ∷ requests) (reply.Applied m ∷ replies) upto r le own low =
-    let says = applied-says (Some h) from r.0 r.1 q m r.4 in
-    let later = counted h c r.0 requests replies upto r.5 le own (omega (arith, r.2.sequenced)) in
-    record { most = omega (arith, r.2.sequenced, later.most); applies = (omega (arith, r.2.sequenced, later.most, says.0, says.1), later.applies) }
-counted h c from (q ∷ requests) (reply.Rows m table ∷ replies) upto r le own low =
-    let later = counted h c r.0 requests replies upto r.5 le own (omega (arith, r.2.sequenced)) in record { most = omega (arith, r.2.sequenced, later.most); applies = later.applies }
-counted h c from (q ∷ requests) (reply.Refused number place ∷ replies) upto r le own low =
-    let later = counted h c r.0 requests replies upto r.5 le own (omega (arith, r.2.sequenced)) in record { most = omega (arith, r.2.sequenced, later.most); applies = later.applies }
-counted h c from (q ∷ requests) (reply.QueryRefused m number place ∷ replies) upto r le own low =
-    let later = counted h c r.0 requests replies upto r.5 le own (omega (arith, r.2.sequenced)) in record { most = omega (arith, r.2.sequenced, later.most); applies = later.applies }
-counted h c from (q ∷ requests) (reply.Damaged file at ∷ replies) upto r le own low =
-    let later = counted h c r.0 requests replies upto r.5 le own (omega (arith, r.2.sequenced)) in record { most = omega (arith, r.2.sequenced, later.most); applies = later.applies }
-counted h c from (q ∷ requests) (reply.Bye ∷ replies) upto r le own low =
-    let later = counted h c r.0 requests replies upto r.5 le own (omega (arith, r.2.sequenced)) in record { most = omega (arith, r.2.sequenced, later.most); applies = later.applies }
+    let none : 0 ≡ upto.sequenced - from.sequenced = omega (arith, same) in
+    record { grows = omega (arith, same); numbers = ap (λ (n : ℕ). range_with_len (from.sequenced + 1) n) none }
+counted h from [] (t ∷ replies) upto r = absurd r
+counted h from (q ∷ requests) [] upto r = absurd r
+counted h from (q ∷ requests) (reply.Done m ∷ replies) upto r = next_number from.sequenced _ _ m replies (done-says h from r.0 r.1 q m r.4.0).0 r.4.2 (counted h r.0 requests replies upto r.5)
+counted h from (q ∷ requests) (reply.Applied m ∷ replies) upto r = let c = same_numbers from.sequenced _ _ replies r.4.2 (counted h r.0 requests replies upto r.5) in record { grows = c.grows; numbers = c.numbers }
+counted h from (q ∷ requests) (reply.Rows m table ∷ replies) upto r = let c = same_numbers from.sequenced _ _ replies r.4.2 (counted h r.0 requests replies upto r.5) in record { grows = c.grows; numbers = c.numbers }
+counted h from (q ∷ requests) (reply.Refused number place ∷ replies) upto r = let c = same_numbers from.sequenced _ _ replies r.4.2 (counted h r.0 requests replies upto r.5) in record { grows = c.grows; numbers = c.numbers }
+counted h from (q ∷ requests) (reply.QueryRefused m number place ∷ replies) upto r = let c = same_numbers from.sequenced _ _ replies r.4.2 (counted h r.0 requests replies upto r.5) in record { grows = c.grows; numbers = c.numbers }
+counted h from (q ∷ requests) (reply.Damaged file at ∷ replies) upto r = let c = same_numbers from.sequenced _ _ replies r.4.2 (counted h r.0 requests replies upto r.5) in record { grows = c.grows; numbers = c.numbers }
+counted h from (q ∷ requests) (reply.Bye ∷ replies) upto r = let c = same_numbers from.sequenced _ _ replies r.4.2 (counted h r.0 requests replies upto r.5) in record { grows = c.grows; numbers = c.numbers }
+
+-- each apply gives all that were acknowledged before it
+applies-all : (h : Option (List Entry)) (from : Look) (requests : List Request) (replies : List Reply) (upto : Look) → LegalRun AllowedAlone h from requests replies upto → AppliesAll from.sequenced replies
+applies-all h from [] [] upto r = tt
+applies-all h from [] (t ∷ replies) upto r = absurd r
+applies-all h from (q ∷ requests) [] upto r = absurd r
+applies-all h from (q ∷ requests) (reply.Done m ∷ replies) upto r = subst (λ (n : ℕ). AppliesAll n replies) r.4.2 (applies-all h r.0 requests replies upto r.5)
+applies-all h from (q ∷ requests) (reply.Applied m ∷ replies) upto r =
+    let says = applied-says h from r.0 r.1 q m r.4.0 in
+    let same = r.4.2 in
+    (omega (arith, says.0, says.1, same), subst (λ (n : ℕ). AppliesAll n replies) r.4.2 (applies-all h r.0 requests replies upto r.5))
+applies-all h from (q ∷ requests) (reply.Rows m table ∷ replies) upto r = subst (λ (n : ℕ). AppliesAll n replies) r.4.2 (applies-all h r.0 requests replies upto r.5)
+applies-all h from (q ∷ requests) (reply.Refused number place ∷ replies) upto r = subst (λ (n : ℕ). AppliesAll n replies) r.4.2 (applies-all h r.0 requests replies upto r.5)
+applies-all h from (q ∷ requests) (reply.QueryRefused m number place ∷ replies) upto r = subst (λ (n : ℕ). AppliesAll n replies) r.4.2 (applies-all h r.0 requests replies upto r.5)
+applies-all h from (q ∷ requests) (reply.Damaged file at ∷ replies) upto r = subst (λ (n : ℕ). AppliesAll n replies) r.4.2 (applies-all h r.0 requests replies upto r.5)
+applies-all h from (q ∷ requests) (reply.Bye ∷ replies) upto r = subst (λ (n : ℕ). AppliesAll n replies) r.4.2 (applies-all h r.0 requests replies upto r.5)
 
 -- each query is over the last apply
 answers-last : (h : Option (List Entry)) (from : Look) (requests : List Request) (replies : List Reply) (upto : Look) → LegalRun AllowedAlone h from requests replies upto → AnswersLast from.known replies
@@ -240,39 +238,60 @@ answers-last h from (q ∷ requests) (reply.Refused number place ∷ replies) up
 answers-last h from (q ∷ requests) (reply.Damaged file at ∷ replies) upto r = subst (λ (n : ℕ). AnswersLast n replies) r.4.1 (answers-last h r.0 requests replies upto r.5)
 answers-last h from (q ∷ requests) (reply.Bye ∷ replies) upto r = subst (λ (n : ℕ). AnswersLast n replies) r.4.1 (answers-last h r.0 requests replies upto r.5)
 
--- what the rule of a list allows, that of the product does
-product-run : (h : Option (List Entry)) (from : Look) (requests : List Request) (replies : List Reply) (upto : Look) → LegalRun AllowedAlone h from requests replies upto → LegalRun Allowed h from requests replies upto
-product-run h from [] [] upto r = r
-product-run h from (q ∷ requests) (t ∷ replies) upto r = (r.0, r.1, r.2, r.3, r.4.0, product-run h r.0 requests replies upto r.5)
-product-run h from [] (t ∷ replies) upto r = absurd r
-product-run h from (q ∷ requests) [] upto r = absurd r
+-- what a reply leaves open, it leaves open where more was
+or_more : (x p q : Bool) → (p ≡ true → q ≡ true) → (x || p) ≡ true → (x || q) ≡ true
+or_more true p q more e = refl
+or_more false p q more e = more e
 
--- a store as a list
-abbrev stored : Store → Listed
-stored s = record { history = s.history; applied = s.applied }
+behind_more : (t : Reply) (p q : Bool) → (p ≡ true → q ≡ true) → pends_behind p t ≡ true → pends_behind q t ≡ true
+behind_more (reply.Done n) p q more e = e
+behind_more (reply.Refused number place) p q more e = or_more (number == code_number code.Volume || number == code_number code.Memory) p q more e
+behind_more (reply.Rows n table) p q more e = more e
+behind_more (reply.Applied n) p q more e = more e
+behind_more (reply.QueryRefused n number place) p q more e = more e
+behind_more (reply.Damaged file at) p q more e = more e
+behind_more reply.Bye p q more e = more e
 
--- the replies of a session alone over a store that began empty
-replied-from_legal : (start : Timeline) (after : Store) (requests : List Request) (replies : List Reply) → Legal AllowedAlone (Some after.history) (look_of (no_store start)) (look_of after) requests replies → range_with_len 1 (length after.history) ≡ done_numbers replies → Replied (no_store start) after requests replies
-replied-from_legal start after requests replies l own =
-    let run = product-run (Some after.history) (look_of (no_store start)) requests replies (look_of after) l.run in
-    let numbers : done_numbers replies ≡ range_with_len (0 + 1) (length after.history - 0) = sym own ∙ ap (λ (x : ℕ). range_with_len 1 x) (omega arith) in
-    record {
-      legal = record { run = run; seen = l.seen; end_is_last = l.end_is_last };
-      own = record { grows = (after.history, refl); numbers = numbers };
-      applies = (counted after.history 0 (look_of (no_store start)) requests replies (look_of after) run l.seen numbers (omega arith)).applies;
-      answers = answers-last (Some after.history) (look_of (no_store start)) requests replies (look_of after) l.run;
-    }
+after_more : (p q : Bool) (replies : List Reply) → (p ≡ true → q ≡ true) → pends_after p replies ≡ true → pends_after q replies ≡ true
+after_more p q [] more e = more e
+after_more p q (t ∷ replies) more e = after_more (pends_behind p t) (pends_behind q t) replies (behind_more t p q more) e
+
+-- none is left but by a reply that says so
+pends : (h : Option (List Entry)) (from : Look) (requests : List Request) (replies : List Reply) (upto : Look) → LegalRun AllowedAlone h from requests replies upto → upto.pending ≡ true → pends_after from.pending replies ≡ true
+pends h from [] [] upto r left = sym (ap (λ (x : Look). x.pending) r) ∙ left
+pends h from [] (t ∷ replies) upto r left = absurd r
+pends h from (q ∷ requests) [] upto r left = absurd r
+pends h from (q ∷ requests) (t ∷ replies) upto r left = after_more r.0.pending (pends_behind from.pending t) replies r.4.3 (pends h r.0 requests replies upto r.5 left)
+
+-- the replies of a session alone over a store
+pub replied-from_legal : (before after : Store) (requests : List Request) (replies : List Reply) → Extends before.history after.history → Legal AllowedAlone after.history (look_of before) (look_of after) requests replies → Replied before after requests replies
+replied-from_legal before after requests replies grows l = record {
+  legal = l;
+  own = record { grows = grows; numbers = (counted after.history (look_of before) requests replies (look_of after) l.run).numbers };
+  applies = applies-all after.history (look_of before) requests replies (look_of after) l.run;
+  answers = answers-last after.history (look_of before) requests replies (look_of after) l.run;
+  settled = pends after.history (look_of before) requests replies (look_of after) l.run;
+}
 
 -- every text goes on to some script
 abbrev Total : Protocol → Type 0
 Total p = (more : List ℕ) → (s : Script) × p.spells more s
 
-module _ (print : Reply → List ℕ) (first later : Protocol) (reads : SpellsFrames print first) (total : Total later) (start : Timeline) (after : Store) (wire wire' : Stream) where
+module _ (print : Reply → List ℕ) (first later : Protocol) (reads : SpellsFrames print first) (total : Total later) (b b' : Back) (c c' : Timeline) (grows : Extends b.parts.history b'.parts.history) (wire wire' : Stream) where
+  abbrev before : Store
+  before = store_of b c
+
+  abbrev after : Store
+  after = store_of b' c'
+
+  abbrev moved_by : Traffic
+  moved_by = traffic wire wire' wire wire'
+
   abbrev first_moment : Moment
-  first_moment = moment first (listed_shown (stored (no_store start))) wire start
+  first_moment = moment first (back_shown b) wire c
 
   abbrev last_moment : Moment
-  last_moment = moment later (listed_shown (stored after)) wire' after.clock
+  last_moment = moment later (back_shown b') wire' c'
 
   abbrev Whole : List ℕ → Type 0
   Whole taken = Dialogue AllowedAlone first_moment last_moment taken
@@ -282,29 +301,27 @@ module _ (print : Reply → List ℕ) (first later : Protocol) (reads : SpellsFr
   said taken d = reads taken d.script d.spelled
 
   legal_of : (turns : List Turn) (rs : List Request) (replies : List Reply) → turns ≡ asked_by print rs
-      → Legal AllowedAlone (Some after.history) (look_of (no_store start)) (look_of after) (requests_in turns) replies → Legal AllowedAlone (Some after.history) (look_of (no_store start)) (look_of after) rs replies
-  legal_of turns rs replies e l = subst (λ (x : List Request). Legal AllowedAlone (Some after.history) (look_of (no_store start)) (look_of after) x replies) (ap requests_in e ∙ requests_in-asked print rs) l
+      → Legal AllowedAlone after.history (look_of before) (look_of after) (requests_in turns) replies → Legal AllowedAlone after.history (look_of before) (look_of after) rs replies
+  legal_of turns rs replies e l = subst (λ (x : List Request). Legal AllowedAlone after.history (look_of before) (look_of after) x replies) (ap requests_in e ∙ requests_in-asked print rs) l
 
   -- a whole session is a run
-  abbrev run_of : (taken : List ℕ) → TakenFrom wire.input wire'.input taken → length taken ≤ LAST_OFFSET → Whole taken → Run (no_store start) after.clock wire.input wire'.input
+  abbrev run_of : (taken : List ℕ) → TakenFrom wire.input wire'.input taken → length taken ≤ LAST_OFFSET → Whole taken → Run before after moved_by
   run_of taken from short d = record {
     taken = taken;
     requests = (said taken d).requests;
     ending = (said taken d).ending;
     replies = d.replies;
-    after = after;
     from = from;
     short = short;
     spelled = (said taken d).spelled;
-    replied = replied-from_legal start after (said taken d).requests d.replies (legal_of d.script.turns (said taken d).requests d.replies (said taken d).turns_are d.legal) d.own;
-    clock_is = refl;
+    replied = replied-from_legal before after (said taken d).requests d.replies grows (legal_of d.script.turns (said taken d).requests d.replies (said taken d).turns_are d.legal);
   }
 
   -- the bytes of turns with their replies are the replies, printed
   written_as : (turns : List Turn) (rs : List Request) (replies : List Reply) → turns ≡ asked_by print rs
-      → Legal AllowedAlone (Some after.history) (look_of (no_store start)) (look_of after) (requests_in turns) replies → transcript turns replies ≡ printed print replies
+      → Legal AllowedAlone after.history (look_of before) (look_of after) (requests_in turns) replies → transcript turns replies ≡ printed print replies
   written_as turns rs replies e l =
-      ap (λ (ts : List Turn). transcript ts replies) e ∙ transcript-asked print rs replies (matches (Some after.history) (look_of (no_store start)) rs replies (look_of after) (legal_of turns rs replies e l).run)
+      ap (λ (ts : List Turn). transcript ts replies) e ∙ transcript-asked print rs replies (matches after.history (look_of before) rs replies (look_of after) (legal_of turns rs replies e l).run)
 
   written_is : (taken : List ℕ) (d : Whole taken) → transcript d.script.turns d.replies ≡ printed print d.replies
   written_is taken d = written_as d.script.turns (said taken d).requests d.replies (said taken d).turns_are d.legal
@@ -320,27 +337,25 @@ module _ (print : Reply → List ℕ) (first later : Protocol) (reads : SpellsFr
   refused_is taken d place f e = ap (λ (x : List ℕ). x ++ f (refusal place)) (written_is taken d) ∙ ap (λ (x : List ℕ). printed print d.replies ++ x) e
 
   cut_of : (taken written : List ℕ) → Moves wire wire' taken written → length taken ≤ LAST_OFFSET
-      → IsCutShort AllowedAlone first_moment last_moment taken written → CutRun print (no_store start) after.clock wire.input wire'.input wire.output wire'.output
-  cut_of taken written moved short (inl (b, missing, e)) =
-      let t = total (b.unfed ++ []) in
-      let q = reads (taken ++ []) (with_turns b.turns t.0) (b.begins [] t.0 t.1) in
-      let s = split_asked print b.turns t.0.turns q.requests q.turns_are in
+      → IsCutShort AllowedAlone first_moment last_moment taken written → CutRun print before after moved_by
+  cut_of taken written moved short (inl (g, missing, e)) =
+      let t = total (g.unfed ++ []) in
+      let q = reads (taken ++ []) (with_turns g.turns t.0) (g.begins [] t.0 t.1) in
+      let s = split_asked print g.turns t.0.turns q.requests q.turns_are in
       record {
         taken = taken;
         requests = s.front;
         later = s.later;
         ending = q.ending;
-        replies = b.replies;
-        after = after;
+        replies = g.replies;
         written = written;
         missing = missing;
         from = moved.from;
         short = short;
         spelled = subst (λ (rs : List Request). Steps 0 taken rs q.ending) s.whole (subst (λ (x : List ℕ). Steps 0 x q.requests q.ending) (append-nil taken) q.spelled);
-        replied = replied-from_legal start after s.front b.replies (legal_of b.turns s.front b.replies s.turns_are b.legal) b.own;
-        clock_is = refl;
+        replied = replied-from_legal before after s.front g.replies grows (legal_of g.turns s.front g.replies s.turns_are g.legal);
         put = moved.to;
-        front = inl (sym (written_as b.turns s.front b.replies s.turns_are b.legal) ∙ e);
+        front = inl (sym (written_as g.turns s.front g.replies s.turns_are g.legal) ∙ e);
       }
   cut_of taken written moved short (inr (inl (d, missing, e))) =
       let r = run_of taken moved.from short d in
@@ -350,14 +365,12 @@ module _ (print : Reply → List ℕ) (first later : Protocol) (reads : SpellsFr
         later = [];
         ending = r.ending;
         replies = r.replies;
-        after = after;
         written = written;
         missing = missing;
         from = moved.from;
         short = short;
         spelled = subst (λ (rs : List Request). Steps 0 taken rs r.ending) (sym (append-nil r.requests)) r.spelled;
         replied = r.replied;
-        clock_is = refl;
         put = moved.to;
         front = inl (sym (written_is taken d) ∙ e);
       }
@@ -370,19 +383,17 @@ module _ (print : Reply → List ℕ) (first later : Protocol) (reads : SpellsFr
         later = [];
         ending = r.ending;
         replies = r.replies;
-        after = after;
         written = written;
         missing = missing;
         from = moved.from;
         short = short;
         spelled = subst (λ (rs : List Request). Steps 0 taken rs r.ending) (sym (append-nil r.requests)) r.spelled;
         replied = r.replied;
-        clock_is = refl;
         put = moved.to;
         front = inr (refl, place, refused.bad, sym (refused_is taken d place f refused.bytes) ∙ e);
       }
 
-  ran : (how : EndedBy) → Serves AllowedAlone first_moment last_moment how → Ran print (no_store start) after.clock wire.input wire'.input wire.output wire'.output (status_of how)
+  pub ran : (how : EndedBy) → Serves AllowedAlone first_moment last_moment how → RanOver print before after moved_by (status_of how)
   ran ended.Finished s =
       let c = s.concluded in (
         run_of s.taken s.moved.from s.short c.0,
@@ -406,15 +417,6 @@ module _ (print : Reply → List ℕ) (first later : Protocol) (reads : SpellsFr
   ran ended.WriteFault s = cut_of s.taken s.written s.moved s.short s.concluded
   ran ended.Memory s = cut_of s.taken s.written s.moved s.short s.concluded
 
-  -- the same, where the list is known to be new by equations
-  pub ran-from_serves : (l : Listed) (how : EndedBy) → l.history ≡ [] → l.applied ≡ 0
-      → Serves AllowedAlone (moment first (listed_shown l) wire start) last_moment how
-      → Ran print (no_store start) after.clock wire.input wire'.input wire.output wire'.output (status_of how)
-  ran-from_serves l how eh en s =
-      ran how
-      (subst (λ (x : List Entry). Serves AllowedAlone (moment first (listed_shown (record { history = x; applied = 0 })) wire start) last_moment how) eh
-      (subst (λ (x : ℕ). Serves AllowedAlone (moment first (listed_shown (record { history = l.history; applied = x })) wire start) last_moment how) en s))
-
 -- the usage line was written, or a prefix of it
 pub usage-from_writes_all : (before now : Option (List ℕ)) (line : List ℕ) → line ≡ usage → WritesAll {T = Unit {0}} {E = IoFault} before now line (Ok tt) → WroteUsage before now []
 usage-from_writes_all None now line e h = (usage, tt, sym (append-nil usage))
@@ -423,6 +425,11 @@ usage-from_writes_all (Some before) now line e h = (line, h, sym e ∙ sym (appe
 pub usage-from_fault : (before now : Option (List ℕ)) (line : List ℕ) (f : IoFault) → line ≡ usage → WritesAll {T = Unit {0}} {E = IoFault} before now line (Err f) → (missing : List ℕ) × WroteUsage before now missing
 usage-from_fault None now line f e h = ([], (usage, tt, sym (append-nil usage)))
 usage-from_fault (Some before) now line f e h = (drop h.0 line, (take h.0 line, h.2, sym e ∙ sym (take-append-drop h.0 line)))
+
+-- a line was written as far as it was
+pub cut-from_fault : (was now : Option (List ℕ)) (line whole : List ℕ) (f : IoFault) → line ≡ whole → WritesAll {T = Unit {0}} {E = IoFault} was now line (Err f) → (bytes missing : List ℕ) × PutTo was now bytes × (whole ≡ bytes ++ missing)
+cut-from_fault None now line whole f e h = (whole, [], tt, sym (append-nil whole))
+cut-from_fault (Some was) now line whole f e h = (take h.0 line, drop h.0 line, h.2, sym e ∙ sym (take-append-drop h.0 line))
 
 -- bytes that begin no request at some place begin none there where more follows
 malformed_more : (at : ℕ) (a b : List ℕ) (rs : List Request) (place : ℕ) (f : Reply → List ℕ) → Steps at a rs (Malformed place f) → Steps at (a ++ b) rs (Malformed place f)
@@ -459,86 +466,12 @@ module _ (bytes taken left : List ℕ) (rs : List Request) (place : ℕ) (whole 
   not_bad (Malformed at f) s bad =
       well rs (Malformed at f) (subst (λ (x : List ℕ). Steps 0 x rs (Malformed at f)) (sym reached_is) (malformed_more 0 taken (take (LAST_OFFSET - length taken) left) rs at f s))
 
-not_refused : (print : Reply → List ℕ) (before : Store) (clock : Timeline) (input input' output output' : Option (List ℕ)) → IsWellFramed input → RefusedRun print before clock input input' output output' → ⊥
-not_refused print before clock None input' output output' well r = well
-not_refused print before clock (Some bytes) input' output output' well (r, place, bad, put) = not_bad bytes r.taken r.from.0 r.requests place r.from.2 r.short well r.ending r.spelled bad
-
--- the status of a number
-status_with : ℕ → Status
-status_with n =
-    if nat_eq n 0
-    then status.Finished
-    else if nat_eq n 1
-    then status.Usage
-    else if nat_eq n 2
-    then status.BadFrame
-    else if nat_eq n 3
-    then status.ReadFault
-    else if nat_eq n 4
-    then status.WriteFault
-    else status.NoMemory
-
-status_with-number_of : (s : Status) → status_with (number_of s) ≡ s
-unfolding status_with
-status_with-number_of status.Finished = refl
-status_with-number_of status.Usage = refl
-status_with-number_of status.BadFrame = refl
-status_with-number_of status.ReadFault = refl
-status_with-number_of status.WriteFault = refl
-status_with-number_of status.NoMemory = refl
-
--- each number is that of one status alone
-one_status : (s t : Status) → number_of s ≡ number_of t → s ≡ t
-one_status s t e = sym (status_with-number_of s) ∙ ap status_with e ∙ status_with-number_of t
-
-module _ (print : Reply → List ℕ) (before : Store) (clock : Timeline) (input input' output output' : Option (List ℕ)) where
-  -- what a run with the number of a status is
-  is_run_of : (s t : Status) → number_of s ≡ number_of t → Ran print before clock input input' output output' s → Ran print before clock input input' output output' t
-  is_run_of s t e r = subst (λ (u : Status). Ran print before clock input input' output output' u) (one_status s t e) r
-
-  pub finished-from : (s : Status) → number_of s ≡ 0 → Ran print before clock input input' output output' s → FinishedRun print before clock input input' output output'
-  finished-from s e r = is_run_of s status.Finished e r
-
-  pub refused-from : (s : Status) → number_of s ≡ 2 → Ran print before clock input input' output output' s → RefusedRun print before clock input input' output output'
-  refused-from s e r = is_run_of s status.BadFrame e r
-
-  pub stopped-from : (s : Status) → number_of s ≡ 3 → Ran print before clock input input' output output' s → StoppedRun print before clock input input' output output'
-  stopped-from s e r = is_run_of s status.ReadFault e r
-
-  pub written-from : (s : Status) → number_of s ≡ 4 → Ran print before clock input input' output output' s → CutRun print before clock input input' output output'
-  written-from s e r = is_run_of s status.WriteFault e r
-
-  pub out_of_memory-from : (s : Status) → number_of s ≡ 7 → Ran print before clock input input' output output' s → CutRun print before clock input input' output output'
-  out_of_memory-from s e r = is_run_of s status.NoMemory e r
-
-  -- over whole frames, and where no count rises, a run finishes or finds no memory
-  pub complete-from : (s : Status) (reads reads' writes writes' : ℕ) → Ran print before clock input input' output output' s → CountsReads reads reads' s → CountsWrites writes writes' s
-      → IsWellFramed input → (HasRisen reads reads' → ⊥) → (HasRisen writes writes' → ⊥) → (number_of s ≡ 0) ⊎ (number_of s ≡ 7)
-  complete-from status.Finished reads reads' writes writes' r read write well no_read no_write = inl refl
-  complete-from status.Usage reads reads' writes writes' r read write well no_read no_write = absurd r
-  complete-from status.BadFrame reads reads' writes writes' r read write well no_read no_write = absurd (not_refused print before clock input input' output output' well r)
-  complete-from status.ReadFault reads reads' writes writes' r read write well no_read no_write = absurd (no_read read.1)
-  complete-from status.WriteFault reads reads' writes writes' r read write well no_read no_write = absurd (no_write write.1)
-  complete-from status.NoMemory reads reads' writes writes' r read write well no_read no_write = inr refl
-
-  -- a run doesn't end with the status of other words
-  pub ends-from : (s : Status) → Ran print before clock input input' output output' s → EndsWith command.Run (number_of s)
-  ends-from status.Finished r = inl refl
-  ends-from status.Usage r = absurd r
-  ends-from status.BadFrame r = inr (inl refl)
-  ends-from status.ReadFault r = inr (inr (inl refl))
-  ends-from status.WriteFault r = inr (inr (inr (inl refl)))
-  ends-from status.NoMemory r = inr (inr (inr (inr refl)))
-
-  -- over whole frames, and where no read can fail, neither a frame nor a read ends it
-  pub ends_well-from : (s : Status) (number lines : ℕ) → Ran print before clock input input' output output' s → CountsReads 0 0 s → IsWellFramed input → EndsWith (command.Gen number lines) (number_of s)
-  ends_well-from status.Finished number lines r read well = inl refl
-  ends_well-from status.Usage number lines r read well = absurd r
-  ends_well-from status.BadFrame number lines r read well = absurd (not_refused print before clock input input' output output' well r)
-  ends_well-from status.ReadFault number lines r (most, inl less) well = absurd (omega (arith, less))
-  ends_well-from status.ReadFault number lines r (most, inr last) well = absurd (omega (arith, last))
-  ends_well-from status.WriteFault number lines r read well = inr (inl refl)
-  ends_well-from status.NoMemory number lines r read well = inr (inr refl)
+pub not_refused : (print : Reply → List ℕ) (before after : Store) (t : Traffic) → IsWellFramed t.input → RefusedRun print before after t → ⊥
+not_refused print before after t well (r, place, bad, put) = by t.input well r.from bad
+  where
+    by : (input : Option (List ℕ)) → IsWellFramed input → TakenFrom input t.left r.taken → IsBad input r.taken r.ending place reply_bytes → ⊥
+    by None well from bad = well
+    by (Some bytes) well from bad = not_bad bytes r.taken from.0 r.requests place from.2 r.short well r.ending r.spelled bad
 
 -- the counts of a session are those of its status
 pub reads-from_faults : (a b : Stream) (how : EndedBy) → Faults a b (Some how) → CountsReads a.reads_failed b.reads_failed (status_of how)
@@ -554,41 +487,3 @@ writes-from_faults a b ended.BadFrame f = f.writes
 writes-from_faults a b ended.ReadFault f = f.writes
 writes-from_faults a b ended.WriteFault f = f.writes
 writes-from_faults a b ended.Memory f = f.writes
-
--- where the status has this number, the count has risen
-pub read-cause-from : (s : Status) (before now : ℕ) → number_of s ≡ 3 → CountsReads before now s → (before ≤ now) × HasRisen before now
-read-cause-from s before now e c = subst (λ (t : Status). CountsReads before now t) (one_status s status.ReadFault e) c
-
--- and otherwise it stays
-pub reads-stay-from : (s : Status) (before now : ℕ) → (number_of s ≡ 3 → ⊥) → CountsReads before now s → now ≡ before
-reads-stay-from status.ReadFault before now e c = absurd (e refl)
-reads-stay-from status.Finished before now e c = c
-reads-stay-from status.Usage before now e c = c
-reads-stay-from status.BadFrame before now e c = c
-reads-stay-from status.WriteFault before now e c = c
-reads-stay-from status.NoMemory before now e c = c
-
-pub write-cause-from : (s : Status) (before now : ℕ) → number_of s ≡ 4 → CountsWrites before now s → (before ≤ now) × HasRisen before now
-write-cause-from s before now e c = subst (λ (t : Status). CountsWrites before now t) (one_status s status.WriteFault e) c
-
-pub writes-stay-from : (s : Status) (before now : ℕ) → (number_of s ≡ 4 → ⊥) → (number_of s ≡ 1 → ⊥) → CountsWrites before now s → now ≡ before
-writes-stay-from status.WriteFault before now e u c = absurd (e refl)
-writes-stay-from status.Usage before now e u c = absurd (u refl)
-writes-stay-from status.Finished before now e u c = c
-writes-stay-from status.BadFrame before now e u c = c
-writes-stay-from status.ReadFault before now e u c = c
-writes-stay-from status.NoMemory before now e u c = c
-
--- ---- the host's clock
-
--- the clock that a host gave was read by nobody
-pub fresh-from : (host : Supply) (c : Timeline) → c.ahead ≡ host.clock_times → c.faults ≡ 0 → c ≡ fresh host
-fresh-from host c a f = ap (λ (o : Option Times). record { ahead = o; faults = c.faults }) a ∙ ap (λ (n : ℕ). record { ahead = host.clock_times; faults = n }) f
-
--- a run with a clock of the host, which took it back
-pub by-host : (host middle host' : Supply) (c c' : Timeline) (R : Store → Timeline → Type 0) → c.ahead ≡ host.clock_times → c.faults ≡ 0 → middle.clock_faults ≡ host.clock_faults → host' ≡ after_clock c'.faults middle → R (no_store c) c' → ByHost host host' R
-by-host host middle host' c c' R a f same back run = (
-  c',
-  ap (λ (h : Supply). h.clock_faults) back ∙ ap (λ (n : ℕ). counts_together n c'.faults) same,
-  subst (λ (x : Timeline). R (no_store x) c') (fresh-from host c a f) run,
-)

@@ -1,4 +1,5 @@
 -- The definitions that the contracts of this crate cite.
 pub mod Run
+pub mod Stores
 pub mod Status
 pub mod Frames

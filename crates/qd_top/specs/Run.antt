@@ -1,12 +1,14 @@
 -- What a run of the program took and wrote, by its status.
-use Rattle.std.specs.Prelude.{◌≡◌, ℕ, false, ◌+◌, ◌-◌, ◌≤◌, ◌⊎◌, List, [], ◌∷◌, ◌++◌, codes, length, take, Option, Some, None}
+use Rattle.std.specs.Prelude.{◌≡◌, ℕ, ◌+◌, ◌-◌, ◌≤◌, ◌⊎◌, Bool, true, false, List, [], ◌∷◌, ◌++◌, codes, length, take, Option, Some, None, IfSome}
 use Rattle.std.specs.List.{flat_map, range_with_len}
+use Rattle.qd_back.specs.Volumes.{HoldsTold, IsDamagedAt, IsUnopened, KeepsTold, MayFind}
 use Rattle.qd_base.specs.declared.limits.TheConstants.{LAST_OFFSET}
 use Rattle.qd_base.specs.declared.op.Entry.{Entry}
 use Rattle.qd_base.specs.declared.request.Request.{Request}
 use Rattle.qd_base.specs.declared.request.Reply.{Reply}
 use Rattle.qd_base.specs.declared.request.Reply.TheVariants as reply
 use Rattle.qd_base.specs.Script.{Ending}
+use Rattle.qd_durable.specs.Moments.{Told}
 use Rattle.qd_host.specs.Hosts.{Supply}
 use Rattle.qd_io.specs.Clocks.{Timeline}
 use Rattle.qd_io.specs.Ends.{HasRisen, Stream, counts_together}
@@ -14,7 +16,7 @@ use Rattle.qd_frames.specs.Frames.{Steps}
 use Rattle.qd_gen.specs.Generated.{input as generated}
 use Rattle.qd_print.specs.Printed.{reply_bytes}
 use Rattle.qd_quiet.specs.Quieted.{without_done}
-use Rattle.qd_session.specs.Allowed.{Allowed}
+use Rattle.qd_session.specs.Alone.{AllowedAlone, pends_behind}
 use Rattle.qd_session.specs.Legal.{Legal, done_numbers}
 use Rattle.qd_session.specs.Looks.{Extends, Look}
 use Rattle.qd_session.specs.Session.{IsBad, IsClean, IsWaiting, PutTo, TakenFrom, refusal}
@@ -30,49 +32,47 @@ usage = codes "usage: tsdb run [--dir D] | gen NUMBER LINES | serve PORT --dir D
 
 -- how a command prints replies: `gen` prints none of those that acknowledge a write
 abbrev pub prints : Command → Reply → List ℕ
-prints command.Run = reply_bytes
+prints (command.Run dir) = reply_bytes
 prints (command.Gen number lines) = without_done reply_bytes
 
 -- replies, printed one behind the other
 abbrev pub printed : (Reply → List ℕ) → List Reply → List ℕ
 printed print replies = flat_map print replies
 
--- the generated input was served, and this is left of it
-abbrev pub OverGenerated : (number lines : ℕ) → (Option (List ℕ) → Option (List ℕ) → Type 0) → Type 0
-OverGenerated number lines R = (left : Option (List ℕ)) × R (Some (generated number lines)) left
+-- What went through two ends: what there was to read and what is left of it, and what was written before and is now.
+pub record Traffic : Type 0 where
+  pub input : Option (List ℕ)
+  pub left : Option (List ℕ)
+  pub output : Option (List ℕ)
+  pub written : Option (List ℕ)
 
--- what a command serves, and what it leaves of it: the input that is given, or the generated one
-abbrev pub ServedBy : Command → (input input' : Option (List ℕ)) → (Option (List ℕ) → Option (List ℕ) → Type 0) → Type 0
-ServedBy command.Run input input' R = R input input'
-ServedBy (command.Gen number lines) input input' R = OverGenerated number lines R
+-- between two moments of an input and of an output
+abbrev pub traffic : (input input' output output' : Stream) → Traffic
+traffic input input' output output' = record { input = input.input; left = input'.input; output = output.output; written = output'.output }
 
--- what a run begins with, and what it ends with: the transactions, how many of them are applied, and its clock
+-- ---- a session over a store
+
+-- what a run begins with, and what it ends with
 pub record Store : Type 0 where
-  pub history : List Entry
+  -- the transactions, where they are told, and how many there are
+  pub history : Option (List Entry)
+  pub sequenced : ℕ
+  -- how many of them are applied
   pub applied : ℕ
+  -- whether a write that failed may have been left behind them
+  pub pending : Bool
+  -- how many calls of the volume have failed
+  pub volume_faults : ℕ
   pub clock : Timeline
 
--- a run in memory begins with nothing but a clock
-abbrev pub no_store : Timeline → Store
-no_store clock = record { history = []; applied = 0; clock = clock }
-
--- what a session knows of a store in memory
+-- what a session knows of a store
 abbrev pub look_of : Store → Look
-look_of s = record { sequenced = length s.history; known = s.applied; clock = s.clock; volume_faults = 0; pinned = []; pending = false }
-
--- the clock that a host gives: no call of it was made
-abbrev pub fresh : Supply → Timeline
-fresh host = record { ahead = host.clock_times; faults = 0 }
-
--- A run began with the clock that the host gave, and the host has taken it back, with its faults: R holds of what the run
--- began with, and of the clock in the end.
-abbrev pub ByHost : (host host' : Supply) → (Store → Timeline → Type 0) → Type 0
-ByHost host host' R = (clock : Timeline) × (host'.clock_faults ≡ counts_together host.clock_faults clock.faults) × R (no_store (fresh host)) clock
+look_of s = record { sequenced = s.sequenced; known = s.applied; clock = s.clock; volume_faults = s.volume_faults; pinned = []; pending = s.pending }
 
 -- The history grew by the transactions of the `K` replies, in order, and by nothing else.
 pub record IsOwn (before after : Store) (replies : List Reply) : Type 0 where
-  pub grows : Extends (Some before.history) (Some after.history)
-  pub numbers : done_numbers replies ≡ range_with_len (length before.history + 1) (length after.history - length before.history)
+  pub grows : Extends before.history after.history
+  pub numbers : done_numbers replies ≡ range_with_len (before.sequenced + 1) (after.sequenced - before.sequenced)
 
 -- Each apply gives the number of all transactions that were acknowledged before it, of which n were before these replies.
 abbrev pub AppliesAll : ℕ → List Reply → Type 0
@@ -89,72 +89,168 @@ AnswersLast n (reply.Rows m table ∷ replies) = (m ≡ n) × AnswersLast n repl
 AnswersLast n (reply.QueryRefused m number place ∷ replies) = (m ≡ n) × AnswersLast n replies
 AnswersLast n (given ∷ replies) = AnswersLast n replies
 
--- The replies of one session alone over a store: legal, and exact where nobody else applies.
+-- whether a write that failed may have been left behind, after replies: one that says so came, and no acknowledged write behind it
+abbrev pub pends_after : Bool → List Reply → Bool
+pends_after pending [] = pending
+pends_after pending (given ∷ replies) = pends_after (pends_behind pending given) replies
+
+-- The replies of one session alone over a store: legal, and exact where nobody else writes or applies.
 pub record Replied (before after : Store) (requests : List Request) (replies : List Reply) : Type 0 where
-  pub legal : Legal Allowed (Some after.history) (look_of before) (look_of after) requests replies
+  pub legal : Legal AllowedAlone after.history (look_of before) (look_of after) requests replies
   pub own : IsOwn before after replies
-  pub applies : AppliesAll (length before.history) replies
+  pub applies : AppliesAll before.sequenced replies
   pub answers : AnswersLast before.applied replies
+  pub settled : after.pending ≡ true → pends_after before.pending replies ≡ true
 
 -- A run over frames: the bytes taken from the input, the requests that they spell and how they end, and the replies, one
--- for each request, from a store to the one that it left, with this clock.
-pub record Run (before : Store) (clock : Timeline) (input input' : Option (List ℕ)) : Type 0 where
+-- for each request, from a store to the one that it left.
+pub record Run (before after : Store) (t : Traffic) : Type 0 where
   pub taken : List ℕ
   pub requests : List Request
   pub ending : Ending
   pub replies : List Reply
-  pub after : Store
-  pub from : TakenFrom input input' taken
+  pub from : TakenFrom t.input t.left taken
   pub short : length taken ≤ LAST_OFFSET
   pub spelled : Steps 0 taken requests ending
   pub replied : Replied before after requests replies
-  pub clock_is : after.clock ≡ clock
+
+-- what a run may be, from one store to another: one of the relations below
+abbrev pub RunKind : Type 1
+RunKind = (Reply → List ℕ) → (before after : Store) → Traffic → Type 0
 
 -- Status 0: the bytes taken are whole frames up to the end of the input or to a request for the end, and the bytes
 -- written are the replies.
-abbrev pub FinishedRun : (Reply → List ℕ) → Store → Timeline → (input input' output output' : Option (List ℕ)) → Type 0
-FinishedRun print before clock input input' output output' =
-    (r : Run before clock input input') × IsClean input r.taken r.ending × PutTo output output' (printed print r.replies)
+abbrev pub FinishedRun : RunKind
+FinishedRun print before after t =
+    (r : Run before after t) × IsClean t.input r.taken r.ending × PutTo t.output t.written (printed print r.replies)
 
 -- Status 2: the same up to the first bytes that are no frame, or to a frame inside which the input ended; its place is
 -- answered, and nothing after it.
-abbrev pub RefusedRun : (Reply → List ℕ) → Store → Timeline → (input input' output output' : Option (List ℕ)) → Type 0
-RefusedRun print before clock input input' output output' =
-    (r : Run before clock input input') × (place : ℕ) × IsBad input r.taken r.ending place reply_bytes × PutTo output output' (printed print r.replies ++ reply_bytes (refusal place))
+abbrev pub RefusedRun : RunKind
+RefusedRun print before after t =
+    (r : Run before after t) × (place : ℕ) × IsBad t.input r.taken r.ending place reply_bytes × PutTo t.output t.written (printed print r.replies ++ reply_bytes (refusal place))
 
 -- Status 3: the bytes written are the replies to all requests of the bytes taken.
-abbrev pub StoppedRun : (Reply → List ℕ) → Store → Timeline → (input input' output output' : Option (List ℕ)) → Type 0
-StoppedRun print before clock input input' output output' =
-    (r : Run before clock input input') × IsWaiting r.ending × PutTo output output' (printed print r.replies)
+abbrev pub StoppedRun : RunKind
+StoppedRun print before after t =
+    (r : Run before after t) × IsWaiting r.ending × PutTo t.output t.written (printed print r.replies)
 
 -- Statuses 4 and 7: the bytes written are a prefix of such a transcript. The replies are those to the first requests of
 -- the bytes taken; where there is no later one, the refusal of a bad frame may stand behind them.
-pub record CutRun (print : Reply → List ℕ) (before : Store) (clock : Timeline) (input input' output output' : Option (List ℕ)) : Type 0 where
+pub record CutRun (print : Reply → List ℕ) (before after : Store) (t : Traffic) : Type 0 where
   pub taken : List ℕ
   pub requests : List Request
   pub later : List Request
   pub ending : Ending
   pub replies : List Reply
-  pub after : Store
   pub written : List ℕ
   pub missing : List ℕ
-  pub from : TakenFrom input input' taken
+  pub from : TakenFrom t.input t.left taken
   pub short : length taken ≤ LAST_OFFSET
   pub spelled : Steps 0 taken (requests ++ later) ending
   pub replied : Replied before after requests replies
-  pub clock_is : after.clock ≡ clock
-  pub put : PutTo output output' written
+  pub put : PutTo t.output t.written written
   pub front : (printed print replies ≡ written ++ missing)
-      ⊎ ((later ≡ []) × (place : ℕ) × IsBad input taken ending place reply_bytes × (printed print replies ++ reply_bytes (refusal place) ≡ written ++ missing))
+      ⊎ ((later ≡ []) × (place : ℕ) × IsBad t.input taken ending place reply_bytes × (printed print replies ++ reply_bytes (refusal place) ≡ written ++ missing))
 
--- a run that ended with a status
-abbrev pub Ran : (Reply → List ℕ) → Store → Timeline → (input input' output output' : Option (List ℕ)) → Status → Type 0
-Ran print before clock input input' output output' status.Finished = FinishedRun print before clock input input' output output'
-Ran print before clock input input' output output' status.Usage = ⊥
-Ran print before clock input input' output output' status.BadFrame = RefusedRun print before clock input input' output output'
-Ran print before clock input input' output output' status.ReadFault = StoppedRun print before clock input input' output output'
-Ran print before clock input input' output output' status.WriteFault = CutRun print before clock input input' output output'
-Ran print before clock input input' output output' status.NoMemory = CutRun print before clock input input' output output'
+-- a session over a store that ended with a status
+abbrev pub RanOver : (Reply → List ℕ) → (before after : Store) → Traffic → Status → Type 0
+RanOver print before after t status.Finished = FinishedRun print before after t
+RanOver print before after t status.BadFrame = RefusedRun print before after t
+RanOver print before after t status.ReadFault = StoppedRun print before after t
+RanOver print before after t status.WriteFault = CutRun print before after t
+RanOver print before after t status.NoMemory = CutRun print before after t
+RanOver print before after t other = ⊥
+
+-- ---- the volume of the host
+
+-- the clock that a host gives: no call of it was made
+abbrev pub fresh : Supply → Timeline
+fresh host = record { ahead = host.clock_times; faults = 0 }
+
+-- What a run begins with: the clock that the host gave, and the store on its volume. Where a history is told, it is that; and just so
+-- many transactions are applied as the volume's version shows.
+pub record IsBegun (found : Option (List Entry)) (host : Supply) (before : Store) : Type 0 where
+  pub clock : before.clock ≡ fresh host
+  pub history : before.history ≡ found
+  pub count : IfSome found (λ h. before.sequenced ≡ length h)
+  pub shown : IfSome found (λ h. (n : ℕ) → HoldsTold host.shelf h n → before.applied ≡ n)
+  pub within : before.applied ≤ before.sequenced
+  pub settled : before.pending ≡ false
+
+-- What a run leaves: the host has taken back its clock and its volume, and has counted their faults. Where a history is told, a crash
+-- leaves it whole, with a version of no fewer transactions than are applied; a write that failed may stand behind it, where one may
+-- have been left.
+pub record IsEnded (host host' : Supply) (before after : Store) : Type 0 where
+  pub clock_faults : host'.clock_faults ≡ counts_together host.clock_faults after.clock.faults
+  pub volume_faults : HasRisen before.volume_faults after.volume_faults → HasRisen host.volume_faults host'.volume_faults
+  pub kept : IfSome after.history (λ h. KeepsTold host'.shelf h after.pending after.applied)
+
+-- A run over the store of the host's volume, which was opened, or made where there was none: R holds from what it began with to what
+-- it left.
+pub record Stored (found : Option (List Entry)) (host host' : Supply) (R : Store → Store → Type 0) : Type 0 where
+  pub before : Store
+  pub after : Store
+  pub begun : IsBegun found host before
+  pub ended : IsEnded host host' before after
+  pub ran : R before after
+
+-- No store was opened, and no clock was read; of the input nothing was read, and these bytes were written.
+pub record Unserved (host host' : Supply) (t : Traffic) (bytes : List ℕ) : Type 0 where
+  pub unread : t.left ≡ t.input
+  pub put : PutTo t.output t.written bytes
+  pub clock_faults : host'.clock_faults ≡ host.clock_faults
+
+-- The volume couldn't be had, or its store couldn't be opened or made: nothing was written.
+pub record Unopened (host host' : Supply) (t : Traffic) : Type 0 where
+  pub unserved : Unserved host host' t []
+  pub volume : Told host.shelf host'.shelf IsUnopened
+
+-- The files of a store are damaged: nothing but the place was written, or a prefix of that.
+pub record FoundDamage (host host' : Supply) (t : Traffic) (missing : List ℕ) : Type 0 where
+  pub file : ℕ
+  pub at : ℕ
+  pub bytes : List ℕ
+  pub unserved : Unserved host host' t bytes
+  pub volume : Told host.shelf host'.shelf (IsDamagedAt file at)
+  pub place : reply_bytes (reply.Damaged file at) ≡ bytes ++ missing
+
+-- ---- a command, by its status
+
+-- what a command may have done, over the host's volume: one of the relations below
+abbrev pub CommandKind : Type 1
+CommandKind = (Reply → List ℕ) → (found : Option (List Entry)) → (host host' : Supply) → Traffic → Type 0
+
+-- a session of some kind
+abbrev pub OverStore : RunKind → CommandKind
+OverStore R print found host host' t = Stored found host host' (λ before after. R print before after t)
+
+-- Status 4: a write failed, in a session or at the place of a damage.
+abbrev pub CutShort : CommandKind
+CutShort print found host host' t = OverStore CutRun print found host host' t ⊎ ((missing : List ℕ) × FoundDamage host host' t missing)
+
+-- Status 5: the volume failed while its store was opened or made, and nothing was read or written.
+abbrev pub NoVolume : CommandKind
+NoVolume print found host host' t = Unopened host host' t × HasRisen host.volume_faults host'.volume_faults
+
+-- Status 6: the files are damaged, and nothing but the place was written.
+abbrev pub Damaged : CommandKind
+Damaged print found host host' t = FoundDamage host host' t []
+
+-- Status 7: no memory was found, in a session, or before one.
+abbrev pub OutOfMemory : CommandKind
+OutOfMemory print found host host' t = CutShort print found host host' t ⊎ Unopened host host' t
+
+-- what a command did, where it ended with a status
+abbrev pub Ran : (Reply → List ℕ) → Option (List Entry) → (host host' : Supply) → Traffic → Status → Type 0
+Ran print found host host' t status.Finished = OverStore FinishedRun print found host host' t
+Ran print found host host' t status.Usage = ⊥
+Ran print found host host' t status.BadFrame = OverStore RefusedRun print found host host' t
+Ran print found host host' t status.ReadFault = OverStore StoppedRun print found host host' t
+Ran print found host host' t status.WriteFault = CutShort print found host host' t
+Ran print found host host' t status.NoVolume = NoVolume print found host host' t
+Ran print found host host' t status.Damaged = Damaged print found host host' t
+Ran print found host host' t status.NoMemory = OutOfMemory print found host host' t
 
 -- the usage line was written, or a prefix of it
 abbrev pub WroteUsage : (output output' : Option (List ℕ)) (missing : List ℕ) → Type 0
@@ -181,48 +277,60 @@ CountsWrites before now status.WriteFault = (before ≤ now) × HasRisen before 
 CountsWrites before now status.Usage = before ≤ now
 CountsWrites before now s = now ≡ before
 
--- what a run may be, over two ends and from a store and its clock: one of the relations above
-abbrev pub RunKind : Type 1
-RunKind = (Reply → List ℕ) → Store → Timeline → (input input' output output' : Option (List ℕ)) → Type 0
+-- what a command serves, and what it leaves of it: the input that is given; or the generated one, of which something is left
+abbrev pub ServedBy : Command → Traffic → (Traffic → Type 0) → Type 0
+ServedBy (command.Run dir) t R = R t
+ServedBy (command.Gen number lines) t R = (left : Option (List ℕ)) × R (record t { input = Some (generated number lines); left = left })
 
--- a command served what it is to serve, with a clock of the host, and printed its replies: it was a run of this kind
-abbrev pub Served : Command → (input input' output output' : Stream) → (host host' : Supply) → RunKind → Type 0
-Served asked input input' output output' host host' R =
-    ByHost host host' (λ before clock. ServedBy asked input.input input'.input (λ served left. R (prints asked) before clock served left output.output output'.output))
+-- a command served what it is to serve, and did something of this kind
+abbrev pub Served : Command → (found : Option (List Entry)) → (host host' : Supply) → Traffic → CommandKind → Type 0
+Served asked found host host' t R = ServedBy asked t (λ served. R (prints asked) found host host' served)
 
 -- the numbers that a command may end with: over the generated input, which is whole frames in memory, no frame is bad and
 -- no read fails
 abbrev pub EndsWith : Command → ℕ → Type 0
-EndsWith command.Run number = (number ≡ 0) ⊎ (number ≡ 2) ⊎ (number ≡ 3) ⊎ (number ≡ 4) ⊎ (number ≡ 7)
-EndsWith (command.Gen number_given lines) number = (number ≡ 0) ⊎ (number ≡ 4) ⊎ (number ≡ 7)
+EndsWith (command.Run dir) number = (number ≡ 0) ⊎ (number ≡ 2) ⊎ (number ≡ 3) ⊎ (number ≡ 4) ⊎ (number ≡ 5) ⊎ (number ≡ 6) ⊎ (number ≡ 7)
+EndsWith (command.Gen number_given lines) number = (number ≡ 0) ⊎ (number ≡ 4) ⊎ (number ≡ 5) ⊎ (number ≡ 6) ⊎ (number ≡ 7)
 
 -- what `run` serves is whole frames, where that is told; what `gen` serves always is
 abbrev pub IsServedWell : Command → Option (List ℕ) → Type 0
-IsServedWell command.Run input = IsWellFramed input
+IsServedWell (command.Run dir) input = IsWellFramed input
 IsServedWell (command.Gen number lines) input = Unit {0}
 
+-- no count of failures has risen: of reads, of writes, and of the volume
+pub record NoneFailed (input input' output output' : Stream) (host host' : Supply) : Type 0 where
+  pub reads : HasRisen input.reads_failed input'.reads_failed → ⊥
+  pub writes : HasRisen output.writes_failed output'.writes_failed → ⊥
+  pub volume : HasRisen host.volume_faults host'.volume_faults → ⊥
+
 -- What a command did, with an input, an output and a host before it and after it, where the program ended with a number.
-pub record Did (asked : Command) (input input' output output' : Stream) (host host' : Supply) (number : ℕ) : Type 0 where
+pub record Did (asked : Command) (found : Option (List Entry)) (input input' output output' : Stream) (host host' : Supply) (number : ℕ) : Type 0 where
   pub ends : EndsWith asked number
-  pub finished : number ≡ 0 → Served asked input input' output output' host host' FinishedRun
-  pub bad_frame : number ≡ 2 → Served asked input input' output output' host host' RefusedRun
-  pub read_fault : number ≡ 3 → Served asked input input' output output' host host' StoppedRun
-  pub write_fault : number ≡ 4 → Served asked input input' output output' host host' CutRun
-  pub no_memory : number ≡ 7 → Served asked input input' output output' host host' CutRun
-  pub complete : IsServedWell asked input.input → (HasRisen input.reads_failed input'.reads_failed → ⊥) → (HasRisen output.writes_failed output'.writes_failed → ⊥) → (number ≡ 0) ⊎ (number ≡ 7)
+  pub finished : number ≡ 0 → Served asked found host host' (traffic input input' output output') (OverStore FinishedRun)
+  pub bad_frame : number ≡ 2 → Served asked found host host' (traffic input input' output output') (OverStore RefusedRun)
+  pub read_fault : number ≡ 3 → Served asked found host host' (traffic input input' output output') (OverStore StoppedRun)
+  pub write_fault : number ≡ 4 → Served asked found host host' (traffic input input' output output') CutShort
+  pub no_volume : number ≡ 5 → Served asked found host host' (traffic input input' output output') NoVolume
+  pub damaged : number ≡ 6 → Served asked found host host' (traffic input input' output output') Damaged
+  pub no_memory : number ≡ 7 → Served asked found host host' (traffic input input' output output') OutOfMemory
+  pub complete : (h : List Entry) → found ≡ Some h → IsServedWell asked input.input → NoneFailed input input' output output' host host' → (number ≡ 0) ⊎ (number ≡ 7)
+
+-- whether words are those of `run`
+abbrev pub AsksToRun : List (List ℕ) → Type 0
+AsksToRun words = (dir : Option (List ℕ)) × Asks (command.Run dir) words
 
 -- What the top call says of these words, with an input, an output and a host before it and after it, and a status.
-pub record Answered (given : List (List ℕ)) (input input' output output' : Stream) (host host' : Supply) (number : ℕ) : Type 0 where
-  pub statuses : (number ≡ 0) ⊎ (number ≡ 1) ⊎ (number ≡ 2) ⊎ (number ≡ 3) ⊎ (number ≡ 4) ⊎ (number ≡ 7)
+pub record Answered (given : List (List ℕ)) (found : Option (List Entry)) (input input' output output' : Stream) (host host' : Supply) (number : ℕ) : Type 0 where
+  pub statuses : (number ≡ 0) ⊎ (number ≡ 1) ⊎ (number ≡ 2) ⊎ (number ≡ 3) ⊎ (number ≡ 4) ⊎ (number ≡ 5) ⊎ (number ≡ 6) ⊎ (number ≡ 7)
   -- only words that ask for no command are answered with the usage line, and with nothing else
   pub words : number ≡ 1 → IsCommand given → ⊥
   pub other_words : (IsCommand given → ⊥) → (number ≡ 1) ⊎ (number ≡ 7)
   pub usage : number ≡ 1 → (missing : List ℕ) × WroteUsage output.output output'.output missing × ((missing ≡ []) ⊎ HasRisen output.writes_failed output'.writes_failed)
   pub other_output : (IsCommand given → ⊥) → (missing : List ℕ) × WroteUsage output.output output'.output missing
-  pub unread : (Asks command.Run given → ⊥) → input' ≡ input
+  pub unread : (AsksToRun given → ⊥) → input' ≡ input
   pub unused : (IsCommand given → ⊥) → host' ≡ host
   -- what the command that the words ask for took and wrote
-  pub did : (asked : Command) → Asks asked given → Did asked input input' output output' host host' number
+  pub did : (asked : Command) → Asks asked given → Did asked found input input' output output' host host' number
   -- causes
   pub read_cause : number ≡ 3 → HasRisen input.reads_failed input'.reads_failed
   pub reads_stay : (number ≡ 3 → ⊥) → input'.reads_failed ≡ input.reads_failed

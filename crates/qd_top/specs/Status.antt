@@ -11,6 +11,8 @@ number_of status.Usage = 1
 number_of status.BadFrame = 2
 number_of status.ReadFault = 3
 number_of status.WriteFault = 4
+number_of status.NoVolume = 5
+number_of status.Damaged = 6
 number_of status.NoMemory = 7
 
 -- the status of a session that ended so

@@ -1,5 +1,7 @@
 //! The program from its arguments: the words behind its name, and what it does with them.
-ghost use Rattle.std.specs.Prelude.{◌≡◌, ◌⊎◌, [], drop, map, IfOk};
+ghost use Rattle.std.specs.Prelude.{◌≡◌, ◌⊎◌, [], List, Option, drop, map, IfOk};
+ghost use Rattle.qd_back.specs.Volumes.{MayFind};
+ghost use Rattle.qd_base.specs.declared.op.Entry.{Entry};
 ghost use Rattle.std.specs.Result.{MatchResult};
 ghost use Rattle.std.specs.String.{string_bytes};
 ghost use Rattle.std.specs.Vec.Iter.{into_iter_items};
@@ -27,11 +29,14 @@ pub fn run_program<R, S: Source, K: Sink, H: Host>(
     output: &mut K,
     host: &mut H,
 ) -> u8
+    ghost found: { Option (List Entry) }
+    requires found { MayFind found (H.supply host.old).shelf }
+
     // No memory was found for the words, and nothing was done; or this is what `top` says of them.
     ensures answered { ((result ≡ 7) × (input.new ≡ input.old) × (output.new ≡ output.old) × (host.new ≡ host.old))
         ⊎ MatchResult args
-        (λ a. Answered (drop 1 (map (λ s. string_bytes s) (into_iter_items a))) (S.stream input.old) (S.stream input.new) (K.stream output.old) (K.stream output.new) (H.supply host.old) (H.supply host.new) result)
-        (λ e. Answered [] (S.stream input.old) (S.stream input.new) (K.stream output.old) (K.stream output.new) (H.supply host.old) (H.supply host.new) result) }
+        (λ a. Answered (drop 1 (map (λ s. string_bytes s) (into_iter_items a))) found (S.stream input.old) (S.stream input.new) (K.stream output.old) (K.stream output.new) (H.supply host.old) (H.supply host.new) result)
+        (λ e. Answered [] found (S.stream input.old) (S.stream input.new) (K.stream output.old) (K.stream output.new) (H.supply host.old) (H.supply host.new) result) }
 {
     match args {
         Ok(args) => match words_of(alloc, args) {

@@ -4,7 +4,9 @@
 #![tactic(auto)]
 
 mod arguments;
+mod opening;
 mod program;
+mod serving;
 mod status;
 #[cfg(test)]
 mod tests;

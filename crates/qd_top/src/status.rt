@@ -17,6 +17,10 @@ pub enum Status {
     ReadFault,
     /// A write failed.
     WriteFault,
+    /// The host gave no volume, or the volume failed while its store was opened or made.
+    NoVolume,
+    /// The files of the store are damaged.
+    Damaged,
     /// No memory was found outside a request.
     NoMemory,
 }
@@ -32,6 +36,8 @@ impl Status {
             Status::BadFrame => 2,
             Status::ReadFault => 3,
             Status::WriteFault => 4,
+            Status::NoVolume => 5,
+            Status::Damaged => 6,
             Status::NoMemory => 7,
         }
     }

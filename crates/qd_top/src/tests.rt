@@ -1,11 +1,12 @@
-//! The program over memory, where the cases of `tests/cases` can't see it: an input in pieces, calls that fail, and a clock.
+//! The program over memory, where the cases of `tests/cases` can't see it: an input in pieces, calls that fail, a clock, and a
+//! volume that is served again.
 ghost use Rattle.std.specs.Prelude.{◌<◌, ◌≤◌, length};
 
 use super::top;
 use qd_base::Txt;
-use qd_host::MemHost;
+use qd_host::{Host, MemHost};
 use qd_io::{MemClock, MemSink, MemSource};
-use qd_volume::MemVolume;
+use qd_volume::{MemVolume, Volume};
 use std::alloc::{AllocError, Global};
 use std::test::Fail;
 
@@ -24,17 +25,28 @@ fn served(
 ) -> Result<(u8, MemSink), AllocError>
     requires { 0 < length times.now }
 {
-    let words = [Txt::from_bytes(alloc, b"run")?];
     let mut host = MemHost::new(alloc, MemVolume::new(alloc, &[])?, &[])?;
     host.set_clock(MemClock::new(alloc, times, clock_fails)?);
-    let status = top(
-        &(),
-        alloc,
-        words.as_slice(),
-        &mut input,
-        &mut output,
-        &mut host,
-    );
+    let status = run(alloc, &mut host, &mut input, &mut output)?;
+    Ok((status, output))
+}
+
+/// Runs `run` over these, on a host.
+fn run(
+    alloc: Global,
+    host: &mut MemHost,
+    input: &mut MemSource,
+    output: &mut MemSink,
+) -> Result<u8, AllocError> {
+    let words = [Txt::from_bytes(alloc, b"run")?];
+    Ok(top(&(), alloc, words.as_slice(), input, output, host))
+}
+
+/// Runs `run` over an input on a host, and gives its status and the output.
+fn answered(alloc: Global, host: &mut MemHost, text: &[u8]) -> Result<(u8, MemSink), AllocError> {
+    let mut input = MemSource::new(alloc, text, 64, &[])?;
+    let mut output = MemSink::new(alloc, 64, &[])?;
+    let status = run(alloc, host, &mut input, &mut output)?;
     Ok((status, output))
 }
 
@@ -101,5 +113,104 @@ fn every_fault(rt: HostRuntime) -> Result<(), Fail> {
         assert_eq!(rt; status == 4, number < 13);
         assert!(rt; ANSWER.starts_with(output.bytes()));
     }
+    Ok(())
+}
+
+/// A host with a volume whose calls of these numbers fail, and whose own calls of these numbers do.
+fn host_with(alloc: Global, volume: &[u64], calls: &[u64]) -> Result<MemHost, AllocError> {
+    MemHost::new(alloc, MemVolume::new(alloc, volume)?, calls)
+}
+
+#[test]
+fn a_volume_is_served_again(rt: HostRuntime) -> Result<(), Fail> {
+    let alloc = rt.alloc();
+    let mut host = host_with(alloc, &[], &[])?;
+    let (status, output) = answered(alloc, &mut host, EXAMPLE)?;
+    assert_eq!(rt; (status, output.bytes()), (0, ANSWER));
+    let (status, output) = answered(alloc, &mut host, b"Q 1\ntA\nQ 1\ntW 5\nt v=2")?;
+    assert_eq!(rt; status, 0);
+    let rows =
+        b"R 1 42\nv,timestamp\n1,2024-01-01T00:00:00.000000Z\nA 1\nR 1 42\nv,timestamp\n1,2024-01-01T00:00:00.000000Z\nE 12 1\n";
+    assert_eq!(rt; output.bytes(), rows.as_slice());
+    Ok(())
+}
+
+/// The first byte of the log is changed.
+#[test]
+fn a_damaged_log(rt: HostRuntime) -> Result<(), Fail> {
+    let alloc = rt.alloc();
+    let mut host = host_with(alloc, &[], &[])?;
+    answered(alloc, &mut host, EXAMPLE)?;
+    let mut volume = host.volume(alloc, None)?;
+    volume.write_at(1, 0, b"X")?;
+    volume.sync(1)?;
+    host.put_back(volume);
+    let (status, output) = answered(alloc, &mut host, EXAMPLE)?;
+    assert_eq!(rt; (status, output.bytes()), (6, b"D 1 0\n".as_slice()));
+    Ok(())
+}
+
+#[test]
+fn no_volume(rt: HostRuntime) -> Result<(), Fail> {
+    let alloc = rt.alloc();
+    let mut host = host_with(alloc, &[], &[0])?;
+    let (status, output) = answered(alloc, &mut host, EXAMPLE)?;
+    assert_eq!(rt; (status, output.bytes().len()), (5, 0));
+    let (status, output) = answered(alloc, &mut host, EXAMPLE)?;
+    assert_eq!(rt; (status, output.bytes()), (0, ANSWER));
+    Ok(())
+}
+
+/// How many calls of its volume the example takes.
+fn calls_of_example(alloc: Global) -> Result<u64, AllocError> {
+    let mut host = host_with(alloc, &[], &[])?;
+    answered(alloc, &mut host, EXAMPLE)?;
+    match host.shelf() {
+        Some(volume) => Ok(volume.calls()),
+        None => Ok(0),
+    }
+}
+
+/// Each call of a volume fails once: the store isn't made, with status 5, or a reply says so. A later run has what was acknowledged,
+/// and at most the transaction of the write that failed.
+#[test]
+fn each_call_of_a_volume_fails(rt: HostRuntime) -> Result<(), Fail> {
+    let alloc = rt.alloc();
+    for number in 0..calls_of_example(alloc)? {
+        let mut host = host_with(alloc, &[number], &[])?;
+        let (status, output) = answered(alloc, &mut host, EXAMPLE)?;
+        assert_eq!(rt; status, if output.bytes().is_empty() { 5 } else { 0 });
+        let (again, later) = answered(alloc, &mut host, b"A\n")?;
+        assert_eq!(rt; again, 0);
+        let is_there = later.bytes() == b"A 1\n".as_slice();
+        assert!(rt; is_there || later.bytes() == b"A 0\n".as_slice());
+        assert!(rt; is_there || !output.bytes().starts_with(b"K 1\n"));
+        assert!(rt; !is_there || status == 0);
+    }
+    Ok(())
+}
+
+#[test]
+fn generated_lines(rt: HostRuntime) -> Result<(), Fail> {
+    let alloc = rt.alloc();
+    let words = [
+        Txt::from_bytes(alloc, b"gen")?,
+        Txt::from_bytes(alloc, b"1")?,
+        Txt::from_bytes(alloc, b"1")?,
+    ];
+    let mut host = host_with(alloc, &[], &[])?;
+    let mut input = MemSource::new(alloc, b"", 64, &[])?;
+    let mut output = MemSink::new(alloc, 64, &[])?;
+    let status = top(
+        &(),
+        alloc,
+        words.as_slice(),
+        &mut input,
+        &mut output,
+        &mut host,
+    );
+    assert_eq!(rt; status, 0);
+    assert!(rt; output.bytes().starts_with(b"A "));
+    assert!(rt; output.bytes().ends_with(b"X\n"));
     Ok(())
 }

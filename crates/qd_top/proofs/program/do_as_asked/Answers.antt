@@ -1,4 +1,4 @@
-use Rattle.std.proofs.Common.{◌≡◌, ℕ, ap, ◌∙◌, refl, sym, Some}
+use Rattle.std.proofs.Common.{◌≡◌, ap, ◌∙◌, refl, Some}
 use Rattle.qd_words.specs.Words.{Asks}
 use Rattle.qd_words.specs.declared.command.Command.{Command}
 use Rattle.qd_words.specs.declared.command.Command.TheVariants as command
@@ -8,20 +8,23 @@ use Rattle.qd_top.proofs.CommandLemmas.{answered-command, answered-nothing, asks
 use Rattle.qd_top.proofs.program.do_as_asked.Goals as goal
 
 pub generate-requires : goal.generate-requires
-generate-requires g c = let i = c.in-Ok-Some-Gen in ((i.ensures.exact (command.Gen i.number i.lines)).0 (i.field-0-is ∙ ap Some i.field-0-0-is)).2
+generate-requires g c =
+    let i = c.in-Ok-Some-Gen in
+    let few = ((i.ensures.exact (command.Gen i.number i.lines)).0 (i.field-0-is ∙ ap Some i.field-0-0-is)).2 in
+    λ lives l. (l.0, (l.1.0, (l.1.1.0, (l.1.1.1, (c.requires.1.1.1.1.1, few)))))
 
 pub returns-in-Ok-Some-Run-clause-answered : goal.returns-in-Ok-Some-Run-clause-answered
 returns-in-Ok-Some-Run-clause-answered g c =
     let i = c.in-Ok-Some-Run in
-    let found : i.field-0 ≡ Some command.Run = i.field-0-is ∙ ap Some i.field-0-0-is in
-    let asks : Asks command.Run c.args.words.now = (i.ensures.exact command.Run).0 found in
-    answered-command command.Run c.args.words.now (g.S.Ends.stream c.args.input.now) (g.S.Ends.stream c.run.new.input) (g.K.Ends.stream c.args.output.now) (g.K.Ends.stream c.run.new.output) (g.H.Host.supply c.args.host.now) (g.H.Host.supply c.run.new.host) c.run.result asks
-    (did-run _ _ _ _ _ _ c.run.result c.run.ensures.ran c.run.ensures.reads c.run.ensures.writes)
-    (λ done. asks_alone (λ (other : Command). Did other (g.S.Ends.stream c.args.input.now) (g.S.Ends.stream c.run.new.input) (g.K.Ends.stream c.args.output.now) (g.K.Ends.stream c.run.new.output) (g.H.Host.supply c.args.host.now) (g.H.Host.supply c.run.new.host) (number_of c.run.result)) i.field-0 c.args.words.now command.Run i.ensures.exact found done)
-    c.run.ensures.reads c.run.ensures.writes (λ other. absurd (other asks))
+    let found : i.field-0 ≡ Some (command.Run i.dir) = i.field-0-is ∙ ap Some i.field-0-0-is in
+    let asks : Asks (command.Run i.dir) c.args.words.now = (i.ensures.exact (command.Run i.dir)).0 found in
+    answered-command (command.Run i.dir) c.args.words.now g.found (g.S.Ends.stream c.args.input.now) (g.S.Ends.stream c.run.new.input) (g.K.Ends.stream c.args.output.now) (g.K.Ends.stream c.run.new.output) (g.H.Host.supply c.args.host.now) (g.H.Host.supply c.run.new.host) c.run.result asks
+    (did-run i.dir g.found _ _ _ _ _ _ c.run.result c.requires.1.1.1.1.1 c.run.ensures.ran c.run.ensures.reads c.run.ensures.writes)
+    (λ done. asks_alone (λ (other : Command). Did other g.found (g.S.Ends.stream c.args.input.now) (g.S.Ends.stream c.run.new.input) (g.K.Ends.stream c.args.output.now) (g.K.Ends.stream c.run.new.output) (g.H.Host.supply c.args.host.now) (g.H.Host.supply c.run.new.host) (number_of c.run.result)) i.field-0 c.args.words.now (command.Run i.dir) i.ensures.exact found done)
+    c.run.ensures.reads c.run.ensures.writes (λ other. absurd (other (i.dir, asks)))
 
 pub returns-in-Ok-Some-Run-clause-unread : goal.returns-in-Ok-Some-Run-clause-unread
-returns-in-Ok-Some-Run-clause-unread g c = λ other. let i = c.in-Ok-Some-Run in absurd (other ((i.ensures.exact command.Run).0 (i.field-0-is ∙ ap Some i.field-0-0-is)))
+returns-in-Ok-Some-Run-clause-unread g c = λ other. let i = c.in-Ok-Some-Run in absurd (other (i.dir, (i.ensures.exact (command.Run i.dir)).0 (i.field-0-is ∙ ap Some i.field-0-0-is)))
 
 pub returns-in-Ok-Some-Gen-clause-answered : goal.returns-in-Ok-Some-Gen-clause-answered
 returns-in-Ok-Some-Gen-clause-answered g c =
@@ -29,10 +32,10 @@ returns-in-Ok-Some-Gen-clause-answered g c =
     let found : i.field-0 ≡ Some (command.Gen i.number i.lines) = i.field-0-is ∙ ap Some i.field-0-0-is in
     let asks : Asks (command.Gen i.number i.lines) c.args.words.now = (i.ensures.exact (command.Gen i.number i.lines)).0 found in
     let input = g.S.Ends.stream c.args.input.now in
-    answered-command (command.Gen i.number i.lines) c.args.words.now input input (g.K.Ends.stream c.args.output.now) (g.K.Ends.stream c.generate.new.output) (g.H.Host.supply c.args.host.now) (g.H.Host.supply c.generate.new.host) c.generate.result asks
-    (did-gen i.number i.lines input _ _ _ _ c.generate.result c.generate.ensures.ran c.generate.ensures.ends c.generate.ensures.writes)
-    (λ done. asks_alone (λ (other : Command). Did other input input (g.K.Ends.stream c.args.output.now) (g.K.Ends.stream c.generate.new.output) (g.H.Host.supply c.args.host.now) (g.H.Host.supply c.generate.new.host) (number_of c.generate.result)) i.field-0 c.args.words.now (command.Gen i.number i.lines) i.ensures.exact found done)
+    answered-command (command.Gen i.number i.lines) c.args.words.now g.found input input (g.K.Ends.stream c.args.output.now) (g.K.Ends.stream c.generate.new.output) (g.H.Host.supply c.args.host.now) (g.H.Host.supply c.generate.new.host) c.generate.result asks
+    (did-gen i.number i.lines g.found input _ _ _ _ c.generate.result c.generate.ensures.ran.0 c.requires.1.1.1.1.1 c.generate.ensures.ran.1 c.generate.ensures.ends c.generate.ensures.writes)
+    (λ done. asks_alone (λ (other : Command). Did other g.found input input (g.K.Ends.stream c.args.output.now) (g.K.Ends.stream c.generate.new.output) (g.H.Host.supply c.args.host.now) (g.H.Host.supply c.generate.new.host) (number_of c.generate.result)) i.field-0 c.args.words.now (command.Gen i.number i.lines) i.ensures.exact found done)
     (reads-of-gen c.generate.result i.number i.lines input.reads_failed c.generate.ensures.ends) c.generate.ensures.writes (λ other. refl)
 
 pub returns-in-Err-clause-answered : goal.returns-in-Err-clause-answered
-returns-in-Err-clause-answered g c = answered-nothing c.args.words.now (g.S.Ends.stream c.args.input.now) (g.K.Ends.stream c.args.output.now) (g.H.Host.supply c.args.host.now)
+returns-in-Err-clause-answered g c = answered-nothing c.args.words.now g.found (g.S.Ends.stream c.args.input.now) (g.K.Ends.stream c.args.output.now) (g.H.Host.supply c.args.host.now)

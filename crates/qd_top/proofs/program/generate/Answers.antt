@@ -1,14 +1,28 @@
-use Rattle.std.proofs.Common.{ap}
-use Rattle.qd_host.specs.Hosts.{Supply}
+use Rattle.std.proofs.Common.{◌≡◌, ◌≤◌, ℕ, List, length, Some, ◌∙◌, sym, subst, inr}
+use Rattle.qd_base.specs.declared.limits.TheConstants.{LAST_OFFSET}
+use Rattle.qd_gen.specs.Generated.{input as generated}
 use Rattle.qd_print.specs.Printed.{reply_bytes}
 use Rattle.qd_quiet.specs.Quieted.{without_done}
-use Rattle.qd_top.specs.Run.{OverGenerated, Ran}
-use Rattle.qd_top.proofs.RunLemmas.{by-host}
+use Rattle.qd_top.specs.Run.{IsWellFramed, Ran}
+use Rattle.qd_top.proofs.CommandLemmas.{ends_well-from, generated-well, nothing-done}
 use Rattle.qd_top.proofs.program.generate.Goals as goal
 
+pub returns-in_default-clause-ran : goal.returns-in_default-clause-ran
+returns-in_default-clause-ran g c = (Some (generated c.args.number c.args.lines), inr (nothing-done (g.H.Host.supply c.args.host.now) (Some (generated c.args.number c.args.lines)) (g.K.Ends.stream c.args.output.now).output))
+
 pub returns-clause-ran : goal.returns-clause-ran
-returns-clause-ran g c =
-    by-host (g.H.Host.supply c.args.host.now) (g.H.Host.supply c.clock-clock.new.self) (g.H.Host.supply c.clock_back.new.self) (g.H.Clk.Clock.timeline c.clock-clock.result) (g.H.Clk.Clock.timeline c.generate_ends-status.new.clock)
-    (λ before clock.
-    OverGenerated c.args.number c.args.lines
-    (λ served left. Ran (without_done reply_bytes) before clock served left (g.K.Ends.stream c.args.output.now).output (g.K.Ends.stream c.generate_ends-status.new.output).output c.generate_ends-status.result)) c.clock-clock.ensures.told c.clock-clock.ensures.none_failed (ap (λ (h : Supply). h.clock_faults) c.clock-clock.ensures.rest) c.clock_back.ensures c.generate_ends-status.ensures.ran
+returns-clause-ran g c = (
+  Some c.serve_ends_quietly.new.input,
+  subst (λ (text : List ℕ). Ran (without_done reply_bytes) g.found (g.H.Host.supply c.args.host.now) (g.H.Host.supply c.serve_ends_quietly.new.host) (record { input = Some text; left = Some c.serve_ends_quietly.new.input; output = (g.K.Ends.stream c.args.output.now).output; written = (g.K.Ends.stream c.serve_ends_quietly.new.output).output }) c.serve_ends_quietly.result)
+      (c.new-source.ensures.left ∙ c.in-Ok.ensures.bytes) c.serve_ends_quietly.ensures.ran,
+)
+
+pub returns-clause-ends : goal.returns-clause-ends
+returns-clause-ends g c =
+    let bytes : c.in-Ok.text ≡ generated c.args.number c.args.lines = c.in-Ok.ensures.bytes in
+    let fed = c.new-source.ensures.left ∙ bytes in
+    let short : length (generated c.args.number c.args.lines) ≤ LAST_OFFSET = subst (λ (text : List ℕ). length text ≤ LAST_OFFSET) bytes c.length_of.ensures.reached in
+    let well = generated-well c.args.number c.args.lines c.input_is_read_as_asked.ensures.law c.requires.1.1.1.1.1 short c.one_reading.ensures in
+    ends_well-from (without_done reply_bytes) g.found (g.H.Host.supply c.args.host.now) (g.H.Host.supply c.serve_ends_quietly.new.host)
+    (record { input = Some c.new-source.result; left = Some c.serve_ends_quietly.new.input; output = (g.K.Ends.stream c.args.output.now).output; written = (g.K.Ends.stream c.serve_ends_quietly.new.output).output })
+    c.serve_ends_quietly.result c.args.number c.args.lines c.serve_ends_quietly.ensures.ran c.serve_ends_quietly.ensures.reads (subst (λ (text : List ℕ). IsWellFramed (Some text)) (sym fed) well)

@@ -1,4 +1,4 @@
-use Rattle.std.proofs.Common.{[], Err, ap, inl, inr, refl}
+use Rattle.std.proofs.Common.{[], inl, inr, refl}
 use Rattle.qd_top.proofs.RunLemmas.{usage-from_writes_all, usage-from_fault}
 use Rattle.qd_top.proofs.program.refuse_words.Goals as goal
 

@@ -1,8 +1,8 @@
-use Rattle.std.proofs.Common.{ap, ◌∙◌}
+use Rattle.std.proofs.Common.{◌∙◌}
 use Rattle.qd_print.specs.Printed.{reply_bytes}
 use Rattle.qd_quiet.specs.Quieted.{without_done}
 use Rattle.qd_top.proofs.RunLemmas.{quiet-spell-frames}
 use Rattle.qd_top.proofs.program.serve_quietly.Goals as goal
 
 pub returns-clause-ran : goal.returns-clause-ran
-returns-clause-ran g c = c.serve_front.ensures.ran (without_done reply_bytes) (quiet-spell-frames c.new-quiet.result.front (c.new-quiet.ensures.given ∙ c.new.ensures.empty))
+returns-clause-ran g c = c.serve_host.ensures.ran (without_done reply_bytes) (quiet-spell-frames c.new-quiet.result.front (c.new-quiet.ensures.given ∙ c.new.ensures.empty))

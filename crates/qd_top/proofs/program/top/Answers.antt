@@ -43,6 +43,12 @@ returns-clause-read_fault g c = λ asked words. ((with_number c.number.ensures.n
 pub returns-clause-write_fault : goal.returns-clause-write_fault
 returns-clause-write_fault g c = λ asked words. ((with_number c.number.ensures.number c.do_as_asked.ensures.answered).did asked words).write_fault
 
+pub returns-clause-no_volume : goal.returns-clause-no_volume
+returns-clause-no_volume g c = λ asked words. ((with_number c.number.ensures.number c.do_as_asked.ensures.answered).did asked words).no_volume
+
+pub returns-clause-damaged : goal.returns-clause-damaged
+returns-clause-damaged g c = λ asked words. ((with_number c.number.ensures.number c.do_as_asked.ensures.answered).did asked words).damaged
+
 pub returns-clause-no_memory : goal.returns-clause-no_memory
 returns-clause-no_memory g c = λ asked words. ((with_number c.number.ensures.number c.do_as_asked.ensures.answered).did asked words).no_memory
 

@@ -1,0 +1,5 @@
+use Rattle.std.proofs.Common.{None}
+use Rattle.qd_top.proofs.tests.run.Given as goal
+
+abbrev pub ghost-top : goal.ghost-top
+ghost-top a = None

@@ -22,7 +22,7 @@ import subprocess
 import tempfile
 import time
 
-from program import parsed
+from program import Session, batch, parsed
 
 PER_FRAME = 10_000
 START = 1_706_313_600_000_000  # 2024-01-27, in microseconds
@@ -54,13 +54,14 @@ class Data:
         # host, p, time
         self.q = [(f"h{i * 53 % 101}", i % 1_000, START + i * (SPAN // few) + 1) for i in range(few)]
 
-    def frames(self):
-        """The batches of all rows."""
+    def frames(self, per_frame=PER_FRAME, late=False):
+        """The batches of all rows, where it is asked for with every tenth row behind those of the next batch."""
         lines = [f't,host={r[0]},dc={r[1]} v={r[2]}i,w={r[3]}i,x="{r[4]}" {r[5] * 1_000}\n' for r in self.t]
         lines += [f"q,host={r[0]} p={r[1]}i {r[2] * 1_000}\n" for r in self.q]
-        for first in range(0, len(lines), PER_FRAME):
-            text = "".join(lines[first:first + PER_FRAME]).encode()
-            yield b"W %d\n" % len(text) + text
+        if late:
+            lines = [line for _, line in sorted(enumerate(lines), key=lambda pair: pair[0] + (per_frame if pair[0] % 10 == 7 else 0))]
+        for first in range(0, len(lines), per_frame):
+            yield batch("".join(lines[first:first + per_frame]).encode())
 
 
 def csv(head, rows):
@@ -158,51 +159,20 @@ QUERIES = [
 AIM_OF_BYTES = 50e6  # bytes of a result in a second
 
 
-class Session:
-    """A program that runs, and is asked one frame after the other."""
-
-    def __init__(self, program):
-        self.process = subprocess.Popen([program, "run"], stdin=subprocess.PIPE, stdout=subprocess.PIPE)
-
-    def ask(self, frame):
-        """Sends a frame, and gives the seconds to the end of its reply, the line that it begins with, and its bytes."""
-        began = time.perf_counter()
-        self.process.stdin.write(frame)
-        self.process.stdin.flush()
-        line = self.process.stdout.readline()
-        size = int(line.split()[2]) if line.startswith(b"R ") else 0
-        text = self.process.stdout.read(size)
-        return time.perf_counter() - began, line, text
-
-    def query(self, text):
-        return self.ask(b"Q %d\n" % len(text) + text.encode())
-
-    def megabytes(self):
-        """The most memory that the program took until now."""
-        try:
-            with open(f"/proc/{self.process.pid}/status") as status:
-                return next(int(line.split()[1]) for line in status if line.startswith("VmHWM")) / 1024
-        except (OSError, StopIteration):
-            return float("nan")
-
-    def end(self):
-        self.process.stdin.write(b"X\n")
-        self.process.stdin.close()
-        good = self.process.stdout.read() == b"X\n"
-        return self.process.wait() == 0 and good
-
-
-def load(session, data):
-    """Feeds and applies all rows. Gives the number of transactions, and whether each was taken."""
-    count, good = 0, True
-    for frame in data.frames():
+def load(session, frames):
+    """Feeds and applies all rows. Gives the number of transactions, whether each was taken, and the seconds of both."""
+    count, good, fed = 0, True, 0
+    for frame in frames:
         count += 1
-        good &= session.ask(frame)[1] == b"K %d\n" % count
-    return count, good & (session.ask(b"A\n")[1] == b"A %d\n" % count)
+        seconds, line, _ = session.ask(frame)
+        good &= line == b"K %d\n" % count
+        fed += seconds
+    applied, line, _ = session.ask(b"A\n")
+    return count, good & (line == b"A %d\n" % count), fed, applied
 
 
-def measure(session, count, ask, wanted, aim, repeat):
-    """Asks a query so many times, and prints its times. Gives whether each reply was right."""
+def times_of(session, count, ask, wanted, repeat):
+    """Asks a query so many times. Gives the seconds of each, and the first line of a reply that was wrong, or None."""
     head = b"R %d %d\n" % (count, len(wanted))
     times, wrong = [], None
     for _ in range(repeat):
@@ -210,6 +180,12 @@ def measure(session, count, ask, wanted, aim, repeat):
         times.append(seconds)
         if (line, text) != (head, wanted):
             wrong = line
+    return times, wrong
+
+
+def measure(session, count, ask, wanted, aim, repeat):
+    """Asks a query so many times, and prints its times. Gives whether each reply was right."""
+    times, wrong = times_of(session, count, ask, wanted, repeat)
     best, middle = min(times), statistics.median(times)
     goal = f"aim {aim} ms" if aim else f"aim {AIM_OF_BYTES / 1e6:.0f} MB/s" if ask == "t" else "no aim"
     missed = best * 1e3 > aim if aim else ask == "t" and len(wanted) / best < AIM_OF_BYTES
@@ -253,7 +229,7 @@ def main():
     data = Data(options.rows)
     session = Session(options.program)
     began = time.perf_counter()
-    count, good = load(session, data)
+    count, good, _, _ = load(session, data.frames())
     print(f"{len(data.t):,} and {len(data.q):,} rows fed and applied in {time.perf_counter() - began:.3f} s  {session.megabytes():.0f} MB  "
           f"{'ok' if good else 'WRONG'}", flush=True)
     for ask, answer, aim in QUERIES:

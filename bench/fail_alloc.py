@@ -1,9 +1,9 @@
 #!/usr/bin/env python3
 """Lets each allocation of the example's run fail in turn, and says which replies came.
 
-For N = 1, 2, .. it runs the built program on the stored example with its Nth allocation failing, until a run makes fewer
-allocations. Each answer has to be one that the contract of `top` allows: at status 0 every request has its own reply, or
-`E 61 0` and then stands as if it hadn't been made; at status 7 the answer is a prefix of such a transcript.
+For N = 1, 2, .. it runs the built program on the case `example` of tests/cases with its Nth allocation failing, until a
+run makes fewer allocations. Each answer has to be one that the contract of `top` allows: at status 0 every request has its
+own reply, or `E 61 0` and then stands as if it hadn't been made; at status 7 the answer is a prefix of such a transcript.
 
 With --tests it also runs `rt try --test --fail-alloc N` in each crate that has tests, for N from 1 to TESTS: each test has
 to pass, or to end by an error or an assertion, and none may break off by a fault.
@@ -61,7 +61,8 @@ def allowed():
 def program_runs(program):
     """Runs the program with each allocation failing in turn. Gives whether each answer was allowed."""
     transcripts = allowed()
-    example = open(os.path.join(CRATES, "tsdb", "stdin"), "rb").read()
+    with open(os.path.join(HERE, "..", "tests", "cases", "example.in"), "rb") as file:
+        example = file.read()
     good = True
     with tempfile.TemporaryDirectory() as folder:
         source, shim = os.path.join(folder, "shim.c"), os.path.join(folder, "shim.so")

@@ -1,4 +1,4 @@
-"""The built program, found, fed from a file and measured; for the scripts beside this one."""
+"""The built program, found, fed from a file or asked frame by frame, and measured; for the scripts beside this one."""
 import os
 import subprocess
 import time
@@ -25,3 +25,47 @@ def run(program, source):
     answer = process.stdout.read()
     _, status, usage = os.wait4(process.pid, 0)
     return time.perf_counter() - began, status, answer, usage
+
+
+def batch(text):
+    """The frame of a batch of lines."""
+    return b"W %d\n" % len(text) + text
+
+
+def query(text):
+    """The frame of a statement."""
+    return b"Q %d\n" % len(text.encode()) + text.encode()
+
+
+class Session:
+    """A program that runs, and is asked one frame after the other."""
+
+    def __init__(self, program, *words, **options):
+        self.process = subprocess.Popen([program, *(words or ("run",))], stdin=subprocess.PIPE, stdout=subprocess.PIPE, **options)
+
+    def ask(self, frame):
+        """Sends a frame, and gives the seconds to the end of its reply, the line that it begins with, and its bytes."""
+        began = time.perf_counter()
+        self.process.stdin.write(frame)
+        self.process.stdin.flush()
+        line = self.process.stdout.readline()
+        size = int(line.split()[2]) if line.startswith(b"R ") else 0
+        text = self.process.stdout.read(size)
+        return time.perf_counter() - began, line, text
+
+    def query(self, text):
+        return self.ask(query(text))
+
+    def megabytes(self):
+        """The most memory that the program took until now."""
+        try:
+            with open(f"/proc/{self.process.pid}/status") as status:
+                return next(int(line.split()[1]) for line in status if line.startswith("VmHWM")) / 1024
+        except (OSError, StopIteration):
+            return float("nan")
+
+    def end(self):
+        self.process.stdin.write(b"X\n")
+        self.process.stdin.close()
+        good = self.process.stdout.read() == b"X\n"
+        return self.process.wait() == 0 and good

@@ -2,4 +2,4 @@ use Rattle.std.proofs.Common.{None}
 use Rattle.qd_top.proofs.tests.generated_lines.Given as goal
 
 abbrev pub ghost-top : goal.ghost-top
-ghost-top a = None
+ghost-top g a = None

@@ -44,7 +44,7 @@ fn ask_twice<B: Backend>(
     back: &mut B,
     i: usize,
 ) -> Result<Replies, Fail> {
-    let (asks, behind) = ASKS.split_at((i + 1).min(ASKS.len()));
+    let (asks, behind) = ASKS.split_at(i.saturating_add(1).min(ASKS.len()));
     let (before, asked) = asks.split_at(i.min(asks.len()));
     let before = served(rt, alloc, back, before)?;
     let first = served(rt, alloc, back, asked)?;

@@ -1,7 +1,7 @@
 #!/usr/bin/env python3
 """Times stored columns. Run it at the top of the repository; it needs `rt`, and some minutes for the proofs.
 
-It makes a repository in a temporary folder with copies of the crates below qd_stored and a program over them, which is
+It makes a repository in a temporary folder with copies of the crates below qd_column_format and a program over them, which is
 proved and built like any other, and runs it RUNS times. The program makes ROWS rows of a time, a LONG, a truth value, a symbol
 of 100 texts and a VARCHAR of 10 bytes, and for each column times `encode_column` of all rows and `decode_column` of the bytes.
 For each step the shortest time is printed, in nanoseconds for each of the ROWS rows, and the bytes of both files that pass by
@@ -18,7 +18,7 @@ import tempfile
 
 HERE = os.path.dirname(os.path.abspath(__file__))
 TOP = os.path.join(HERE, "..")
-COPIED = ["qd_base", "qd_symbols", "qd_column", "qd_block", "qd_stored"]
+COPIED = ["qd_base", "qd_symbols", "qd_column", "qd_block", "qd_column_format"]
 
 PROGRAM = r"""//! Times stored columns.
 #![tactic(auto)]
@@ -29,7 +29,7 @@ ghost use Rattle.qd_block.specs.Blocks.{kinds_in};
 use qd_base::{Col, ColList, ColType, Memory, Txt};
 use qd_block::{Block, Builder};
 use qd_column::Column;
-use qd_stored::{ColumnBytes, ColumnFault, decode_column, encode_column};
+use qd_column_format::{ColumnBytes, ColumnFault, decode_column, encode_column};
 use qd_symbols::SymbolMap;
 use std::alloc::Global;
 use std::io;

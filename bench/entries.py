@@ -1,7 +1,7 @@
 #!/usr/bin/env python3
 """Times entries of the write-ahead log. Run it at the top of the repository; it needs `rt`, and some minutes for the proofs.
 
-It makes a repository in a temporary folder with copies of the crates below qd_entry and a program over them, which is proved and
+It makes a repository in a temporary folder with copies of the crates below qd_wal_entry and a program over them, which is proved and
 built like any other, and runs it RUNS times. The program writes the bytes of an entry that inserts ROWS rows of two symbols, of
 100 and of 10 texts, three LONGs and a time; it times `decode_entry` of the bytes and `encode_entry` of the entry, and reads the
 cells by `EntryReader` alone; all of that ten times, since memory is fresh in the first round. For each step the shortest time is
@@ -21,15 +21,15 @@ import tempfile
 
 HERE = os.path.dirname(os.path.abspath(__file__))
 TOP = os.path.join(HERE, "..")
-COPIED = ["qd_base", "qd_symbols", "qd_fields", "qd_entry"]
+COPIED = ["qd_base", "qd_symbols", "qd_fields", "qd_wal_entry"]
 
 PROGRAM = r"""//! Times entries.
 #![tactic(auto)]
 
-ghost use Rattle.qd_entry.specs.Spelling.{IsEntry};
+ghost use Rattle.qd_wal_entry.specs.Spelling.{IsEntry};
 
 use qd_base::{Entry, Memory};
-use qd_entry::{EntryReader, OpHead, decode_entry, encode_entry};
+use qd_wal_entry::{EntryReader, OpHead, decode_entry, encode_entry};
 use qd_fields::{Stop, push_u32, push_u64};
 use std::alloc::Global;
 use std::io;
@@ -97,7 +97,7 @@ fn read_cells(alloc: Global, bytes: &[u8]) -> Result<u64, Stop> {
     let mut sum = 0u64;
     if let OpHead::Insert { columns, rows, .. } = reader.next_op(alloc)? {
         for _ in 0..columns as u64 * rows as u64 {
-            if let qd_entry::EntryCell::Text(id) = reader.next_cell()? {
+            if let qd_wal_entry::EntryCell::Text(id) = reader.next_cell()? {
                 sum = sum.wrapping_add(id);
             }
         }

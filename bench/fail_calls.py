@@ -4,8 +4,8 @@
 For each kind of call below, and for N = 1, 2, .., it runs `tsdb run --dir FOLDER` over a new folder under `strace`, which makes the Nth
 call of that kind fail, until a run makes fewer calls, or 50 have failed. A session commits three batches, with a query and applies between them. It has to
 end with status 5 and no byte, or with 0, where each reply is the right one or `E 52 0`, and then stands as if its request hadn't been
-made. A second run, in which no call fails, has to find the acknowledged batches in order; and where the last batch was answered by
-`E 52 0` it may find that as well.
+made. A second run, in which no call fails, has to find the acknowledged batches in order; and it may find one more of those that were
+answered by `E 52 0` behind the last acknowledged one.
 
 usage: fail_calls.py [--program PATH]
 It needs `strace`. Build the program first: run `rt run -- run < stdin` in crates/tsdb.
@@ -22,7 +22,7 @@ from crash import Replies
 from program import batch, parsed, query
 
 # each kind of call, and the error that it gets
-KINDS = [("pwrite64", "ENOSPC"), ("fdatasync", "EIO"), ("fsync", "EIO"), ("pread64", "EIO"), ("openat", "EMFILE"), ("statx", "EIO"),
+KINDS = [("pwrite64", "ENOSPC"), ("fdatasync", "EIO"), ("fsync", "EIO"), ("pread64", "EIO"), ("openat", "EIO"), ("statx", "EIO"),
          ("unlink", "EIO"), ("flock", "EAGAIN"), ("mkdir", "EACCES")]
 MOST = 50  # calls of a kind that fail: a block that is removed has up to a thousand names
 NO_VOLUME, FULL = 5, b"E 52 0\n"
@@ -45,13 +45,12 @@ def line(number):
 
 
 def fault_of_session(output):
-    """The batches that were acknowledged, whether the last one failed, and what is wrong with the replies, or None."""
-    replies, there, shown, failed = Replies(output), [], [], False
+    """The batches that were acknowledged, those that failed behind them, and what is wrong with the replies, or None."""
+    replies, there, shown, failed = Replies(output), [], [], []
     for request in requests():
         reply = replies.next()
         if isinstance(request, int):
-            failed = reply == FULL
-            there = there if failed else there + [request]
+            there, failed = (there, failed + [request]) if reply == FULL else (there + [request], [])
             wanted = b"K %d\n" % len(there)
         elif request is None:
             shown = shown if reply == FULL else there
@@ -75,12 +74,12 @@ def fault_of_run(program, folder, call, error, number):
     if done.returncode == NOT_STARTED:
         return "not started", None
     if done.returncode == NO_VOLUME:
-        there, failed, fault = [], False, None if done.stdout == b"" else f"{done.stdout!r} at status 5"
+        there, failed, fault = [], [], None if done.stdout == b"" else f"{done.stdout!r} at status 5"
     else:
         there, failed, fault = fault_of_session(done.stdout)
         fault = fault or (f"status {done.returncode}" if done.returncode else None)
     again = subprocess.run([program, "run", "--dir", folder], input=b"A\n" + SELECT + b"X\n", stdout=subprocess.PIPE)
-    may_be = [there, there + [requests()[-2]]] if failed else [there]
+    may_be = [there] + [there + [each] for each in failed]
     found = [b"A %d\n" % len(each) + (rows(each) if each else b"F 0 32 14\n") + b"X\n" for each in may_be]
     if again.returncode or again.stdout not in found:
         fault = fault or f"the second run has {again.stdout!r}, status {again.returncode}"

@@ -23,7 +23,7 @@ import tempfile
 
 HERE = os.path.dirname(os.path.abspath(__file__))
 TOP = os.path.join(HERE, "..")
-COPIED = ["qd_base", "qd_time", "qd_symbols", "qd_column", "qd_block", "qd_plain", "qd_merge"]
+COPIED = ["qd_base", "qd_time", "qd_symbols", "qd_column", "qd_block", "qd_reference", "qd_merge"]
 
 PROGRAM = r"""//! Times merges.
 #![tactic(auto)]

@@ -1,7 +1,7 @@
 #!/usr/bin/env python3
 """Times pins: 1, 2 and 4 threads that pin and release beside one that publishes and retires.
 
-It makes a repository in a temporary folder with copies of qd_pins and qd_score and a program that makes the calls; the
+It makes a repository in a temporary folder with copies of qd_score_model and qd_score and a program that makes the calls; the
 program is built and run by `rt try`, without a proof. Each reading thread pins and releases PINS times. Beside them one
 thread takes the lock, retires the version before the current one, and once that is done makes the next one live and current
 in its row, and gives the book back, until all others are done. The best of RUNS runs is printed for each number of reading
@@ -20,13 +20,13 @@ import sys
 import tempfile
 
 TOP = os.path.dirname(os.path.dirname(os.path.abspath(__file__)))
-COPIED = ["qd_pins", "qd_score"]
+COPIED = ["qd_score_model", "qd_score"]
 
 SPECS = r'''-- The book of the bench: a number of items, and a version in one or both of the first two rows.
 use Rattle.std.specs.Prelude.{ℕ, ◌-◌, List, [], replicate, slice_set, Option, Some, None}
-use Rattle.qd_pins.specs.declared.limits.TheConstants.{ROWS}
-use Rattle.qd_pins.specs.declared.view.Version.{Version}
-use Rattle.qd_pins.specs.Machine.{Book}
+use Rattle.qd_score_model.specs.declared.limits.TheConstants.{ROWS}
+use Rattle.qd_score_model.specs.declared.view.Version.{Version}
+use Rattle.qd_score_model.specs.Machine.{Book}
 use Rattle.pins_bench.specs.declared.Tally.{Tally}
 
 abbrev pub version_of : Option ℕ → Option (Version (Unit {0}))
@@ -48,7 +48,7 @@ tally_book t = record {
 PROGRAM = r'''//! Times pins beside a thread that publishes.
 #![tactic(auto)]
 
-use qd_pins::Mode;
+use qd_score_model::Mode;
 use qd_score::{Booked, Score, Seat};
 use std::env;
 use std::io;
@@ -232,7 +232,7 @@ def build(top):
     with open(os.path.join(TOP, "crates.txt"), encoding="utf-8") as file:
         lines = [line for line in file if re.split("[ :]", line)[0] in COPIED]
     with open(f"{top}/crates.txt", "w", encoding="utf-8") as file:
-        file.write("".join(lines) + "pins_bench may_wait=1: qd_pins qd_score\n")
+        file.write("".join(lines) + "pins_bench may_wait=1: qd_score_model qd_score\n")
     return folder
 
 

@@ -20,7 +20,7 @@ import sys
 import tempfile
 
 TOP = os.path.dirname(os.path.dirname(os.path.abspath(__file__)))
-COPIED = ["qd_base", "qd_symbols", "qd_fields", "qd_entry", "qd_io", "qd_volume", "qd_durable", "qd_wal"]
+COPIED = ["qd_base", "qd_symbols", "qd_fields", "qd_wal_entry", "qd_io", "qd_volume", "qd_durable", "qd_wal"]
 SIZES = [200, 4096, 65536]
 SEGMENT = 1 << 20
 

@@ -1,7 +1,5 @@
 //! The times of rows.
-ghost use Rattle.std.specs.Prelude.{◌≡◌, ◌↔◌, IfOk, IsTrue, map};
-ghost use Rattle.qd_asof.specs.Choices.{IsRising};
-ghost use Rattle.qd_base.specs.Laws.{IsInOrder};
+ghost use Rattle.std.specs.Prelude.{◌≡◌, IfOk, map};
 ghost use Rattle.qd_base.specs.Rows.{time_in, time_of};
 ghost use Rattle.qd_rows.specs.Sets.{rows_in};
 ghost use Rattle.qd_value.specs.Scalars.{cell_of};
@@ -12,27 +10,6 @@ use qd_expr::scalar;
 use qd_rows::RowSet;
 use qd_value::{Bound, Scalar};
 use std::alloc::Global;
-
-/// Says whether the rows of a set stand in order of the times in a column, as those of a table do by its designated
-/// column. It costs time linear in the rows, and takes 8 bytes a row.
-pub fn is_in_order<D: Dictionary>(alloc: Global, rows: &RowSet<D>, at: u32) -> Result<bool, Memory>
-    ensures order { IfOk result (λ b. IsTrue b ↔ IsInOrder at (rows_in rows.now)) }
-{
-    let times = times_of(alloc, rows, at as usize)?;
-    Ok(rises(times.as_slice()))
-}
-
-/// Whether no number is below the one before.
-fn rises(times: &[u64]) -> bool
-    ensures { IsTrue result ↔ IsRising times.now }
-{
-    for i in 1..times.len() {
-        if times[i] < times[i - 1] {
-            return false;
-        }
-    }
-    true
-}
 
 /// The moments in a column on the rows of a set, in order; 0 where there is none. It takes 8 bytes a row.
 pub(crate) fn times_of<D: Dictionary>(

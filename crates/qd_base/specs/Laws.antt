@@ -4,7 +4,7 @@ use Rattle.std.specs.List.{IsDistinct, AllByRecursion}
 use Rattle.qd_base.specs.declared.cell.Cell.{Cell}
 use Rattle.qd_base.specs.declared.op.Entry.{Entry}
 use Rattle.qd_base.specs.declared.op.Op.{Op}
-use Rattle.qd_base.specs.declared.limits.TheConstants.{LAST_OFFSET, MAX_BATCH_CELLS, MAX_COLUMNS, MAX_LONG, MAX_NAME_BYTES, MAX_NESTING, MAX_NUMBER, MAX_QUERY_BYTES, MAX_RESULT_BYTES, MAX_SAMPLED_ROWS, MAX_STRIDE, MAX_SUFFIX_COUNT, MAX_TABLES, MAX_TEXT_BYTES, MAX_TIME, MAX_WRITE_BYTES, NULL_LONG, NULL_TIME}
+use Rattle.qd_base.specs.declared.limits.TheConstants.{LAST_OFFSET, MAX_BATCH_CELLS, MAX_COLUMNS, MAX_LONG, MAX_NAME_BYTES, MAX_NESTING, MAX_NUMBER, MAX_QUERY_BYTES, MAX_RESULT_BYTES, MAX_SAMPLED_ROWS, MAX_STRIDE, MAX_SUFFIX_COUNT, MAX_TABLES, MAX_TEXT_BYTES, MAX_TIME, MAX_TXNS, MAX_WRITE_BYTES, NULL_LONG, NULL_TIME}
 use Rattle.qd_base.specs.Rows.{Row, cell_eq, time_of, same_on, without_equals, put}
 use Rattle.qd_base.specs.Schemas.{schemas_step, schemas_from}
 use Rattle.qd_base.specs.Database.{Database, StoredTable, step, schemas_of}
@@ -81,6 +81,7 @@ pub record LimitsAreThese : Type 0 where
   pub tables : MAX_TABLES ≡ 2 ^ 10
   pub columns : MAX_COLUMNS ≡ 2 ^ 8
   pub cells : MAX_BATCH_CELLS ≡ 2 ^ 22
+  pub transactions : MAX_TXNS ≡ 2 ^ 22
   pub nesting : MAX_NESTING ≡ 2 ^ 8
   pub stride : MAX_STRIDE ≡ 10 ^ 6
   pub suffix : MAX_SUFFIX_COUNT ≡ 10 ^ 6

@@ -19,8 +19,6 @@ mod request;
 mod schema;
 mod schemas;
 mod seq;
-#[cfg(test)]
-mod tests;
 mod txt;
 mod unit;
 
@@ -36,7 +34,7 @@ pub use laws::{
 pub use limits::{
     LAST_OFFSET, Limits, MAX_BATCH_CELLS, MAX_COLUMNS, MAX_LONG, MAX_NAME_BYTES, MAX_NESTING,
     MAX_NUMBER, MAX_QUERY_BYTES, MAX_RESULT_BYTES, MAX_SAMPLED_ROWS, MAX_STRIDE, MAX_SUFFIX_COUNT,
-    MAX_TABLES, MAX_TEXT_BYTES, MAX_TIME, MAX_WRITE_BYTES, NULL_ID, NULL_LONG, NULL_TIME,
+    MAX_TABLES, MAX_TEXT_BYTES, MAX_TIME, MAX_TXNS, MAX_WRITE_BYTES, NULL_ID, NULL_LONG, NULL_TIME,
 };
 pub use named::{Named, NamedList};
 pub use names::{column_name_ok, same_name, table_name_ok};

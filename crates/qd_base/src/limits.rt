@@ -1,4 +1,5 @@
 //! The limits of the product.
+ghost use Rattle.qd_base.specs.declared.limits.TheConstants.{MAX_TXNS};
 ghost use Rattle.std.specs.Prelude.{◌≡◌};
 
 /// The greatest timestamp, 9999-12-31T23:59:59.999999Z, in microseconds since 1970-01-01T00:00Z.
@@ -40,6 +41,9 @@ pub const MAX_COLUMNS: usize = 256;
 /// The greatest number of cells that one transaction inserts.
 pub const MAX_BATCH_CELLS: u64 = 4_194_304;
 
+/// The greatest number of transactions of a store.
+pub const MAX_TXNS: u32 = 4_194_304;
+
 /// How deep the brackets of a statement may nest. Deeper ones find no memory, since the stack is memory.
 pub const MAX_NESTING: usize = 256;
 
@@ -58,7 +62,7 @@ pub const MAX_RESULT_BYTES: u64 = 67_108_864;
 /// The last offset in an input, at which it is taken as ended: 2^64 - 1.
 pub const LAST_OFFSET: u64 = 18_446_744_073_709_551_615;
 
-/// What a store keeps to. Wherever limits are taken, `max_txns` is at most 4,194,304, `seg_bytes` is at most
+/// What a store keeps to. Wherever limits are taken, `max_txns` is at most [`MAX_TXNS`], `seg_bytes` is at most
 /// 2^62, and all but `max_txns` are at least 1.
 #[derive(Clone, Copy, Debug, PartialEq, Eq)]
 pub struct Limits {
@@ -75,13 +79,13 @@ pub struct Limits {
 impl Limits {
     /// Gives the limits of the product.
     pub fn usual() -> Limits
-        ensures transactions { result.max_txns ≡ 4194304 }
+        ensures transactions { result.max_txns ≡ MAX_TXNS }
         ensures split { result.split_rows ≡ 4096 }
         ensures segment { result.seg_bytes ≡ 67108864 }
         ensures cache { result.cache_blocks ≡ 256 }
     {
         Limits {
-            max_txns: 4_194_304,
+            max_txns: MAX_TXNS,
             split_rows: 4_096,
             seg_bytes: 67_108_864,
             cache_blocks: 256,

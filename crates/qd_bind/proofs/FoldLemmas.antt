@@ -1,27 +1,27 @@
 -- What a rule of the grammar becomes, by what stands in its tree.
 use Rattle.std.proofs.Common.{◌≡◌, ℕ, List, map, sym, ap, ◌∙◌}
-use Rattle.qd_trees.specs.declared.tree.Cmp.{Cmp}
-use Rattle.qd_trees.specs.declared.tree.Lit.{Lit}
-use Rattle.qd_trees.specs.declared.tree.Text.{Text}
-use Rattle.qd_trees.specs.declared.tree.Column.{Column}
-use Rattle.qd_trees.specs.declared.tree.Check.{Check}
-use Rattle.qd_trees.specs.declared.tree.Check.TheVariants as checks
-use Rattle.qd_trees.specs.declared.tree.Check.TheVariants.{rolls-Compare, rolls-InList, rolls-InText}
-use Rattle.qd_trees.specs.declared.tree.Prime.{Prime}
-use Rattle.qd_trees.specs.declared.tree.Prime.TheVariants as primes
-use Rattle.qd_trees.specs.declared.tree.Prime.TheVariants.{rolls-Column}
-use Rattle.qd_trees.specs.declared.tree.Expr.{Expr, out-Expr}
-use Rattle.qd_trees.specs.declared.tree.Conj.{Conj, out-Conj}
-use Rattle.qd_trees.specs.declared.tree.Neg.{Neg, out-Neg}
-use Rattle.qd_trees.specs.declared.tree.Plus.{Plus, out-Plus}
-use Rattle.qd_trees.specs.declared.tree.Term.{Term, out-Term}
-use Rattle.qd_trees.specs.declared.tree.Signed.{Signed}
-use Rattle.qd_trees.specs.declared.tree.OrConj.{OrConj, out-OrConj}
-use Rattle.qd_trees.specs.declared.tree.AndNeg.{AndNeg, out-AndNeg}
-use Rattle.qd_trees.specs.declared.tree.AddTerm.{AddTerm, out-AddTerm}
-use Rattle.qd_trees.specs.declared.tree.MulSigned.{MulSigned}
-use Rattle.qd_trees.specs.declared.tree.Check.TheOpen.{Check-F, Prime-F}
-use Rattle.qd_trees.specs.declared.tree.Check.TheFolds.{fold-roll-Check, fold-roll-Prime, fold_out-Expr, fold_out-Conj, fold_out-Neg, fold_out-Plus, fold_out-Term, fold_out-Signed, fold_out-OrConj, fold_out-AndNeg, fold_out-AddTerm, fold_out-MulSigned}
+use Rattle.qd_sql_ast.specs.declared.tree.Cmp.{Cmp}
+use Rattle.qd_sql_ast.specs.declared.tree.Lit.{Lit}
+use Rattle.qd_sql_ast.specs.declared.tree.Text.{Text}
+use Rattle.qd_sql_ast.specs.declared.tree.Column.{Column}
+use Rattle.qd_sql_ast.specs.declared.tree.Check.{Check}
+use Rattle.qd_sql_ast.specs.declared.tree.Check.TheVariants as checks
+use Rattle.qd_sql_ast.specs.declared.tree.Check.TheVariants.{rolls-Compare, rolls-InList, rolls-InText}
+use Rattle.qd_sql_ast.specs.declared.tree.Prime.{Prime}
+use Rattle.qd_sql_ast.specs.declared.tree.Prime.TheVariants as primes
+use Rattle.qd_sql_ast.specs.declared.tree.Prime.TheVariants.{rolls-Column}
+use Rattle.qd_sql_ast.specs.declared.tree.Expr.{Expr, out-Expr}
+use Rattle.qd_sql_ast.specs.declared.tree.Conj.{Conj, out-Conj}
+use Rattle.qd_sql_ast.specs.declared.tree.Neg.{Neg, out-Neg}
+use Rattle.qd_sql_ast.specs.declared.tree.Plus.{Plus, out-Plus}
+use Rattle.qd_sql_ast.specs.declared.tree.Term.{Term, out-Term}
+use Rattle.qd_sql_ast.specs.declared.tree.Signed.{Signed}
+use Rattle.qd_sql_ast.specs.declared.tree.OrConj.{OrConj, out-OrConj}
+use Rattle.qd_sql_ast.specs.declared.tree.AndNeg.{AndNeg, out-AndNeg}
+use Rattle.qd_sql_ast.specs.declared.tree.AddTerm.{AddTerm, out-AddTerm}
+use Rattle.qd_sql_ast.specs.declared.tree.MulSigned.{MulSigned}
+use Rattle.qd_sql_ast.specs.declared.tree.Check.TheOpen.{Check-F, Prime-F}
+use Rattle.qd_sql_ast.specs.declared.tree.Check.TheFolds.{fold-roll-Check, fold-roll-Prime, fold_out-Expr, fold_out-Conj, fold_out-Neg, fold_out-Plus, fold_out-Term, fold_out-Signed, fold_out-OrConj, fold_out-AndNeg, fold_out-AddTerm, fold_out-MulSigned}
 use Rattle.qd_value.specs.declared.bound.Bound.TheVariants as is
 use Rattle.qd_meaning.specs.Scopes.{Scope, resolved}
 use Rattle.qd_meaning.specs.Typing.{Typed, Part, Link, negated, chained, compared, in_list, in_text, not_of, joined_by}

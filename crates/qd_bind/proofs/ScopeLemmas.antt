@@ -3,8 +3,8 @@ use Rattle.std.proofs.Common.{◌≡◌, ℕ, ◌+◌, ◌<◌, Bool, true, fals
 use Rattle.std.proofs.lemmas.List.{length-map}
 use Rattle.qd_base.specs.declared.schema.Col.{Col}
 use Rattle.qd_base.specs.Schemas.{same_name}
-use Rattle.qd_trees.specs.declared.tree.Name.{Name}
-use Rattle.qd_trees.specs.declared.tree.Column.{Column}
+use Rattle.qd_sql_ast.specs.declared.tree.Name.{Name}
+use Rattle.qd_sql_ast.specs.declared.tree.Column.{Column}
 use Rattle.qd_meaning.specs.Scopes as scopes
 use Rattle.qd_meaning.specs.Scopes.{ScopeColumn, scope_column, is_named, found_from}
 use Rattle.qd_base.specs.declared.code.Code.TheVariants as code

@@ -3,8 +3,8 @@ use Rattle.std.specs.Prelude.{ℕ, ℤ, pos, neg_ℤ, true, false, List, [], ◌
 use Rattle.qd_base.specs.declared.cell.Cell.{Cell}
 use Rattle.qd_base.specs.declared.cell.Cell.TheVariants as cell
 use Rattle.qd_time.specs.declared.fault.TimeFault.{TimeFault}
-use Rattle.qd_trees.specs.declared.tree.Lit.{Lit}
-use Rattle.qd_trees.specs.declared.tree.Lit.TheVariants as lit
+use Rattle.qd_sql_ast.specs.declared.tree.Lit.{Lit}
+use Rattle.qd_sql_ast.specs.declared.tree.Lit.TheVariants as lit
 use Rattle.qd_meaning.specs.Refusals.{least}
 use Rattle.qd_meaning.specs.TimeTexts.{time_of_text, time_of_number}
 use Rattle.qd_meaning.specs.Typing.{time_cell, time_faults}

@@ -2,7 +2,7 @@
 use Rattle.std.specs.Prelude.{◌≡◌, ℕ, ◌≤◌, Result, IfOk}
 use Rattle.std.specs.Borrow.{Bor}
 use Rattle.std.specs.declared.alloc.Global.{Global}
-use Rattle.qd_trees.specs.declared.tree.Expr.{Expr}
+use Rattle.qd_sql_ast.specs.declared.tree.Expr.{Expr}
 use Rattle.qd_meaning.specs.Binding as binding
 use Rattle.qd_bind.specs.declared.scope.Scope.{Scope}
 use Rattle.qd_bind.specs.declared.typed.Typed.{Typed}

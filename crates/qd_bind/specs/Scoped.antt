@@ -4,8 +4,8 @@ use Rattle.std.specs.Borrow.{Bor}
 use Rattle.qd_base.specs.declared.schema.Col.{Col}
 use Rattle.qd_base.specs.Schemas.{same_name}
 use Rattle.qd_base.specs.declared.code.Code.TheVariants as code
-use Rattle.qd_trees.specs.declared.tree.Name.{Name}
-use Rattle.qd_trees.specs.declared.tree.Column.{Column}
+use Rattle.qd_sql_ast.specs.declared.tree.Name.{Name}
+use Rattle.qd_sql_ast.specs.declared.tree.Column.{Column}
 use Rattle.qd_meaning.specs.declared.refusal.Refusal.{Refusal}
 use Rattle.qd_meaning.specs.Refusals.{least, unless}
 use Rattle.qd_meaning.specs.Typing.{literal, constant_null, plain_column}

@@ -16,7 +16,7 @@ use crate::steps::{behind_minuses, behind_nots, compared, in_list, in_text, is_n
 use crate::typed::Typed;
 use crate::whole::Whole;
 use qd_base::{MAX_NESTING, Memory};
-use qd_trees::{
+use qd_sql_ast::{
     AddOp, AddTerm, AndNeg, Check, Cmp, Conj, Expr, MulOp, MulSigned, Neg, OrConj, Plus, Prime,
     Signed, Term, Test,
 };

@@ -9,8 +9,6 @@ mod lists;
 mod scope;
 mod side;
 mod steps;
-#[cfg(test)]
-mod tests;
 mod typed;
 mod whole;
 

@@ -8,8 +8,8 @@ use crate::typed::{Constant, moment, moment_of};
 use crate::whole::Whole;
 use qd_base::{Cell, Code, Memory, Seq};
 use qd_meaning::{Refusal, sooner};
+use qd_sql_ast::{Lit, Text};
 use qd_time::TimeFault;
-use qd_trees::{Lit, Text};
 use std::alloc::Global;
 
 /// Literals as far as they are read.

@@ -11,7 +11,7 @@ use crate::side::{Side, are_apart};
 use crate::typed::Typed;
 use qd_base::{Code, Col, ColList, Memory, Schema, same_name};
 use qd_meaning::{Refusal, unless};
-use qd_trees::Column;
+use qd_sql_ast::Column;
 
 /// The columns that an expression may name: those of the left table, then those of the right one.
 #[derive(Clone, Copy)]

@@ -10,8 +10,8 @@ use crate::typed::{Form, Typed, moment_of};
 use crate::whole::Whole;
 use qd_base::{Cell, Code, Memory};
 use qd_meaning::{Refusal, sooner, times_are_read, unless};
+use qd_sql_ast::{Lit, Text};
 use qd_time::{TimeFault, parse_interval};
-use qd_trees::{Lit, Text};
 use qd_value::{Bound, Boxed, Comparison};
 use std::alloc::Global;
 

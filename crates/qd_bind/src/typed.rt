@@ -9,8 +9,8 @@ use crate::class::Class;
 use crate::whole::Whole;
 use qd_base::{Cell, Col, Duplicate, MAX_TIME, Memory};
 use qd_meaning::{Refusal, times_are_read};
+use qd_sql_ast::Text;
 use qd_time::{TimeFault, parse_time};
-use qd_trees::Text;
 use qd_value::Bound;
 use std::alloc::Global;
 

@@ -1,7 +1,7 @@
 //! Numbers of statements with their sign.
 ghost use Rattle.std.specs.Prelude.{◌≡◌, ℤ, pos, neg_ℤ, unsigned_abs, ◌≤◌};
 
-use qd_trees::Magnitude;
+use qd_sql_ast::Magnitude;
 use std::marker::Model;
 
 /// A number from -9223372036854775807 to 9223372036854775807. Contracts see the number.

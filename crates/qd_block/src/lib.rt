@@ -5,8 +5,6 @@ mod block;
 mod builder;
 mod order;
 mod rows;
-#[cfg(test)]
-mod tests;
 
 pub use block::{Block, ColumnView};
 pub use builder::Builder;

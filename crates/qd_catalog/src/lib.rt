@@ -8,8 +8,6 @@ mod blocks;
 mod catalog;
 mod rows;
 mod tables;
-#[cfg(test)]
-mod tests;
 mod version;
 
 pub use catalog::{Catalog, ROWS};

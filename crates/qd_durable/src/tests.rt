@@ -37,10 +37,3 @@ fn pieces_stopped_at_each_call(rt: HostRuntime) -> Result<(), Fail> {
     }
     Ok(())
 }
-
-#[test]
-fn faults_of_a_log(rt: HostRuntime) -> Result<(), Fail> {
-    assert_eq!(rt; LogFault::from(IoFault::Failed), LogFault::Vol);
-    assert_eq!(rt; LogFault::from(IoFault::Memory), LogFault::Memory);
-    Ok(())
-}

@@ -7,8 +7,6 @@ mod codes;
 mod numbers;
 mod schema;
 mod stop;
-#[cfg(test)]
-mod tests;
 mod texts;
 
 pub use codes::{kind_at, push_kind, push_unit, unit_at};

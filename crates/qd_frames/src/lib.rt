@@ -6,7 +6,5 @@ mod front;
 mod head;
 mod laws;
 mod queue;
-#[cfg(test)]
-mod tests;
 
 pub use front::FrameFront;

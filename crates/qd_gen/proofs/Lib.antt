@@ -5,3 +5,4 @@ pub mod Lines
 pub mod Batches
 pub mod Inputs
 pub mod Framing
+mod QuietLemmas

@@ -3,3 +3,4 @@ pub mod Generated
 pub mod Stretches
 pub mod Examples
 pub mod Framed
+pub mod Quieted

@@ -16,7 +16,7 @@ use Rattle.qd_group.specs.Tallies.{Leading, lead_after}
 
 -- ---- one order
 
-less_of : (o : Ordering) → is_lt o ≡ true → o ≡ Less
+pub less_of : (o : Ordering) → is_lt o ≡ true → o ≡ Less
 less_of Less e = refl
 less_of Equal e = cc
 less_of Greater e = cc
@@ -93,7 +93,7 @@ takes_greater = record { along = λ r c b e f. less_along b c r f e; apart = λ 
 
 -- ---- the best of two
 
-better_some : (takes : Cell → Cell → Bool) (a b : Cell) → is_null a ≡ false → is_null b ≡ false → better takes a b ≡ cond (takes b a) b a
+pub better_some : (takes : Cell → Cell → Bool) (a b : Cell) → is_null a ≡ false → is_null b ≡ false → better takes a b ≡ cond (takes b a) b a
 better_some takes cell.Null b e f = absurd (true≢false e)
 better_some takes (cell.Long x) cell.Null e f = absurd (true≢false f)
 better_some takes (cell.Bool x) cell.Null e f = absurd (true≢false f)
@@ -101,7 +101,7 @@ better_some takes (cell.Text x) cell.Null e f = absurd (true≢false f)
 better_some takes (cell.Time x) cell.Null e f = absurd (true≢false f)
 better_some takes _ _ e f = refl
 
-better_none : (takes : Cell → Cell → Bool) (a : Cell) → better takes a cell.Null ≡ a
+pub better_none : (takes : Cell → Cell → Bool) (a : Cell) → better takes a cell.Null ≡ a
 better_none takes cell.Null = refl
 better_none takes (cell.Long x) = refl
 better_none takes (cell.Bool x) = refl

@@ -11,3 +11,5 @@ pub mod RunLemmas
 pub mod ExtremeLemmas
 pub mod GroupTallies
 pub mod PairLemmas
+pub mod GroupLaws
+pub mod ExtremeLaws

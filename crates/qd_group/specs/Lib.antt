@@ -1,4 +1,5 @@
 pub mod Keys
+pub mod Laws
 pub mod Grouping
 pub mod Tallies
 pub mod Tallied

@@ -8,16 +8,16 @@ mod extremes;
 mod groups;
 mod keeping;
 mod keys;
+mod laws;
 mod longs;
 mod pairs;
 mod sums;
 mod symbols;
 mod tallies;
 mod tallying;
-#[cfg(test)]
-mod tests;
 
 pub use answers::{columns_of, group};
 pub use classes::{grouped_rows, numbered, refined};
 pub use groups::Groups;
 pub use keys::{Key, keys_of};
+pub use laws::{extremes_go_first, groups_split_rows};

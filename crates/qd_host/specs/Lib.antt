@@ -1,5 +1,4 @@
 -- The definitions that the contracts of this crate cite.
-pub mod Heap
 pub mod Hosts
 pub mod Lent
 pub mod Memory

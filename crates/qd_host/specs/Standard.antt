@@ -2,7 +2,7 @@
 use Rattle.std.specs.Prelude.{ℕ}
 use Rattle.qd_volume.specs.declared.folder.FolderVolume.{FolderVolume}
 use Rattle.qd_volume.specs.Calls.{Storage}
-use Rattle.qd_host.specs.declared.heap.HeapVolume.{HeapVolume}
+use Rattle.qd_volume.specs.declared.memory.heap.HeapVolume.{HeapVolume}
 use Rattle.qd_host.specs.declared.standard.StdVolume.{StdVolume}
 use Rattle.qd_host.specs.declared.standard.StdVolume.TheVariants as kind
 

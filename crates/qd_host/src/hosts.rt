@@ -1,6 +1,6 @@
 //! A host as a trait: what it gives of the machine, and what it counts of what comes back.
-ghost use Rattle.std.specs.Prelude.{◌≡◌, IfOk, OnErr};
-ghost use Rattle.qd_host.specs.Hosts.{ClocksStay, Supply, after_clock, after_volume, without_clock};
+ghost use Rattle.std.specs.Prelude.{◌≡◌, IfOk, OnErr, option_map};
+ghost use Rattle.qd_host.specs.Hosts.{ClocksStay, Names, Supply, after_clock, after_volume, without_clock};
 ghost use Rattle.qd_io.specs.Ends.{Counts};
 
 use qd_io::{Clock, IoFault};
@@ -11,8 +11,8 @@ use std::alloc::Global;
 /// come with the layers that use them.
 ///
 /// `supply` is what it shows: the times of the clock that it gives next, and the changes made to the volume that it gives
-/// next, each where it tells them; and how many calls have failed: of its own, and of the clocks and the volumes that it
-/// took back. A program gives back each clock and each volume that it was given, so that their faults are counted here.
+/// next, each where it tells them; how many calls have failed: of its own, and of the clocks and the volumes that it took
+/// back; and the folders that were asked for, where it tells them. A program gives back each clock and each volume that it was given, so that their faults are counted here.
 pub trait Host {
     /// The clocks that it gives.
     type Clk: Clock;
@@ -46,6 +46,9 @@ pub trait Host {
         ensures shelf { OnErr result ((Self.supply self.new).shelf ≡ (Self.supply self.old).shelf) }
         ensures still_lent { OnErr result ((Self.supply self.new).lent_faults ≡ (Self.supply self.old).lent_faults) }
         ensures clocks { ClocksStay (Self.supply self.old) (Self.supply self.new) }
+
+        // The folder that is named is the last one that was asked for, where that is told.
+        ensures named { Names (Self.supply self.old).folders (Self.supply self.new).folders (option_map (λ d. d.now) dir.entry) result }
 
         // The count of faults rises exactly where `Failed` is answered.
         ensures counted { Counts (Self.supply self.old).volume_faults (Self.supply self.new).volume_faults result };

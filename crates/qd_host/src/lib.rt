@@ -2,7 +2,6 @@
 //! and a volume, lent and taken back, with a host in memory for tests, and the machine itself.
 #![tactic(auto)]
 
-mod heap;
 mod hosts;
 mod laws;
 mod lent;
@@ -11,12 +10,11 @@ mod standard;
 #[cfg(test)]
 mod tests;
 
-pub use heap::HeapVolume;
 pub use hosts::Host;
 pub use laws::faults_come_back;
 pub use lent::Lent;
 pub use memory::MemHost;
-pub use standard::{StdHost, StdVolume};
+pub use standard::{StdHost, StdVolume, Trouble};
 
 /// Want of memory, where it is all that can go wrong.
 pub type Memory = std::alloc::AllocError;

@@ -1,6 +1,6 @@
 //! A host over memory.
-ghost use Rattle.std.specs.Prelude.{◌≡◌, None, Some, option_map, IfNone, IfOk, IfSome};
-ghost use Rattle.qd_host.specs.Memory.{lent_next};
+ghost use Rattle.std.specs.Prelude.{◌≡◌, None, OnErr, OnOk, Some, [], option_map, IfNone, IfOk, IfSome};
+ghost use Rattle.qd_host.specs.Memory.{asked, lent_next};
 ghost use Rattle.qd_io.specs.Ends.{counts_together};
 ghost use Rattle.qd_io.specs.Memory.{IsUnused};
 ghost use Rattle.qd_volume.specs.Memory.{unused};
@@ -23,16 +23,17 @@ pub struct MemHost {
     shelf: Option<MemVolume>,
     plan: FailurePlan,
     volume_faults: u64,
+    folders: Vec<Vec<u8>>,
 }
 
 impl Model for MemHost {
-    ghost use Rattle.std.specs.Prelude.{IfSome};
+    ghost use Rattle.std.specs.Prelude.{IfSome, map};
     ghost use Rattle.qd_host.specs.Memory.{InMemory};
     ghost use Rattle.qd_io.specs.Memory.{IsUnused};
 
     ghost Value = { InMemory };
 
-    ghost view = { λ s. record { clock = s.next_clock; clock_faults = s.clock_faults; shelf = s.shelf; plan = s.plan; volume_faults = s.volume_faults } };
+    ghost view = { λ s. record { clock = s.next_clock; clock_faults = s.clock_faults; shelf = s.shelf; plan = s.plan; volume_faults = s.volume_faults; folders = map (λ f. f.items) s.folders.items } };
 
     ghost invariant = { λ s. IfSome s.next_clock (λ clock. IsUnused clock.plan) };
 }
@@ -43,7 +44,7 @@ impl MemHost {
     ///
     /// It copies `fails`, and answers [`Memory`] where there is no room for it.
     pub fn new(alloc: Global, volume: MemVolume, fails: &[u64]) -> Result<MemHost, Memory>
-        ensures { IfOk result (λ host. host ≡ record { clock = None; clock_faults = 0; shelf = Some volume; plan = unused fails.now; volume_faults = 0 }) }
+        ensures { IfOk result (λ host. host ≡ record { clock = None; clock_faults = 0; shelf = Some volume; plan = unused fails.now; volume_faults = 0; folders = [] }) }
     {
         Ok(MemHost {
             alloc,
@@ -52,6 +53,7 @@ impl MemHost {
             shelf: Some(volume),
             plan: FailurePlan::new(alloc, fails)?,
             volume_faults: 0,
+            folders: Vec::new(alloc),
         })
     }
 
@@ -69,6 +71,19 @@ impl MemHost {
         ensures { option_map (λ volume. volume.now) result ≡ self.now.shelf }
     {
         self.shelf.as_ref()
+    }
+
+    /// Keeps the name of a folder behind those that were asked for before. Where there is no memory for it nothing is kept.
+    fn name(&mut self, dir: Option<&[u8]>) -> Result<(), Memory>
+        ensures named { OnOk result (self.new ≡ asked self.old (option_map (λ d. d.now) dir.entry)) }
+        ensures stays { OnErr result (self.new ≡ self.old) }
+    {
+        if let Some(dir) = dir {
+            let mut folder = Vec::new(self.alloc);
+            folder.extend_from_slice(dir)?;
+            self.folders.push(folder)?;
+        }
+        Ok(())
     }
 
     /// Takes the volume off the shelf, where this call isn't one that fails.
@@ -99,6 +114,7 @@ impl Host for MemHost {
       shelf = disk_on host.shelf;
       volume_faults = host.volume_faults;
       lent_faults = 0;
+      folders = Some host.folders;
     } };
 
     /// Gives the clock that was set, or one that gives 0 at each call, which it does from then on until one is set
@@ -121,11 +137,11 @@ impl Host for MemHost {
         self.clock_faults = self.clock_faults.saturating_add(clock.faults());
     }
 
-    /// Gives the volume on the shelf, whatever is named, and never wants memory. It takes time in the number of failing
-    /// calls.
-    fn volume(&mut self, _alloc: Global, _dir: Option<&[u8]>) -> Result<Lent<MemVolume>, IoFault>
-        ensures exact { MemLends self.old self.new result }
+    /// Gives the volume on the shelf, whatever is named, and keeps the name. It takes time in the number of failing calls.
+    fn volume(&mut self, _alloc: Global, dir: Option<&[u8]>) -> Result<Lent<MemVolume>, IoFault>
+        ensures exact { MemLends self.old self.new (option_map (λ d. d.now) dir.entry) result }
     {
+        self.name(dir)?;
         match self.lend() {
             Some(volume) => {
                 self.plan.pass();

@@ -2,12 +2,11 @@
 ghost use Rattle.qd_io.specs.Ends.{Counts};
 ghost use Rattle.std.specs.Prelude.{◌≡◌};
 
-use crate::heap::HeapVolume;
 use crate::hosts::Host;
 use crate::lent::{Lent, counted};
 use qd_io::{IoFault, StdClock};
-use qd_volume::{FolderVolume, Volume};
-use std::alloc::Global;
+use qd_volume::{Failure, FolderVolume, HeapVolume, Refusal, Volume};
+use std::alloc::{Alloc, Global};
 use std::fs::{File, Files};
 
 /// A volume of the machine. It tells nothing of its content.
@@ -69,6 +68,16 @@ impl<R: Files<File = File> + Drop> Volume for StdVolume<R> {
     }
 }
 
+/// What went wrong with a folder, for a person.
+#[derive(Drop)]
+pub enum Trouble {
+    /// It wasn't opened.
+    Refused(Refusal),
+
+    /// A call of its volume failed.
+    Failed(Failure),
+}
+
 /// The machine that the program runs on. It tells nothing of what it gives: a real device tells nothing.
 ///
 /// It has one volume in memory, which is empty at first. While that one is lent, it gives further ones that are empty, and
@@ -79,9 +88,13 @@ pub struct StdHost<R> {
     clock_faults: u64,
     shelf: Option<HeapVolume>,
     volume_faults: u64,
+    /// The name of the folder that was asked for last.
+    folder: Option<Vec<u8>>,
+    /// What went wrong first.
+    trouble: Option<Trouble>,
 }
 
-impl<R: std::time::Clock + Copy + Files<File = File> + Drop> StdHost<R> {
+impl<R: std::time::Clock + Copy + Clone + Alloc + Files<File = File> + Drop> StdHost<R> {
     /// The machine, of which nothing is taken yet. It takes no memory.
     pub fn new(rt: R, alloc: Global) -> StdHost<R>
         ensures clocks { (⟦<StdHost<R> as Host>⟧.supply result).clock_faults ≡ 0 }
@@ -92,6 +105,31 @@ impl<R: std::time::Clock + Copy + Files<File = File> + Drop> StdHost<R> {
             clock_faults: 0,
             shelf: Some(HeapVolume::new(alloc)),
             volume_faults: 0,
+            folder: None,
+            trouble: None,
+        }
+    }
+
+    /// The name of the folder that was asked for last: `None` too where there was no memory to keep it.
+    pub fn folder(&self) -> Option<&[u8]> {
+        match &self.folder {
+            Some(name) => Some(name.as_slice()),
+            None => None,
+        }
+    }
+
+    /// What went wrong first with a folder, of those that aren't lent.
+    pub fn trouble(&self) -> Option<&Trouble> {
+        self.trouble.as_ref()
+    }
+
+    /// Keeps what went wrong, where nothing did before.
+    fn note(&mut self, trouble: Trouble)
+        ensures volumes { self.new.volume_faults ≡ self.old.volume_faults }
+        ensures clocks { self.new.clock_faults ≡ self.old.clock_faults }
+    {
+        if self.trouble.is_none() {
+            self.trouble = Some(trouble);
         }
     }
 
@@ -100,9 +138,15 @@ impl<R: std::time::Clock + Copy + Files<File = File> + Drop> StdHost<R> {
         ensures counted { Counts self.old.volume_faults self.new.volume_faults result }
         ensures clocks { self.new.clock_faults ≡ self.old.clock_faults }
     {
-        let folder = FolderVolume::open(self.rt, alloc, dir);
-        let volume = counted(folder, &mut self.volume_faults)?;
-        Ok(StdVolume::Folder(volume))
+        self.folder = Vec::from_slice(alloc, dir).ok();
+        match FolderVolume::open(self.rt, alloc, dir) {
+            Ok(volume) => Ok(StdVolume::Folder(volume)),
+            Err(refusal) => {
+                let fault = refusal.fault();
+                self.note(Trouble::Refused(refusal));
+                counted(Err(fault), &mut self.volume_faults)
+            }
+        }
     }
 
     /// The volume in memory, or where it is lent an empty one.
@@ -117,14 +161,14 @@ impl<R: std::time::Clock + Copy + Files<File = File> + Drop> StdHost<R> {
     }
 }
 
-impl<R: std::time::Clock + Copy + Files<File = File> + Drop> Host for StdHost<R> {
+impl<R: std::time::Clock + Copy + Clone + Alloc + Files<File = File> + Drop> Host for StdHost<R> {
     type Clk = Lent<StdClock<R>>;
 
     type Vol = Lent<StdVolume<R>>;
 
     ghost use Rattle.std.specs.Prelude.{None};
 
-    ghost supply = { λ host. record { clock_times = None; clock_faults = host.clock_faults; shelf = None; volume_faults = host.volume_faults; lent_faults = 0 } };
+    ghost supply = { λ host. record { clock_times = None; clock_faults = host.clock_faults; shelf = None; volume_faults = host.volume_faults; lent_faults = 0; folders = None } };
 
     fn clock(&mut self) -> Lent<StdClock<R>> {
         Lent::new(StdClock::new(self.rt))
@@ -143,11 +187,16 @@ impl<R: std::time::Clock + Copy + Files<File = File> + Drop> Host for StdHost<R>
         Ok(Lent::new(volume))
     }
 
-    /// Closes a folder. A volume in memory is kept for the next call.
+    /// Closes a folder, and keeps what went wrong with it. A volume in memory is kept for the next call.
     fn put_back(&mut self, volume: Lent<StdVolume<R>>) {
         self.volume_faults = self.volume_faults.saturating_add(volume.faults());
-        if let StdVolume::Memory(memory) = volume.into_device() {
-            self.shelf = Some(memory);
+        match volume.into_device() {
+            StdVolume::Memory(memory) => self.shelf = Some(memory),
+            StdVolume::Folder(folder) => {
+                if let Some(failure) = folder.close() {
+                    self.note(Trouble::Failed(failure));
+                }
+            }
         }
     }
 }

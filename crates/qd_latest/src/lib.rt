@@ -4,8 +4,6 @@
 mod lasts;
 mod laws;
 mod rows;
-#[cfg(test)]
-mod tests;
 
 pub use laws::latest_rows_are_last;
 pub use rows::latest;

@@ -15,8 +15,6 @@ mod names;
 mod overlay;
 mod own;
 mod sink;
-#[cfg(test)]
-mod tests;
 mod values;
 mod walk;
 

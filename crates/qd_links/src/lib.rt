@@ -10,8 +10,6 @@ ghost use Rattle.std.specs.Prelude.{◌≡◌, ℕ, ◌+◌, ◌<◌, ◌≤◌,
 ghost use Rattle.qd_links.specs.Lists.{list_at, with_list, StandsAt, IsListed, StandOnce};
 
 mod ring;
-#[cfg(test)]
-mod tests;
 
 use ring::{Link, add_slots, insert_slot, node_beside, remove_slot};
 pub use std::alloc::AllocError as Memory;

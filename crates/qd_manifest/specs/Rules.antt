@@ -14,7 +14,7 @@ use Rattle.qd_base.specs.Schemas.{same_name, column_at}
 use Rattle.qd_time.specs.Units.{unit_of, start_of}
 use Rattle.qd_manifest.specs.declared.shape.TableParts.{TableParts}
 use Rattle.qd_manifest.specs.declared.shape.TheConstants.{BLOCKS_PER_TRANSACTION}
-use Rattle.qd_manifest.specs.Spelling.{no_part}
+use Rattle.qd_manifest.specs.Spelling.{no_part, rows_shown}
 
 -- each number below n passes
 abbrev pub each_below : (ℕ → Bool) → ℕ → Bool
@@ -69,13 +69,21 @@ may_be_key columns time count before key = nat_lt key columns && (not (list_any 
 abbrev pub may_be_block : ℕ → List ℕ → ℕ → Bool
 may_be_block next named block = nat_lt block next && not (list_any (nat_eq block) named)
 
+-- the number of a part's rows, by the parts before, in a table of at most so many
+abbrev pub may_be_rows : ℕ → List Part → ℕ → Bool
+may_be_rows most before rows = nat_le 1 rows && nat_le (rows_shown before + rows) most
+
 -- the number of a part's columns
 abbrev pub may_be_width : Schema → ℕ → Bool
 may_be_width s cols = nat_lt s.time_col cols && nat_le cols (length s.cols)
+
+-- one row has one time
+abbrev pub may_be_one : ℕ → ℕ → ℕ → Bool
+may_be_one rows lo hi = not (nat_eq rows 1) || nat_eq lo hi
 
 -- a part's first time, by the parts before; and its last
 abbrev pub may_begin : List Part → ℕ → Bool
 may_begin before lo = nat_le lo MAX_TIME && (nat_eq (length before) 0 || nat_lt (slice_index_or before (length before - 1) no_part).hi lo)
 
-abbrev pub may_end : PartUnit → ℕ → ℕ → Bool
-may_end u lo hi = nat_le lo hi && (nat_le hi MAX_TIME && nat_eq (start_of (unit_of u) lo) (start_of (unit_of u) hi))
+abbrev pub may_end : PartUnit → ℕ → ℕ → ℕ → Bool
+may_end u rows lo hi = nat_le lo hi && (nat_le hi MAX_TIME && (nat_eq (start_of (unit_of u) lo) (start_of (unit_of u) hi) && may_be_one rows lo hi))

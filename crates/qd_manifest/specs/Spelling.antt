@@ -3,7 +3,7 @@
 --
 -- Next block (8), number of tables (2), and the tables. A table: its schema as qd_fields spells it, number of parts (8), and
 -- the parts. A part: block (8), rows (8), columns (2), first time (8), last time (8).
-use Rattle.std.specs.Prelude.{◌≡◌, ℕ, ◌+◌, ◌*◌, ◌^◌, ◌<◌, ◌≤◌, List, ◌∷◌, ◌++◌, length, map, nat_eq, All, slice_index_or}
+use Rattle.std.specs.Prelude.{◌≡◌, ℕ, ◌+◌, ◌*◌, ◌^◌, ◌<◌, ◌≤◌, List, ◌∷◌, ◌++◌, length, map, nat_eq, sum_by, All, slice_index_or}
 use Rattle.std.specs.List.{flat_map, IsDistinct}
 use Rattle.qd_base.specs.declared.limits.TheConstants.{MAX_TIME}
 use Rattle.qd_base.specs.declared.part.Part.{Part}
@@ -29,12 +29,18 @@ pub record IsPart (s : Schema) (p : Part) : Type 0 where
   pub in_order : p.lo ≤ p.hi
   pub timely : p.hi ≤ MAX_TIME
   pub together : start_of (unit_of s.unit) p.lo ≡ start_of (unit_of s.unit) p.hi
+  -- one row has one time
+  pub one_time : p.rows ≡ 1 → p.lo ≡ p.hi
 
 -- The parts of a table stand in order of time, and no two of them share a time.
 pub record AreParts (s : Schema) (parts : List Part) : Type 0 where
   pub each : All (IsPart s) parts
   pub apart : (i : ℕ) → i + 1 < length parts → (slice_index_or parts i no_part).hi < (slice_index_or parts (i + 1) no_part).lo
   pub few : length parts < 2 ^ 64
+
+-- how many rows parts show
+abbrev pub rows_shown : List Part → ℕ
+rows_shown parts = sum_by (λ p. p.rows) parts
 
 -- the blocks that parts name, and those that tables name, in order
 abbrev pub blocks_in : List Part → List ℕ
@@ -46,7 +52,8 @@ blocks_of tables = flat_map (λ t. blocks_in t.parts) tables
 abbrev pub schemas_in : List TableParts → List Schema
 schemas_in tables = map (λ t. t.schema) tables
 
--- The manifest of a version of this many transactions. No two parts name one block, and the blocks are below the next one.
+-- The manifest of a version of this many transactions. No two parts name one block, the blocks are below the next one, and no table
+-- shows more rows than its transactions may insert.
 pub record IsManifest (n : ℕ) (m : Manifest) : Type 0 where
   pub next : m.next_block ≤ n * BLOCKS_PER_TRANSACTION
   pub next_fits : m.next_block < 2 ^ 64
@@ -54,6 +61,7 @@ pub record IsManifest (n : ℕ) (m : Manifest) : Type 0 where
   pub parts : All (λ t. AreParts t.schema t.parts) m.shape
   pub below : All (λ b. b < m.next_block) (blocks_of m.shape)
   pub distinct : IsDistinct nat_eq (blocks_of m.shape)
+  pub few : All (λ t. rows_shown t.parts ≤ n * BLOCKS_PER_TRANSACTION) m.shape
 
 -- ---- the bytes
 

@@ -1,8 +1,8 @@
 //! The rules of fields that are numbers.
-ghost use Rattle.std.specs.Prelude.{◌≡◌, ◌&&◌, ◌||◌, not, nat_eq, slice_get};
+ghost use Rattle.std.specs.Prelude.{◌≡◌, ◌+◌, ◌^◌, ◌<◌, ◌&&◌, ◌||◌, not, nat_eq, nat_le, slice_get};
 ghost use Rattle.std.specs.List.{list_any};
 ghost use Rattle.indexmap.specs.IndexSet.{keys};
-ghost use Rattle.qd_manifest.specs.Rules.{may_be_next, is_time, is_timed, may_be_key, may_be_block, may_be_width, may_begin, may_end};
+ghost use Rattle.qd_manifest.specs.Rules.{may_be_next, is_time, is_timed, may_be_key, may_be_block, may_be_one, may_be_width, may_begin, may_end};
 
 use crate::shape::BLOCKS_PER_TRANSACTION;
 use indexmap::IndexSet;
@@ -68,6 +68,14 @@ pub(crate) fn may_be_block(next: u64, named: &IndexSet<u64>, block: u64) -> bool
     block < next && !named.contains(&block)
 }
 
+/// Whether the next part of a table that shows some rows so far may have so many more, where the table has at most `most`.
+pub(crate) fn may_be_rows(most: u128, shown: u128, rows: u64) -> bool
+    requires room { shown < 2 ^ 127 }
+    ensures rule { result ≡ (nat_le 1 rows && nat_le (shown + rows) most) }
+{
+    1 <= rows && shown + rows as u128 <= most
+}
+
 /// Whether a part may have so many columns.
 pub(crate) fn may_be_width(schema: &Schema, cols: u16) -> bool
     ensures rule { result ≡ may_be_width schema.now cols }
@@ -82,9 +90,19 @@ pub(crate) fn may_begin(before: &[Part], lo: u64) -> bool
     lo <= MAX_TIME && (before.is_empty() || before[before.len() - 1].hi < lo)
 }
 
-/// Whether a part that begins at a time may end at another.
-pub(crate) fn may_end(unit: PartUnit, lo: u64, hi: u64) -> bool
-    ensures rule { result ≡ may_end unit lo hi }
+/// Whether a part of so many rows that begins at a time may end at another.
+pub(crate) fn may_end(unit: PartUnit, rows: u64, lo: u64, hi: u64) -> bool
+    ensures rule { result ≡ may_end unit rows lo hi }
 {
-    lo <= hi && hi <= MAX_TIME && floor_unit(lo, unit) == floor_unit(hi, unit)
+    lo <= hi
+        && hi <= MAX_TIME
+        && floor_unit(lo, unit) == floor_unit(hi, unit)
+        && may_be_one(rows, lo, hi)
+}
+
+/// Whether a part of so many rows may have these times: one row has one.
+fn may_be_one(rows: u64, lo: u64, hi: u64) -> bool
+    ensures rule { result ≡ may_be_one rows lo hi }
+{
+    rows != 1 || lo == hi
 }

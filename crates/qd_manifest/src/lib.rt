@@ -9,13 +9,9 @@ mod fault;
 pub mod laws;
 mod names;
 mod parts;
-#[cfg(test)]
-mod plain;
 mod read;
 mod schema;
 mod shape;
-#[cfg(test)]
-mod tests;
 mod write;
 
 pub use fault::ManifestFault;

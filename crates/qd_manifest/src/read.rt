@@ -1,5 +1,5 @@
 //! Manifests read from bytes.
-ghost use Rattle.std.specs.Prelude.{◌≡◌, ℕ, ◌≤◌, [], ◌∷◌, ◌++◌, List, length, IfOk, IfErr};
+ghost use Rattle.std.specs.Prelude.{◌≡◌, ℕ, ◌^◌, ◌<◌, ◌≤◌, [], ◌∷◌, ◌++◌, List, length, IfOk, IfErr};
 ghost use Rattle.indexmap.specs.IndexSet.{keys};
 ghost use Rattle.qd_manifest.specs.Spelling.{blocks_of, SpellsManifest};
 ghost use Rattle.qd_fields.specs.Layout.{items};
@@ -11,7 +11,7 @@ use crate::checks::may_be_next;
 use crate::fault::ManifestFault;
 use crate::parts::parts_from;
 use crate::schema::schema_from;
-use crate::shape::{Manifest, Shape, TableParts};
+use crate::shape::{BLOCKS_PER_TRANSACTION, Manifest, Shape, TableParts};
 use indexmap::IndexSet;
 use qd_base::MAX_TABLES;
 use qd_fields::{Stop, damage, u16_at, u64_at};
@@ -52,22 +52,30 @@ fn manifest_from(alloc: Global, n: u64, bytes: &[u8]) -> Result<Manifest, Stop>
     if MAX_TABLES < count as usize {
         return Err(damage(after_next));
     }
-    let (shape, rest) = tables(alloc, count, next_block, after_count)?;
+    let most = n as u128 * BLOCKS_PER_TRANSACTION as u128;
+    let (shape, rest) = tables(alloc, count, most, next_block, after_count)?;
     if !rest.is_empty() {
         return Err(damage(rest));
     }
     Ok(Manifest { next_block, shape })
 }
 
-/// So many tables.
-fn tables(alloc: Global, count: u16, next: u64, bytes: &[u8]) -> Result<(Shape, &[u8]), Stop>
-    ensures read { Gives (λ x. (x.0, x.1.now)) result (items (table_from next) count [] bytes.now) }
+/// So many tables, each of at most so many rows.
+fn tables(
+    alloc: Global,
+    count: u16,
+    most: u128,
+    next: u64,
+    bytes: &[u8],
+) -> Result<(Shape, &[u8]), Stop>
+    requires few { most < 2 ^ 100 }
+    ensures read { Gives (λ x. (x.0, x.1.now)) result (items (table_from most next) count [] bytes.now) }
 {
     let mut named = IndexSet::new(alloc);
     let mut tables = Shape::new(alloc);
     let mut rest = bytes;
     for _ in 0..count {
-        let (table, after) = table_from(alloc, next, &mut named, &tables, rest)?;
+        let (table, after) = table_from(alloc, most, next, &mut named, &tables, rest)?;
         tables.push(table)?;
         rest = after;
     }
@@ -78,16 +86,18 @@ fn tables(alloc: Global, count: u16, next: u64, bytes: &[u8]) -> Result<(Shape, 
 #[tactic(auto, unfolding(crate::specs::Layout::table_from))]
 fn table_from<'a>(
     alloc: Global,
+    most: u128,
     next: u64,
     named: &mut IndexSet<u64>,
     before: &Shape,
     bytes: &'a [u8],
 ) -> Result<(TableParts, &'a [u8]), Stop>
+    requires few { most < 2 ^ 100 }
     requires named { keys named.old ≡ blocks_of before.now }
-    ensures read { Gives (λ x. (x.0, x.1.now)) result (table_from next before.now bytes.now) }
+    ensures read { Gives (λ x. (x.0, x.1.now)) result (table_from most next before.now bytes.now) }
     ensures named { IfOk result (λ x. keys named.new ≡ blocks_of (before.now ++ x.0 ∷ [])) }
 {
     let (schema, after) = schema_from(alloc, before, bytes)?;
-    let (parts, rest) = parts_from(alloc, next, named, &schema, after)?;
+    let (parts, rest) = parts_from(alloc, most, next, named, &schema, after)?;
     Ok((TableParts { schema, parts }, rest))
 }

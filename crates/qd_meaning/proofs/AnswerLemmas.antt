@@ -4,9 +4,9 @@ use Rattle.std.specs.Prelude.{◌↔◌}
 use Rattle.qd_base.specs.declared.request.Table.{Table}
 use Rattle.qd_base.specs.Database.{Database, StoredTable}
 use Rattle.qd_base.proofs.Lists.{Contains-cons}
-use Rattle.qd_trees.specs.declared.tree.Join.{Join}
-use Rattle.qd_trees.specs.declared.tree.Query.{Query}
-use Rattle.qd_trees.specs.declared.tree.Stmt.TheVariants as is
+use Rattle.qd_sql_ast.specs.declared.tree.Join.{Join}
+use Rattle.qd_sql_ast.specs.declared.tree.Query.{Query}
+use Rattle.qd_sql_ast.specs.declared.tree.Stmt.TheVariants as is
 use Rattle.qd_meaning.specs.declared.refusal.Refusal.{Refusal}
 use Rattle.qd_meaning.specs.Refusals.{least, judged}
 use Rattle.qd_meaning.specs.Answer.{answer, stored, right_table, refusals, planned_in, query_faults, query_table, shown, shown_faults, table_of}

@@ -1,11 +1,11 @@
 -- The equations of the recursion by which expressions are bound.
 use Rattle.std.proofs.Common.{sym, ap, ◌∙◌}
-use Rattle.qd_trees.specs.declared.tree.Check.{Check}
-use Rattle.qd_trees.specs.declared.tree.Check.TheVariants.{rolls-Nothing, rolls-Compare, rolls-InList, rolls-InText, rolls-IsNull, rolls-IsNotNull}
-use Rattle.qd_trees.specs.declared.tree.Prime.{Prime}
-use Rattle.qd_trees.specs.declared.tree.Prime.TheVariants.{rolls-Column, rolls-Number, rolls-Text, rolls-True, rolls-False, rolls-Null, rolls-Bracket}
-use Rattle.qd_trees.specs.declared.tree.Check.TheOpen.{Check-F, Prime-F}
-use Rattle.qd_trees.specs.declared.tree.Check.TheFolds.{fold-roll-Check, fold-roll-Prime, fold-roll-Expr, fold-roll-OrConj, fold-roll-Conj, fold-roll-AndNeg, fold-roll-Neg, fold-roll-Test, fold-roll-Plus, fold-roll-AddTerm, fold-roll-Term, fold-roll-MulSigned, fold-roll-Signed}
+use Rattle.qd_sql_ast.specs.declared.tree.Check.{Check}
+use Rattle.qd_sql_ast.specs.declared.tree.Check.TheVariants.{rolls-Nothing, rolls-Compare, rolls-InList, rolls-InText, rolls-IsNull, rolls-IsNotNull}
+use Rattle.qd_sql_ast.specs.declared.tree.Prime.{Prime}
+use Rattle.qd_sql_ast.specs.declared.tree.Prime.TheVariants.{rolls-Column, rolls-Number, rolls-Text, rolls-True, rolls-False, rolls-Null, rolls-Bracket}
+use Rattle.qd_sql_ast.specs.declared.tree.Check.TheOpen.{Check-F, Prime-F}
+use Rattle.qd_sql_ast.specs.declared.tree.Check.TheFolds.{fold-roll-Check, fold-roll-Prime, fold-roll-Expr, fold-roll-OrConj, fold-roll-Conj, fold-roll-AndNeg, fold-roll-Neg, fold-roll-Test, fold-roll-Plus, fold-roll-AddTerm, fold-roll-Term, fold-roll-MulSigned, fold-roll-Signed}
 use Rattle.qd_meaning.specs.Typing.{Typed, Part, Link}
 use Rattle.qd_meaning.specs.Binding.{Asking, check_step, prime_step, add_term_step, and_neg_step, conj_step, expr_step, mul_signed_step, neg_step, or_conj_step, plus_step, signed_step, term_step, test_step, typed_check, typed_prime}
 use Rattle.qd_meaning.specs.Bindings.{BindingsFollow}

@@ -8,8 +8,8 @@ use Rattle.qd_base.specs.declared.request.Table.{Table}
 use Rattle.qd_base.specs.Schemas.{same_name}
 use Rattle.qd_base.specs.Database.{Database, StoredTable}
 use Rattle.qd_base.proofs.Lists.{IsDistinct-cons, IsDistinct-nil}
-use Rattle.qd_trees.specs.declared.tree.Stmt.{Stmt}
-use Rattle.qd_trees.specs.declared.tree.Stmt.TheVariants as is
+use Rattle.qd_sql_ast.specs.declared.tree.Stmt.{Stmt}
+use Rattle.qd_sql_ast.specs.declared.tree.Stmt.TheVariants as is
 use Rattle.qd_meaning.specs.declared.refusal.Refusal.{Refusal}
 use Rattle.qd_meaning.specs.Refusals.{least, judged}
 use Rattle.qd_meaning.specs.Outputs.{made_new, names_from, output_names}

@@ -5,8 +5,8 @@ use Rattle.qd_base.specs.declared.schema.Schema.{Schema}
 use Rattle.qd_base.specs.Rows.{Row}
 use Rattle.qd_base.specs.Schemas.{same_name, schema_of}
 use Rattle.qd_base.specs.Database.{Database, StoredTable, schemas_of}
-use Rattle.qd_trees.specs.declared.tree.Join.{Join}
-use Rattle.qd_trees.specs.declared.tree.Query.{Query}
+use Rattle.qd_sql_ast.specs.declared.tree.Join.{Join}
+use Rattle.qd_sql_ast.specs.declared.tree.Query.{Query}
 use Rattle.qd_meaning.specs.Planned.{planned, planned_over, joined_with, right_schema, position_of, right_name, time_col_in}
 use Rattle.qd_meaning.specs.Answer.{stored, right_table, schema_in, planned_in, source_rows, kept_rows, latest_rows, worked, work_rows, finished, rows_faults}
 use Rattle.qd_meaning.specs.Laws.{PlansAnswer}

@@ -1,18 +1,18 @@
 -- What the trees of the worked examples become, in any scope.
 use Rattle.std.proofs.Common.{◌≡◌, ℕ, List, [], ◌∷◌, false, sym, ap, ◌∙◌}
 use Rattle.std.specs.Prelude.{pos}
-use Rattle.qd_trees.specs.declared.tree.AddOp.TheVariants as add
-use Rattle.qd_trees.specs.declared.tree.Check.{Check}
-use Rattle.qd_trees.specs.declared.tree.Check.TheVariants as checks
-use Rattle.qd_trees.specs.declared.tree.Cmp.{Cmp}
-use Rattle.qd_trees.specs.declared.tree.Column.{Column}
-use Rattle.qd_trees.specs.declared.tree.Lit.{Lit}
-use Rattle.qd_trees.specs.declared.tree.Number.{Number}
-use Rattle.qd_trees.specs.declared.tree.Plus.{Plus}
-use Rattle.qd_trees.specs.declared.tree.Prime.{Prime}
-use Rattle.qd_trees.specs.declared.tree.Prime.TheVariants as primes
-use Rattle.qd_trees.specs.declared.tree.Test.{roll-Test}
-use Rattle.qd_trees.specs.declared.tree.Text.{Text}
+use Rattle.qd_sql_ast.specs.declared.tree.AddOp.TheVariants as add
+use Rattle.qd_sql_ast.specs.declared.tree.Check.{Check}
+use Rattle.qd_sql_ast.specs.declared.tree.Check.TheVariants as checks
+use Rattle.qd_sql_ast.specs.declared.tree.Cmp.{Cmp}
+use Rattle.qd_sql_ast.specs.declared.tree.Column.{Column}
+use Rattle.qd_sql_ast.specs.declared.tree.Lit.{Lit}
+use Rattle.qd_sql_ast.specs.declared.tree.Number.{Number}
+use Rattle.qd_sql_ast.specs.declared.tree.Plus.{Plus}
+use Rattle.qd_sql_ast.specs.declared.tree.Prime.{Prime}
+use Rattle.qd_sql_ast.specs.declared.tree.Prime.TheVariants as primes
+use Rattle.qd_sql_ast.specs.declared.tree.Test.{roll-Test}
+use Rattle.qd_sql_ast.specs.declared.tree.Text.{Text}
 use Rattle.qd_value.specs.declared.bound.Arithmetic.TheVariants as does
 use Rattle.qd_base.specs.declared.cell.Cell.{Cell}
 use Rattle.qd_base.specs.Rows.{Row, cell_at}

@@ -10,10 +10,10 @@ use Rattle.qd_base.specs.declared.request.Table.{Table}
 use Rattle.qd_base.specs.Rows.{Row, cell_at}
 use Rattle.qd_base.specs.Schemas.{same_name}
 use Rattle.qd_base.specs.Database.{Database, StoredTable, missing}
-use Rattle.qd_trees.specs.declared.tree.Join.{Join}
-use Rattle.qd_trees.specs.declared.tree.Query.{Query}
-use Rattle.qd_trees.specs.declared.tree.Stmt.{Stmt}
-use Rattle.qd_trees.specs.declared.tree.Stmt.TheVariants as is
+use Rattle.qd_sql_ast.specs.declared.tree.Join.{Join}
+use Rattle.qd_sql_ast.specs.declared.tree.Query.{Query}
+use Rattle.qd_sql_ast.specs.declared.tree.Stmt.{Stmt}
+use Rattle.qd_sql_ast.specs.declared.tree.Stmt.TheVariants as is
 use Rattle.qd_value.specs.declared.bound.Bound.{Bound}
 use Rattle.qd_value.specs.Value.{passes}
 use Rattle.qd_print.specs.Printed.{csv}

@@ -8,10 +8,10 @@ use Rattle.qd_base.specs.declared.request.Table.{Table}
 use Rattle.qd_base.specs.declared.unit.TimeUnit.TheVariants as unit
 use Rattle.qd_base.specs.Rows.{Row}
 use Rattle.qd_base.specs.Database.{StoredTable}
-use Rattle.qd_trees.specs.declared.tree.AggOf.TheVariants as function
-use Rattle.qd_trees.specs.declared.tree.Limit.TheVariants as limit
-use Rattle.qd_trees.specs.declared.tree.Query.{Query}
-use Rattle.qd_trees.specs.declared.tree.Shown.TheVariants as shown
+use Rattle.qd_sql_ast.specs.declared.tree.AggOf.TheVariants as function
+use Rattle.qd_sql_ast.specs.declared.tree.Limit.TheVariants as limit
+use Rattle.qd_sql_ast.specs.declared.tree.Query.{Query}
+use Rattle.qd_sql_ast.specs.declared.tree.Shown.TheVariants as shown
 use Rattle.qd_value.specs.declared.bound.Bound.TheVariants as bound
 use Rattle.qd_value.specs.declared.bound.Comparison.TheVariants as asks
 use Rattle.qd_meaning.specs.declared.parts.Agg.TheVariants as agg

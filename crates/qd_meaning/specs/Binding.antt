@@ -2,27 +2,27 @@
 -- its parts become.
 use Rattle.std.specs.Prelude.{ℕ, true, false, List, [], ◌∷◌, Option, Some, None, pos}
 use Rattle.qd_base.specs.declared.schema.Col.{Col}
-use Rattle.qd_trees.specs.declared.tree.AddOp.{AddOp}
-use Rattle.qd_trees.specs.declared.tree.AddOp.TheVariants as add
-use Rattle.qd_trees.specs.declared.tree.MulOp.{MulOp}
-use Rattle.qd_trees.specs.declared.tree.MulOp.TheVariants as mul
-use Rattle.qd_trees.specs.declared.tree.Cmp.{Cmp}
-use Rattle.qd_trees.specs.declared.tree.Cmp.TheVariants as compare
-use Rattle.qd_trees.specs.declared.tree.Check.{Check}
-use Rattle.qd_trees.specs.declared.tree.Prime.{Prime}
-use Rattle.qd_trees.specs.declared.tree.AddTerm.{AddTerm}
-use Rattle.qd_trees.specs.declared.tree.AndNeg.{AndNeg}
-use Rattle.qd_trees.specs.declared.tree.Conj.{Conj}
-use Rattle.qd_trees.specs.declared.tree.Expr.{Expr}
-use Rattle.qd_trees.specs.declared.tree.MulSigned.{MulSigned}
-use Rattle.qd_trees.specs.declared.tree.Neg.{Neg}
-use Rattle.qd_trees.specs.declared.tree.OrConj.{OrConj}
-use Rattle.qd_trees.specs.declared.tree.Plus.{Plus}
-use Rattle.qd_trees.specs.declared.tree.Signed.{Signed}
-use Rattle.qd_trees.specs.declared.tree.Term.{Term}
-use Rattle.qd_trees.specs.declared.tree.Test.{Test}
-use Rattle.qd_trees.specs.declared.tree.Check.TheOpen.{Check-F, Prime-F, AddTerm-F, AndNeg-F, Conj-F, Expr-F, MulSigned-F, Neg-F, OrConj-F, Plus-F, Signed-F, Term-F, Test-F}
-use Rattle.qd_trees.specs.declared.tree.Check.TheFolds.{fold-Check, fold-Prime, fold-AddTerm, fold-AndNeg, fold-Conj, fold-Expr, fold-MulSigned, fold-Neg, fold-OrConj, fold-Plus, fold-Signed, fold-Term, fold-Test}
+use Rattle.qd_sql_ast.specs.declared.tree.AddOp.{AddOp}
+use Rattle.qd_sql_ast.specs.declared.tree.AddOp.TheVariants as add
+use Rattle.qd_sql_ast.specs.declared.tree.MulOp.{MulOp}
+use Rattle.qd_sql_ast.specs.declared.tree.MulOp.TheVariants as mul
+use Rattle.qd_sql_ast.specs.declared.tree.Cmp.{Cmp}
+use Rattle.qd_sql_ast.specs.declared.tree.Cmp.TheVariants as compare
+use Rattle.qd_sql_ast.specs.declared.tree.Check.{Check}
+use Rattle.qd_sql_ast.specs.declared.tree.Prime.{Prime}
+use Rattle.qd_sql_ast.specs.declared.tree.AddTerm.{AddTerm}
+use Rattle.qd_sql_ast.specs.declared.tree.AndNeg.{AndNeg}
+use Rattle.qd_sql_ast.specs.declared.tree.Conj.{Conj}
+use Rattle.qd_sql_ast.specs.declared.tree.Expr.{Expr}
+use Rattle.qd_sql_ast.specs.declared.tree.MulSigned.{MulSigned}
+use Rattle.qd_sql_ast.specs.declared.tree.Neg.{Neg}
+use Rattle.qd_sql_ast.specs.declared.tree.OrConj.{OrConj}
+use Rattle.qd_sql_ast.specs.declared.tree.Plus.{Plus}
+use Rattle.qd_sql_ast.specs.declared.tree.Signed.{Signed}
+use Rattle.qd_sql_ast.specs.declared.tree.Term.{Term}
+use Rattle.qd_sql_ast.specs.declared.tree.Test.{Test}
+use Rattle.qd_sql_ast.specs.declared.tree.Check.TheOpen.{Check-F, Prime-F, AddTerm-F, AndNeg-F, Conj-F, Expr-F, MulSigned-F, Neg-F, OrConj-F, Plus-F, Signed-F, Term-F, Test-F}
+use Rattle.qd_sql_ast.specs.declared.tree.Check.TheFolds.{fold-Check, fold-Prime, fold-AddTerm, fold-AndNeg, fold-Conj, fold-Expr, fold-MulSigned, fold-Neg, fold-OrConj, fold-Plus, fold-Signed, fold-Term, fold-Test}
 use Rattle.qd_value.specs.declared.bound.Arithmetic.{Arithmetic}
 use Rattle.qd_value.specs.declared.bound.Arithmetic.TheVariants as does
 use Rattle.qd_value.specs.declared.bound.Comparison.{Comparison}

@@ -1,27 +1,27 @@
 -- The binding of expressions as the equations of a recursion on the rules of the grammar.
 use Rattle.std.specs.Prelude.{◌≡◌, ℕ, true, false, List, map, pos}
-use Rattle.qd_trees.specs.declared.tree.AddOp.{AddOp}
-use Rattle.qd_trees.specs.declared.tree.MulOp.{MulOp}
-use Rattle.qd_trees.specs.declared.tree.Cmp.{Cmp}
-use Rattle.qd_trees.specs.declared.tree.Lit.{Lit}
-use Rattle.qd_trees.specs.declared.tree.Number.{Number}
-use Rattle.qd_trees.specs.declared.tree.Text.{Text}
-use Rattle.qd_trees.specs.declared.tree.Column.{Column}
-use Rattle.qd_trees.specs.declared.tree.Check.{Check}
-use Rattle.qd_trees.specs.declared.tree.Check.TheVariants as checks
-use Rattle.qd_trees.specs.declared.tree.Prime.{Prime}
-use Rattle.qd_trees.specs.declared.tree.Prime.TheVariants as primes
-use Rattle.qd_trees.specs.declared.tree.Expr.{Expr, roll-Expr}
-use Rattle.qd_trees.specs.declared.tree.OrConj.{OrConj, roll-OrConj}
-use Rattle.qd_trees.specs.declared.tree.Conj.{Conj, roll-Conj}
-use Rattle.qd_trees.specs.declared.tree.AndNeg.{AndNeg, roll-AndNeg}
-use Rattle.qd_trees.specs.declared.tree.Neg.{Neg, roll-Neg}
-use Rattle.qd_trees.specs.declared.tree.Test.{Test, roll-Test}
-use Rattle.qd_trees.specs.declared.tree.Plus.{Plus, roll-Plus}
-use Rattle.qd_trees.specs.declared.tree.AddTerm.{AddTerm, roll-AddTerm}
-use Rattle.qd_trees.specs.declared.tree.Term.{Term, roll-Term}
-use Rattle.qd_trees.specs.declared.tree.MulSigned.{MulSigned, roll-MulSigned}
-use Rattle.qd_trees.specs.declared.tree.Signed.{Signed, roll-Signed}
+use Rattle.qd_sql_ast.specs.declared.tree.AddOp.{AddOp}
+use Rattle.qd_sql_ast.specs.declared.tree.MulOp.{MulOp}
+use Rattle.qd_sql_ast.specs.declared.tree.Cmp.{Cmp}
+use Rattle.qd_sql_ast.specs.declared.tree.Lit.{Lit}
+use Rattle.qd_sql_ast.specs.declared.tree.Number.{Number}
+use Rattle.qd_sql_ast.specs.declared.tree.Text.{Text}
+use Rattle.qd_sql_ast.specs.declared.tree.Column.{Column}
+use Rattle.qd_sql_ast.specs.declared.tree.Check.{Check}
+use Rattle.qd_sql_ast.specs.declared.tree.Check.TheVariants as checks
+use Rattle.qd_sql_ast.specs.declared.tree.Prime.{Prime}
+use Rattle.qd_sql_ast.specs.declared.tree.Prime.TheVariants as primes
+use Rattle.qd_sql_ast.specs.declared.tree.Expr.{Expr, roll-Expr}
+use Rattle.qd_sql_ast.specs.declared.tree.OrConj.{OrConj, roll-OrConj}
+use Rattle.qd_sql_ast.specs.declared.tree.Conj.{Conj, roll-Conj}
+use Rattle.qd_sql_ast.specs.declared.tree.AndNeg.{AndNeg, roll-AndNeg}
+use Rattle.qd_sql_ast.specs.declared.tree.Neg.{Neg, roll-Neg}
+use Rattle.qd_sql_ast.specs.declared.tree.Test.{Test, roll-Test}
+use Rattle.qd_sql_ast.specs.declared.tree.Plus.{Plus, roll-Plus}
+use Rattle.qd_sql_ast.specs.declared.tree.AddTerm.{AddTerm, roll-AddTerm}
+use Rattle.qd_sql_ast.specs.declared.tree.Term.{Term, roll-Term}
+use Rattle.qd_sql_ast.specs.declared.tree.MulSigned.{MulSigned, roll-MulSigned}
+use Rattle.qd_sql_ast.specs.declared.tree.Signed.{Signed, roll-Signed}
 use Rattle.qd_value.specs.declared.bound.Bound.TheVariants as bound
 use Rattle.qd_meaning.specs.Scopes.{Scope, resolved}
 use Rattle.qd_meaning.specs.Typing.{Typed, literal, constant_null, constant_truth, constant_number, constant_text, negated, chained, compared, in_list, in_text, is_null, opposite, not_of, joined_by}

@@ -10,10 +10,10 @@ use Rattle.qd_base.specs.declared.schema.Col.{Col}
 use Rattle.qd_base.specs.declared.schema.Schema.{Schema}
 use Rattle.qd_base.specs.Names.{is_table_byte, is_column_byte}
 use Rattle.qd_base.specs.Schemas.{same_name, table_at, column_at}
-use Rattle.qd_trees.specs.declared.tree.Name.{Name}
-use Rattle.qd_trees.specs.declared.tree.ColumnDef.{ColumnDef}
-use Rattle.qd_trees.specs.declared.tree.Dedup.{Dedup}
-use Rattle.qd_trees.specs.declared.tree.Create.{Create}
+use Rattle.qd_sql_ast.specs.declared.tree.Name.{Name}
+use Rattle.qd_sql_ast.specs.declared.tree.ColumnDef.{ColumnDef}
+use Rattle.qd_sql_ast.specs.declared.tree.Dedup.{Dedup}
+use Rattle.qd_sql_ast.specs.declared.tree.Create.{Create}
 use Rattle.qd_meaning.specs.declared.refusal.Refusal.{Refusal}
 use Rattle.qd_meaning.specs.Refusals.{at, unless}
 

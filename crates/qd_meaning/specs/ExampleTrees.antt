@@ -1,29 +1,29 @@
 -- Trees of queries for the worked examples.
 use Rattle.std.specs.Prelude.{ℕ, List, [], ◌∷◌, Option, Some, None}
-use Rattle.qd_trees.specs.declared.tree.AddOp.TheVariants as add
-use Rattle.qd_trees.specs.declared.tree.AddTerm.{roll-AddTerm}
-use Rattle.qd_trees.specs.declared.tree.AndNeg.{roll-AndNeg}
-use Rattle.qd_trees.specs.declared.tree.Check.{Check}
-use Rattle.qd_trees.specs.declared.tree.Check.TheVariants as checks
-use Rattle.qd_trees.specs.declared.tree.Cmp.{Cmp}
-use Rattle.qd_trees.specs.declared.tree.Conj.{roll-Conj}
-use Rattle.qd_trees.specs.declared.tree.Expr.{Expr, roll-Expr}
-use Rattle.qd_trees.specs.declared.tree.Item.{Item}
-use Rattle.qd_trees.specs.declared.tree.JoinOf.TheVariants as join
-use Rattle.qd_trees.specs.declared.tree.Lit.{Lit}
-use Rattle.qd_trees.specs.declared.tree.Name.{Name}
-use Rattle.qd_trees.specs.declared.tree.Neg.{Neg, roll-Neg}
-use Rattle.qd_trees.specs.declared.tree.Plus.{Plus, roll-Plus}
-use Rattle.qd_trees.specs.declared.tree.Prime.{Prime}
-use Rattle.qd_trees.specs.declared.tree.Prime.TheVariants as primes
-use Rattle.qd_trees.specs.declared.tree.Query.{Query}
-use Rattle.qd_trees.specs.declared.tree.Selected.TheVariants as selected
-use Rattle.qd_trees.specs.declared.tree.Shown.{Shown}
-use Rattle.qd_trees.specs.declared.tree.Shown.TheVariants as shown
-use Rattle.qd_trees.specs.declared.tree.Signed.{roll-Signed}
-use Rattle.qd_trees.specs.declared.tree.Source.{Source}
-use Rattle.qd_trees.specs.declared.tree.Term.{Term, roll-Term}
-use Rattle.qd_trees.specs.declared.tree.Test.{roll-Test}
+use Rattle.qd_sql_ast.specs.declared.tree.AddOp.TheVariants as add
+use Rattle.qd_sql_ast.specs.declared.tree.AddTerm.{roll-AddTerm}
+use Rattle.qd_sql_ast.specs.declared.tree.AndNeg.{roll-AndNeg}
+use Rattle.qd_sql_ast.specs.declared.tree.Check.{Check}
+use Rattle.qd_sql_ast.specs.declared.tree.Check.TheVariants as checks
+use Rattle.qd_sql_ast.specs.declared.tree.Cmp.{Cmp}
+use Rattle.qd_sql_ast.specs.declared.tree.Conj.{roll-Conj}
+use Rattle.qd_sql_ast.specs.declared.tree.Expr.{Expr, roll-Expr}
+use Rattle.qd_sql_ast.specs.declared.tree.Item.{Item}
+use Rattle.qd_sql_ast.specs.declared.tree.JoinOf.TheVariants as join
+use Rattle.qd_sql_ast.specs.declared.tree.Lit.{Lit}
+use Rattle.qd_sql_ast.specs.declared.tree.Name.{Name}
+use Rattle.qd_sql_ast.specs.declared.tree.Neg.{Neg, roll-Neg}
+use Rattle.qd_sql_ast.specs.declared.tree.Plus.{Plus, roll-Plus}
+use Rattle.qd_sql_ast.specs.declared.tree.Prime.{Prime}
+use Rattle.qd_sql_ast.specs.declared.tree.Prime.TheVariants as primes
+use Rattle.qd_sql_ast.specs.declared.tree.Query.{Query}
+use Rattle.qd_sql_ast.specs.declared.tree.Selected.TheVariants as selected
+use Rattle.qd_sql_ast.specs.declared.tree.Shown.{Shown}
+use Rattle.qd_sql_ast.specs.declared.tree.Shown.TheVariants as shown
+use Rattle.qd_sql_ast.specs.declared.tree.Signed.{roll-Signed}
+use Rattle.qd_sql_ast.specs.declared.tree.Source.{Source}
+use Rattle.qd_sql_ast.specs.declared.tree.Term.{Term, roll-Term}
+use Rattle.qd_sql_ast.specs.declared.tree.Test.{roll-Test}
 use Rattle.qd_meaning.specs.WriteExamples.{name}
 
 -- ---- expressions

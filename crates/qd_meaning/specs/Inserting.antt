@@ -12,11 +12,11 @@ use Rattle.qd_base.specs.declared.schema.Schema.{Schema}
 use Rattle.qd_base.specs.Rows.{Row}
 use Rattle.qd_base.specs.Schemas.{column_at}
 use Rattle.qd_base.specs.Database.{missing}
-use Rattle.qd_trees.specs.declared.tree.Name.{Name}
-use Rattle.qd_trees.specs.declared.tree.Lit.{Lit}
-use Rattle.qd_trees.specs.declared.tree.Lit.TheVariants as lit
-use Rattle.qd_trees.specs.declared.tree.Tuple.{Tuple}
-use Rattle.qd_trees.specs.declared.tree.Insert.{Insert}
+use Rattle.qd_sql_ast.specs.declared.tree.Name.{Name}
+use Rattle.qd_sql_ast.specs.declared.tree.Lit.{Lit}
+use Rattle.qd_sql_ast.specs.declared.tree.Lit.TheVariants as lit
+use Rattle.qd_sql_ast.specs.declared.tree.Tuple.{Tuple}
+use Rattle.qd_sql_ast.specs.declared.tree.Insert.{Insert}
 use Rattle.qd_meaning.specs.declared.refusal.Refusal.{Refusal}
 use Rattle.qd_meaning.specs.Refusals.{at, unless}
 use Rattle.qd_meaning.specs.TimeTexts.{time_of_text, time_of_number}

@@ -5,13 +5,13 @@ use Rattle.qd_base.specs.declared.code.Code.TheVariants as code
 use Rattle.qd_base.specs.declared.schema.ColType.{ColType}
 use Rattle.qd_base.specs.declared.schema.ColType.TheVariants as kind
 use Rattle.qd_base.specs.declared.schema.Col.{Col}
-use Rattle.qd_trees.specs.declared.tree.AggOf.{AggOf}
-use Rattle.qd_trees.specs.declared.tree.AggOf.TheVariants as function
-use Rattle.qd_trees.specs.declared.tree.Item.{Item}
-use Rattle.qd_trees.specs.declared.tree.Shown.{Shown}
-use Rattle.qd_trees.specs.declared.tree.Shown.TheVariants as shown
-use Rattle.qd_trees.specs.declared.tree.Selected.{Selected}
-use Rattle.qd_trees.specs.declared.tree.Selected.TheVariants as selected
+use Rattle.qd_sql_ast.specs.declared.tree.AggOf.{AggOf}
+use Rattle.qd_sql_ast.specs.declared.tree.AggOf.TheVariants as function
+use Rattle.qd_sql_ast.specs.declared.tree.Item.{Item}
+use Rattle.qd_sql_ast.specs.declared.tree.Shown.{Shown}
+use Rattle.qd_sql_ast.specs.declared.tree.Shown.TheVariants as shown
+use Rattle.qd_sql_ast.specs.declared.tree.Selected.{Selected}
+use Rattle.qd_sql_ast.specs.declared.tree.Selected.TheVariants as selected
 use Rattle.qd_value.specs.declared.bound.Bound.{Bound}
 use Rattle.qd_value.specs.Cells.{number}
 use Rattle.qd_meaning.specs.declared.parts.Agg.{Agg}

@@ -9,10 +9,10 @@ use Rattle.qd_base.specs.Rows.{Row}
 use Rattle.qd_base.specs.Schemas.{same_name}
 use Rattle.qd_base.specs.Names.{IsColumnName, IsTableName}
 use Rattle.qd_base.specs.Database.{Database, schemas_of}
-use Rattle.qd_trees.specs.declared.tree.Join.{Join}
-use Rattle.qd_trees.specs.declared.tree.Query.{Query}
-use Rattle.qd_trees.specs.declared.tree.Stmt.{Stmt}
-use Rattle.qd_trees.specs.declared.tree.Stmt.TheVariants as is
+use Rattle.qd_sql_ast.specs.declared.tree.Join.{Join}
+use Rattle.qd_sql_ast.specs.declared.tree.Query.{Query}
+use Rattle.qd_sql_ast.specs.declared.tree.Stmt.{Stmt}
+use Rattle.qd_sql_ast.specs.declared.tree.Stmt.TheVariants as is
 use Rattle.qd_meaning.specs.declared.parts.Cut.TheVariants as cut
 use Rattle.qd_meaning.specs.declared.refusal.Refusal.{Refusal}
 use Rattle.qd_meaning.specs.Refusals.{goes_first, least, sooner}

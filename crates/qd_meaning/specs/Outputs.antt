@@ -7,9 +7,9 @@ use Rattle.qd_base.specs.declared.cell.Cell.TheVariants as cell
 use Rattle.qd_base.specs.declared.schema.ColType.{ColType}
 use Rattle.qd_base.specs.declared.schema.ColType.TheVariants as kind
 use Rattle.qd_base.specs.Schemas.{same_name}
-use Rattle.qd_trees.specs.declared.tree.Name.{Name}
-use Rattle.qd_trees.specs.declared.tree.AggOf.{AggOf}
-use Rattle.qd_trees.specs.declared.tree.AggOf.TheVariants as function
+use Rattle.qd_sql_ast.specs.declared.tree.Name.{Name}
+use Rattle.qd_sql_ast.specs.declared.tree.AggOf.{AggOf}
+use Rattle.qd_sql_ast.specs.declared.tree.AggOf.TheVariants as function
 use Rattle.qd_value.specs.Cells.{Class, number, truth, text, time}
 use Rattle.qd_meaning.specs.Typing.{Form, Plain, Typed}
 

@@ -7,19 +7,19 @@ use Rattle.qd_base.specs.declared.schema.ColType.{ColType}
 use Rattle.qd_base.specs.declared.schema.Col.{Col}
 use Rattle.qd_base.specs.declared.schema.Schema.{Schema}
 use Rattle.qd_base.specs.Schemas.{same_name, table_at, column_at, schema_of}
-use Rattle.qd_trees.specs.declared.tree.Name.{Name}
-use Rattle.qd_trees.specs.declared.tree.Column.{Column}
-use Rattle.qd_trees.specs.declared.tree.Source.{Source}
-use Rattle.qd_trees.specs.declared.tree.JoinOf.{JoinOf}
-use Rattle.qd_trees.specs.declared.tree.JoinOf.TheVariants as join
-use Rattle.qd_trees.specs.declared.tree.Join.{Join}
-use Rattle.qd_trees.specs.declared.tree.Filter.{Filter}
-use Rattle.qd_trees.specs.declared.tree.Latest.{Latest}
-use Rattle.qd_trees.specs.declared.tree.Sampled.{Sampled}
-use Rattle.qd_trees.specs.declared.tree.OrderKey.{OrderKey}
-use Rattle.qd_trees.specs.declared.tree.Limit.{Limit}
-use Rattle.qd_trees.specs.declared.tree.Limit.TheVariants as limit
-use Rattle.qd_trees.specs.declared.tree.Query.{Query}
+use Rattle.qd_sql_ast.specs.declared.tree.Name.{Name}
+use Rattle.qd_sql_ast.specs.declared.tree.Column.{Column}
+use Rattle.qd_sql_ast.specs.declared.tree.Source.{Source}
+use Rattle.qd_sql_ast.specs.declared.tree.JoinOf.{JoinOf}
+use Rattle.qd_sql_ast.specs.declared.tree.JoinOf.TheVariants as join
+use Rattle.qd_sql_ast.specs.declared.tree.Join.{Join}
+use Rattle.qd_sql_ast.specs.declared.tree.Filter.{Filter}
+use Rattle.qd_sql_ast.specs.declared.tree.Latest.{Latest}
+use Rattle.qd_sql_ast.specs.declared.tree.Sampled.{Sampled}
+use Rattle.qd_sql_ast.specs.declared.tree.OrderKey.{OrderKey}
+use Rattle.qd_sql_ast.specs.declared.tree.Limit.{Limit}
+use Rattle.qd_sql_ast.specs.declared.tree.Limit.TheVariants as limit
+use Rattle.qd_sql_ast.specs.declared.tree.Query.{Query}
 use Rattle.qd_value.specs.declared.bound.Bound.{Bound}
 use Rattle.qd_value.specs.Cells.{truth}
 use Rattle.qd_meaning.specs.declared.parts.JoinSpec.{JoinSpec}

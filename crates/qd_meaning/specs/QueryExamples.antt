@@ -3,10 +3,10 @@ use Rattle.std.specs.Prelude.{◌≡◌, ℕ, [], ◌∷◌, codes, Option, Some
 use Rattle.qd_base.specs.declared.code.Code.{Code}
 use Rattle.qd_base.specs.declared.code.Code.TheVariants as code
 use Rattle.qd_base.specs.declared.schema.Schema.{Schema}
-use Rattle.qd_trees.specs.declared.tree.AggOf.TheVariants as function
-use Rattle.qd_trees.specs.declared.tree.Cmp.TheVariants as compare
-use Rattle.qd_trees.specs.declared.tree.Query.{Query}
-use Rattle.qd_trees.specs.declared.tree.Shown.TheVariants as shown
+use Rattle.qd_sql_ast.specs.declared.tree.AggOf.TheVariants as function
+use Rattle.qd_sql_ast.specs.declared.tree.Cmp.TheVariants as compare
+use Rattle.qd_sql_ast.specs.declared.tree.Query.{Query}
+use Rattle.qd_sql_ast.specs.declared.tree.Shown.TheVariants as shown
 use Rattle.qd_meaning.specs.declared.refusal.Refusal.{Refusal}
 use Rattle.qd_meaning.specs.Refusals.{least}
 use Rattle.qd_meaning.specs.Planned.{planned_over}

@@ -4,12 +4,12 @@ use Rattle.std.specs.List.{list_all, flat_map, zip}
 use Rattle.qd_base.specs.declared.code.Code.TheVariants as code
 use Rattle.qd_base.specs.declared.schema.ColType.{ColType}
 use Rattle.qd_base.specs.declared.schema.ColType.TheVariants as kind
-use Rattle.qd_trees.specs.declared.tree.FillWith.{FillWith}
-use Rattle.qd_trees.specs.declared.tree.FillWith.TheVariants as given
-use Rattle.qd_trees.specs.declared.tree.Fills.{Fills}
-use Rattle.qd_trees.specs.declared.tree.AlignTo.{AlignTo}
-use Rattle.qd_trees.specs.declared.tree.AlignTo.TheVariants as align
-use Rattle.qd_trees.specs.declared.tree.Sampled.{Sampled}
+use Rattle.qd_sql_ast.specs.declared.tree.FillWith.{FillWith}
+use Rattle.qd_sql_ast.specs.declared.tree.FillWith.TheVariants as given
+use Rattle.qd_sql_ast.specs.declared.tree.Fills.{Fills}
+use Rattle.qd_sql_ast.specs.declared.tree.AlignTo.{AlignTo}
+use Rattle.qd_sql_ast.specs.declared.tree.AlignTo.TheVariants as align
+use Rattle.qd_sql_ast.specs.declared.tree.Sampled.{Sampled}
 use Rattle.qd_meaning.specs.declared.parts.Agg.{Agg}
 use Rattle.qd_meaning.specs.declared.parts.Fill.{Fill}
 use Rattle.qd_meaning.specs.declared.parts.Fill.TheVariants as fill

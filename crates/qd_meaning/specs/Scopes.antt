@@ -3,9 +3,9 @@ use Rattle.std.specs.Prelude.{ℕ, ◌+◌, Bool, ◌&&◌, if◌then◌else◌,
 use Rattle.qd_base.specs.declared.code.Code.TheVariants as code
 use Rattle.qd_base.specs.declared.schema.Col.{Col}
 use Rattle.qd_base.specs.Schemas.{same_name}
-use Rattle.qd_trees.specs.declared.tree.Name.{Name}
-use Rattle.qd_trees.specs.declared.tree.Column.{Column}
-use Rattle.qd_trees.specs.declared.tree.Source.{Source}
+use Rattle.qd_sql_ast.specs.declared.tree.Name.{Name}
+use Rattle.qd_sql_ast.specs.declared.tree.Column.{Column}
+use Rattle.qd_sql_ast.specs.declared.tree.Source.{Source}
 use Rattle.qd_meaning.specs.declared.refusal.Refusal.{Refusal}
 use Rattle.qd_meaning.specs.Refusals.{at}
 

@@ -2,18 +2,18 @@
 use Rattle.std.specs.Prelude.{◌≡◌, ℕ, false, List, [], ◌∷◌, codes, Option, Some, None}
 use Rattle.qd_base.specs.declared.code.Code.TheVariants as code
 use Rattle.qd_base.specs.declared.unit.TimeUnit.TheVariants as unit
-use Rattle.qd_trees.specs.declared.tree.AggOf.{AggOf}
-use Rattle.qd_trees.specs.declared.tree.AggOf.TheVariants as function
-use Rattle.qd_trees.specs.declared.tree.AlignTo.{AlignTo}
-use Rattle.qd_trees.specs.declared.tree.AlignTo.TheVariants as align
-use Rattle.qd_trees.specs.declared.tree.Cmp.TheVariants as compare
-use Rattle.qd_trees.specs.declared.tree.Expr.{Expr}
-use Rattle.qd_trees.specs.declared.tree.FillWith.{FillWith}
-use Rattle.qd_trees.specs.declared.tree.FillWith.TheVariants as fill
-use Rattle.qd_trees.specs.declared.tree.Lit.TheVariants as lit
-use Rattle.qd_trees.specs.declared.tree.Query.{Query}
-use Rattle.qd_trees.specs.declared.tree.Sampled.{Sampled}
-use Rattle.qd_trees.specs.declared.tree.Shown.TheVariants as shown
+use Rattle.qd_sql_ast.specs.declared.tree.AggOf.{AggOf}
+use Rattle.qd_sql_ast.specs.declared.tree.AggOf.TheVariants as function
+use Rattle.qd_sql_ast.specs.declared.tree.AlignTo.{AlignTo}
+use Rattle.qd_sql_ast.specs.declared.tree.AlignTo.TheVariants as align
+use Rattle.qd_sql_ast.specs.declared.tree.Cmp.TheVariants as compare
+use Rattle.qd_sql_ast.specs.declared.tree.Expr.{Expr}
+use Rattle.qd_sql_ast.specs.declared.tree.FillWith.{FillWith}
+use Rattle.qd_sql_ast.specs.declared.tree.FillWith.TheVariants as fill
+use Rattle.qd_sql_ast.specs.declared.tree.Lit.TheVariants as lit
+use Rattle.qd_sql_ast.specs.declared.tree.Query.{Query}
+use Rattle.qd_sql_ast.specs.declared.tree.Sampled.{Sampled}
+use Rattle.qd_sql_ast.specs.declared.tree.Shown.TheVariants as shown
 use Rattle.qd_meaning.specs.WriteExamples.{name, number, quoted}
 use Rattle.qd_meaning.specs.QueryExamples.{alone, beside, refused}
 use Rattle.qd_meaning.specs.ExampleTrees.{item, column_item, from_table, select, all_where, asof, value_only, named, number_tree, sum, against_minus, in_list, in_text, both, opposite}

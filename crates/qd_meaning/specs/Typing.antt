@@ -8,8 +8,8 @@ use Rattle.qd_base.specs.declared.cell.Cell.TheVariants as cell
 use Rattle.qd_base.specs.declared.schema.ColType.{ColType}
 use Rattle.qd_base.specs.declared.schema.ColType.TheVariants as kind
 use Rattle.qd_base.specs.declared.schema.Col.{Col}
-use Rattle.qd_trees.specs.declared.tree.Lit.{Lit}
-use Rattle.qd_trees.specs.declared.tree.Lit.TheVariants as lit
+use Rattle.qd_sql_ast.specs.declared.tree.Lit.{Lit}
+use Rattle.qd_sql_ast.specs.declared.tree.Lit.TheVariants as lit
 use Rattle.qd_time.specs.declared.fault.TimeFault.{TimeFault}
 use Rattle.qd_value.specs.declared.bound.Arithmetic.{Arithmetic}
 use Rattle.qd_value.specs.declared.bound.Comparison.{Comparison}

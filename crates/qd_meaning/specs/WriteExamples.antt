@@ -10,14 +10,14 @@ use Rattle.qd_base.specs.declared.schema.Schema.{Schema}
 use Rattle.qd_base.specs.declared.op.Op.{Op}
 use Rattle.qd_base.specs.declared.op.Op.TheVariants as op
 use Rattle.qd_base.specs.declared.op.Entry.{Entry}
-use Rattle.qd_trees.specs.declared.tree.Name.{Name}
-use Rattle.qd_trees.specs.declared.tree.Lit.{Lit}
-use Rattle.qd_trees.specs.declared.tree.Lit.TheVariants as lit
-use Rattle.qd_trees.specs.declared.tree.ColumnDef.{ColumnDef}
-use Rattle.qd_trees.specs.declared.tree.Dedup.{Dedup}
-use Rattle.qd_trees.specs.declared.tree.Tuple.{Tuple}
-use Rattle.qd_trees.specs.declared.tree.Stmt.{Stmt}
-use Rattle.qd_trees.specs.declared.tree.Stmt.TheVariants as is
+use Rattle.qd_sql_ast.specs.declared.tree.Name.{Name}
+use Rattle.qd_sql_ast.specs.declared.tree.Lit.{Lit}
+use Rattle.qd_sql_ast.specs.declared.tree.Lit.TheVariants as lit
+use Rattle.qd_sql_ast.specs.declared.tree.ColumnDef.{ColumnDef}
+use Rattle.qd_sql_ast.specs.declared.tree.Dedup.{Dedup}
+use Rattle.qd_sql_ast.specs.declared.tree.Tuple.{Tuple}
+use Rattle.qd_sql_ast.specs.declared.tree.Stmt.{Stmt}
+use Rattle.qd_sql_ast.specs.declared.tree.Stmt.TheVariants as is
 use Rattle.qd_meaning.specs.declared.refusal.Refusal.{Refusal}
 use Rattle.qd_meaning.specs.Write.{write}
 use Rattle.qd_meaning.specs.ExampleTables.{column, schema, second, text}

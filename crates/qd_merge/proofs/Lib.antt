@@ -18,5 +18,4 @@ pub mod Splices
 pub mod Batched
 pub mod Plans
 pub mod Outdating
-pub mod Tables
 pub mod Among

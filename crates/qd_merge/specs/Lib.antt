@@ -5,6 +5,5 @@ pub mod Merged
 pub mod Replaced
 pub mod Laws
 pub mod Acts
-pub mod TestTables
 pub mod Outdated
 pub mod Equals

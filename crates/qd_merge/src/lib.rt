@@ -13,8 +13,6 @@ mod order;
 mod plan;
 mod replaced;
 mod taken;
-#[cfg(test)]
-mod tests;
 
 pub use batch::{dedup_batch, sort_batch};
 pub use dedup::dedup_block;

@@ -3,3 +3,4 @@ pub mod FirstOnes
 pub mod Standing
 pub mod Positions
 pub mod Reading
+pub mod OrderLaws

@@ -32,7 +32,7 @@ rows_before rows (k ∷ ks) i j =
 
 -- ---- images
 
-filter-map : {A B : Type 0} (p : B → Bool) (f : A → B) (xs : List A) → filter p (map f xs) ≡ map f (filter (λ x. p (f x)) xs)
+pub filter-map : {A B : Type 0} (p : B → Bool) (f : A → B) (xs : List A) → filter p (map f xs) ≡ map f (filter (λ x. p (f x)) xs)
 filter-map p f [] = refl
 filter-map p f (x ∷ xs) = elim (p (f x)) as (λ b. cond b (f x ∷ filter p (map f xs)) (filter p (map f xs)) ≡ map f (cond b (x ∷ filter (λ x. p (f x)) xs) (filter (λ x. p (f x)) xs))) [ true ↦ ap (λ l. f x ∷ l) (filter-map p f xs) | false ↦ filter-map p f xs ]
 
@@ -51,10 +51,10 @@ module _ {X Y : Type 0} (f : X → Y) (lt : X → X → Bool) (by : Y → Y → 
   pub arranged_image : (xs : List X) → map f (arranged lt xs) ≡ arranged by (map f xs)
   arranged_image xs = fold_image [] xs
 
-rows_again : (rows : List Row) → map (λ i. get_or rows i []) (range_with_len 0 (length rows)) ≡ rows
+pub rows_again : (rows : List Row) → map (λ i. get_or rows i []) (range_with_len 0 (length rows)) ≡ rows
 rows_again rows = sym (fill_by_all (λ i. get_or rows i []) rows (length rows) [] refl (λ k low. refl))
 
-ordered_image : (order : List (ℕ × Bool)) (rows : List Row) → map (λ i. get_or rows i []) (arranged (before (map (keyed rows) order)) (range_with_len 0 (length rows))) ≡ ordered order rows
+pub ordered_image : (order : List (ℕ × Bool)) (rows : List Row) → map (λ i. get_or rows i []) (arranged (before (map (keyed rows) order)) (range_with_len 0 (length rows))) ≡ ordered order rows
 ordered_image order rows = arranged_image (λ i. get_or rows i []) (before (map (keyed rows) order)) (row_before order) (rows_before rows order) (range_with_len 0 (length rows)) ∙ ap (arranged (row_before order)) (rows_again rows)
 
 cut_image : (f : ℕ → Row) (limit : Option Cut) (ps : List ℕ) → map f (cut_places limit ps) ≡ limited limit (map f ps)

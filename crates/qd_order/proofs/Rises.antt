@@ -129,7 +129,7 @@ module _ {X : Type 0} (lt : X → X → Bool) (o : IsStrictWeakOrder lt) where
       ∙ append_assoc (filter (ties lt z) ys) (filter (ties lt z) (x ∷ [])) (filter (ties lt z) xs)
       ∙ ap (λ l. filter (ties lt z) ys ++ l) (sym (filter-append (ties lt z) (x ∷ []) xs))
 
-  kept-arranged : (z : X) (xs : List X) → filter (ties lt z) (arranged lt xs) ≡ filter (ties lt z) xs
+  pub kept-arranged : (z : X) (xs : List X) → filter (ties lt z) (arranged lt xs) ≡ filter (ties lt z) xs
   kept-arranged z xs = kept_fold z [] xs tt
 
   -- an item that stands before the first one of some in order ties with none of them

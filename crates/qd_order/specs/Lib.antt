@@ -1,4 +1,5 @@
 pub mod Keys
+pub mod Laws
 pub mod Orders
 pub mod Selected
 pub mod Seen

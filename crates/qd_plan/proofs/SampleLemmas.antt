@@ -6,7 +6,7 @@ use Rattle.std.proofs.lemmas.Slice.Zip.{get_or-zip}
 use Rattle.std.specs.Prelude.{nat_le}
 use Rattle.std.specs.List.{flat_map, zip}
 use Rattle.qd_base.specs.declared.schema.ColType.{ColType}
-use Rattle.qd_trees.specs.declared.tree.FillWith.{FillWith}
+use Rattle.qd_sql_ast.specs.declared.tree.FillWith.{FillWith}
 use Rattle.qd_meaning.specs.Refusals.{least}
 use Rattle.qd_meaning.specs.Sampling.{list_faults, none_faults}
 use Rattle.qd_plan.specs.Filling.{beside_faults}

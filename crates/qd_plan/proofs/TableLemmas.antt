@@ -11,8 +11,8 @@ use Rattle.qd_base.specs.declared.schema.ColType.{ColType}
 use Rattle.qd_base.specs.declared.schema.Schema.{Schema}
 use Rattle.qd_base.specs.Schemas.{same_name, table_at, schema_of, column_at}
 use Rattle.qd_base.proofs.Tables.{find-position, not_found}
-use Rattle.qd_trees.specs.declared.tree.Item.{Item}
-use Rattle.qd_trees.specs.declared.tree.Name.{Name}
+use Rattle.qd_sql_ast.specs.declared.tree.Item.{Item}
+use Rattle.qd_sql_ast.specs.declared.tree.Name.{Name}
 use Rattle.qd_bind.specs.declared.scope.Scope as held
 use Rattle.qd_bind.specs.declared.side.Side.{Side}
 use Rattle.qd_bind.specs.Apart.{cols_by}

@@ -2,7 +2,7 @@
 use Rattle.std.proofs.Common.{◌≡◌, ℕ, ◌+◌, Bool, true, false, if◌then◌else◌, List, length, map, Option, Some, None, refl, ap, ap₂, ◌∙◌, subst}
 use Rattle.std.specs.List.{flat_map, range_with_len}
 use Rattle.qd_base.specs.declared.schema.ColType.{ColType}
-use Rattle.qd_trees.specs.declared.tree.Sampled.{Sampled}
+use Rattle.qd_sql_ast.specs.declared.tree.Sampled.{Sampled}
 use Rattle.qd_value.specs.declared.bound.Bound.{Bound}
 use Rattle.qd_meaning.specs.declared.parts.Agg.{Agg}
 use Rattle.qd_meaning.specs.declared.parts.Work.TheVariants as work

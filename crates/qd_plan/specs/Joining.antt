@@ -1,7 +1,7 @@
 -- One key of a join.
 use Rattle.std.specs.Prelude.{List, Option}
 use Rattle.qd_base.specs.declared.schema.Schema.{Schema}
-use Rattle.qd_trees.specs.declared.tree.Name.{Name}
+use Rattle.qd_sql_ast.specs.declared.tree.Name.{Name}
 use Rattle.qd_meaning.specs.declared.refusal.Refusal.{Refusal}
 use Rattle.qd_meaning.specs.Planned as parts
 

@@ -4,7 +4,7 @@ use Rattle.std.specs.List.{flat_map}
 use Rattle.qd_base.specs.declared.schema.Col.{Col}
 use Rattle.qd_meaning.specs.declared.refusal.Refusal.{Refusal}
 use Rattle.qd_meaning.specs.Typing.{plain_column}
-use Rattle.qd_trees.specs.declared.tree.Item.{Item}
+use Rattle.qd_sql_ast.specs.declared.tree.Item.{Item}
 use Rattle.qd_meaning.specs.Scopes.{Scope}
 use Rattle.qd_meaning.specs.Items.{Shows, item_of, value_shown}
 

@@ -4,8 +4,8 @@ use Rattle.std.specs.Option.{option_map}
 use Rattle.qd_base.specs.declared.code.Code.TheVariants as code
 use Rattle.qd_base.specs.declared.schema.Col.{Col}
 use Rattle.qd_base.specs.Schemas.{column_at}
-use Rattle.qd_trees.specs.declared.tree.OrderKey.{OrderKey}
-use Rattle.qd_trees.specs.declared.tree.Limit.{Limit}
+use Rattle.qd_sql_ast.specs.declared.tree.OrderKey.{OrderKey}
+use Rattle.qd_sql_ast.specs.declared.tree.Limit.{Limit}
 use Rattle.qd_meaning.specs.declared.parts.Cut.{Cut}
 use Rattle.qd_meaning.specs.declared.refusal.Refusal.{Refusal}
 use Rattle.qd_meaning.specs.Refusals.{unless}

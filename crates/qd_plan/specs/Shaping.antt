@@ -4,8 +4,8 @@ use Rattle.std.specs.List.{flat_map}
 use Rattle.std.specs.Option.{option_map}
 use Rattle.qd_base.specs.declared.code.Code.TheVariants as code
 use Rattle.qd_base.specs.declared.schema.Col.{Col}
-use Rattle.qd_trees.specs.declared.tree.Column.{Column}
-use Rattle.qd_trees.specs.declared.tree.Query.{Query}
+use Rattle.qd_sql_ast.specs.declared.tree.Column.{Column}
+use Rattle.qd_sql_ast.specs.declared.tree.Query.{Query}
 use Rattle.qd_meaning.specs.declared.parts.AskPlan.{AskPlan}
 use Rattle.qd_meaning.specs.declared.parts.JoinSpec.{JoinSpec}
 use Rattle.qd_meaning.specs.declared.parts.Work.{Work}

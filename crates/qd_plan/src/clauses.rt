@@ -10,7 +10,7 @@ use crate::fault::Faults;
 use crate::place::position;
 use qd_base::{Code, Col, KeyList, Memory};
 use qd_bind::{Class, Scope, bind};
-use qd_trees::{Column, Filter, Latest};
+use qd_sql_ast::{Column, Filter, Latest};
 use qd_value::Bound;
 use std::alloc::Global;
 

@@ -18,7 +18,7 @@ use crate::work::Parts;
 use qd_base::{Code, Col, ColType, Memory, Txt};
 use qd_bind::{Class, Form, Scope, Side, Typed, bind};
 use qd_meaning::{Agg, Refusal, sooner, unless};
-use qd_trees::{AggOf, Expr, Item, Name, Selected, Shown};
+use qd_sql_ast::{AggOf, Expr, Item, Name, Selected, Shown};
 use qd_value::Bound;
 use std::alloc::Global;
 

@@ -14,8 +14,6 @@ mod sample;
 mod shows;
 mod stmt;
 mod tables;
-#[cfg(test)]
-mod tests;
 mod work;
 
 pub use asked::Plan;

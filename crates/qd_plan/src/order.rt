@@ -9,7 +9,7 @@ use crate::fault::Faults;
 use crate::place::position;
 use qd_base::{Code, ColList, Memory, Seq};
 use qd_meaning::{Cut, OrderList};
-use qd_trees::{Limit, OrderKey};
+use qd_sql_ast::{Limit, OrderKey};
 use std::alloc::Global;
 
 /// The output columns by which rows are ordered.

@@ -15,7 +15,7 @@ use crate::work::{Parts, Worked};
 use qd_base::{Memory, Schemas};
 use qd_bind::Scope;
 use qd_meaning::{AskPlan, JoinSpec};
-use qd_trees::{Query, Sampled};
+use qd_sql_ast::{Query, Sampled};
 use std::alloc::Global;
 
 /// The parts of a query.

@@ -10,8 +10,8 @@ use crate::fault::{Faults, both};
 use qd_base::{Code, ColType, Memory};
 use qd_bind::Whole;
 use qd_meaning::{Fill, FillList, GroupSpec, Refusal, SampleSpec, sooner, soonest, unless};
+use qd_sql_ast::{AlignTo, FillWith, Fills, Sampled, StrideOf, Text};
 use qd_time::Stride;
-use qd_trees::{AlignTo, FillWith, Fills, Sampled, StrideOf, Text};
 use std::alloc::Global;
 
 /// The sample of a query; the types are those of its aggregates.

@@ -10,7 +10,7 @@ use crate::fault::{Faults, PlanFault};
 use crate::query::ask;
 use qd_base::{Code, Schemas};
 use qd_meaning::{AskPlan, Refusal};
-use qd_trees::{Query, Stmt};
+use qd_sql_ast::{Query, Stmt};
 use std::alloc::Global;
 
 /// Makes the plan of a query or of SHOW over the schemas of all tables, or gives the refusal that is answered.

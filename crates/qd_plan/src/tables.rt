@@ -14,7 +14,7 @@ use crate::place::position;
 use qd_base::{Code, ColType, KeyList, Memory, Schema, Schemas, Seq, same_name};
 use qd_bind::{Class, Side};
 use qd_meaning::JoinSpec;
-use qd_trees::{Join, JoinOf, Name, Query, Source};
+use qd_sql_ast::{Join, JoinOf, Name, Query, Source};
 use std::alloc::Global;
 
 /// A table of a query, where it is there.

@@ -17,7 +17,7 @@ use crate::sample::sample_spec;
 use crate::shows::{Part, Shows};
 use qd_base::{ColList, ColType, KeyList, Memory, Seq};
 use qd_meaning::{Agg, AggList, BoundList, GroupSpec, Work};
-use qd_trees::Sampled;
+use qd_sql_ast::Sampled;
 use qd_value::Bound;
 use std::alloc::Global;
 

@@ -14,10 +14,10 @@ use Rattle.qd_base.specs.declared.schema.Schema.{Schema}
 use Rattle.qd_base.specs.Lawful.{AreSchemas, IsSchema, cells_in, cells_of}
 use Rattle.qd_base.specs.Rows.{Row}
 use Rattle.qd_base.specs.Schemas.{same_name, schema_of}
-use Rattle.qd_trees.specs.declared.tree.Insert.{Insert}
-use Rattle.qd_trees.specs.declared.tree.Stmt.{Stmt}
-use Rattle.qd_trees.specs.declared.tree.Stmt.TheVariants as is
-use Rattle.qd_trees.specs.declared.tree.Tuple.{Tuple}
+use Rattle.qd_sql_ast.specs.declared.tree.Insert.{Insert}
+use Rattle.qd_sql_ast.specs.declared.tree.Stmt.{Stmt}
+use Rattle.qd_sql_ast.specs.declared.tree.Stmt.TheVariants as is
+use Rattle.qd_sql_ast.specs.declared.tree.Tuple.{Tuple}
 use Rattle.qd_meaning.specs.declared.refusal.Refusal.{Refusal}
 use Rattle.qd_meaning.specs.Inserting.{Target, cell_for, inserted_rows, row_of, targets_of}
 use Rattle.qd_meaning.specs.Refusals.{judged, least}

@@ -27,7 +27,7 @@ use Rattle.qd_base.specs.Schemas.{Fits, same_name, schema_of, schemas_step, tabl
 use Rattle.qd_base.proofs.Lawful.{AreSchemas-step, HasKinds-length, get-below}
 use Rattle.qd_base.proofs.Texts.{some_place, with_text-new, with_text-there}
 use Rattle.qd_fields.specs.Spelling.{FitsColumn, FitsName, FitsSchema}
-use Rattle.qd_entry.specs.Spelling.{FitsCell, FitsOp, FitsRow, FitsRows, IsEntry, dictionary_of, text_of, texts_of_op, texts_of_row, width_of, with_texts}
+use Rattle.qd_wal_entry.specs.Spelling.{FitsCell, FitsOp, FitsRow, FitsRows, IsEntry, dictionary_of, text_of, texts_of_op, texts_of_row, width_of, with_texts}
 
 -- ---- schemas
 

@@ -9,7 +9,7 @@ use Rattle.qd_base.specs.declared.op.Entry.{Entry}
 use Rattle.qd_base.specs.Lawful.{AreLawful, AreSchemas, cells_of}
 use Rattle.qd_base.specs.Schemas.{schemas_step}
 use Rattle.qd_base.proofs.Lawful.{AreSchemas-ops}
-use Rattle.qd_entry.specs.Spelling.{SpellsEntry}
+use Rattle.qd_wal_entry.specs.Spelling.{SpellsEntry}
 use Rattle.qd_prepare.specs.Prepared.{IsPrepared}
 use Rattle.qd_prepare.specs.Sunk.{alters}
 

@@ -12,9 +12,9 @@ use Rattle.qd_ilp.specs.Transaction.{joined}
 use Rattle.qd_lines.specs.Changes.{IsClosed, IsPlain}
 use Rattle.qd_lines.specs.Sinks.{with_cells, with_row}
 use Rattle.qd_lines.proofs.ChangesLemmas.{joined-apart, joined-plain, joined-same, plain-closed, put-last}
-use Rattle.qd_entry.specs.Spelling.{SpellsEntry}
-use Rattle.qd_entry.specs.Written.{IsSoFar, SoFar, Written, begun, entry_of, inserted, with_cell, with_op}
-use Rattle.qd_entry.specs.Written as written
+use Rattle.qd_wal_entry.specs.Spelling.{SpellsEntry}
+use Rattle.qd_wal_entry.specs.Written.{IsSoFar, SoFar, Written, begun, entry_of, inserted, with_cell, with_op}
+use Rattle.qd_wal_entry.specs.Written as written
 use Rattle.qd_prepare.specs.declared.sink.Place.{Place}
 use Rattle.qd_prepare.specs.declared.sink.Place.TheVariants as place
 use Rattle.qd_prepare.specs.Sunk.{HasTaken, IsFree, IsTaken, Stands, Sunk, alters}

@@ -6,9 +6,9 @@ use Rattle.qd_base.specs.declared.op.Entry.{Entry}
 use Rattle.qd_base.specs.Schemas.{schemas_step}
 use Rattle.qd_base.specs.Lawful.{AreLawful, AreSchemas, cells_of}
 use Rattle.qd_ilp.specs.Whole.{IsReading, Reading}
-use Rattle.qd_trees.specs.declared.tree.Stmt.{Stmt}
-use Rattle.qd_trees.specs.declared.tree.Stmt.TheVariants as is
-use Rattle.qd_entry.specs.Spelling.{SpellsEntry}
+use Rattle.qd_sql_ast.specs.declared.tree.Stmt.{Stmt}
+use Rattle.qd_sql_ast.specs.declared.tree.Stmt.TheVariants as is
+use Rattle.qd_wal_entry.specs.Spelling.{SpellsEntry}
 use Rattle.qd_prepare.specs.declared.prepare.Prepared.{Prepared}
 
 -- this is what is read of some text of bytes

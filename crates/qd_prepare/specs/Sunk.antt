@@ -4,7 +4,7 @@ use Rattle.std.specs.List.{filter}
 use Rattle.qd_base.specs.declared.op.Op.{Op}
 use Rattle.qd_base.specs.declared.op.Op.TheVariants as op
 use Rattle.qd_lines.specs.Changes.{IsClosed}
-use Rattle.qd_entry.specs.Written.{IsSoFar, SoFar, Written}
+use Rattle.qd_wal_entry.specs.Written.{IsSoFar, SoFar, Written}
 use Rattle.qd_prepare.specs.declared.sink.Place.{Place}
 use Rattle.qd_prepare.specs.declared.sink.Place.TheVariants as place
 

@@ -10,10 +10,10 @@ ghost use Rattle.qd_prepare.specs.Prepared.{IsPrepared, IsRead, IsShort};
 use crate::schemas::schemas_left;
 use crate::sink::{EntrySink, Finished};
 use qd_base::{Schemas, Txt};
-use qd_entry::encode_entry;
 use qd_ilp::Batch;
 use qd_lines::{LineFault, walk_batch};
-use qd_trees::Stmt;
+use qd_sql_ast::Stmt;
+use qd_wal_entry::encode_entry;
 use qd_writes::{StmtFault, check_write};
 use std::alloc::Global;
 

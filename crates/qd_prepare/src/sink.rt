@@ -7,15 +7,15 @@ ghost use Rattle.qd_base.specs.Schemas as names;
 ghost use Rattle.qd_ilp.specs.Transaction.{joined};
 ghost use Rattle.qd_lines.specs.Changes.{IsPlain};
 ghost use Rattle.qd_lines.specs.Sinks.{cell_lent, with_cells, with_row};
-ghost use Rattle.qd_entry.specs.Spelling.{SpellsEntry};
+ghost use Rattle.qd_wal_entry.specs.Spelling.{SpellsEntry};
 ghost use Rattle.qd_prepare.specs.declared.sink.Place.TheVariants as place;
 ghost use Rattle.qd_prepare.specs.Sunk.{HasTaken, IsTaken, alters};
 
 use crate::fits::is_short;
 use crate::write::{end_insert, end_row, write_cell, write_change};
 use qd_base::{Col, Duplicate, Memory, Op, OpList, Schema, Txt, same_name};
-use qd_entry::EntryWriter;
 use qd_lines::{CellView, OpSink};
+use qd_wal_entry::EntryWriter;
 use std::alloc::{AllocError, Global};
 use std::marker::Model;
 

@@ -3,12 +3,12 @@
 //! A batch keeps to limits under which there is always room; where there is none, that counts as want of memory.
 ghost use Rattle.std.specs.Prelude.{◌≡◌, true, false, OnOk};
 ghost use Rattle.qd_lines.specs.Sinks.{cell_lent};
-ghost use Rattle.qd_entry.specs.Written.{IsSoFar, SoFar, inserted, with_cell, with_op, with_row};
+ghost use Rattle.qd_wal_entry.specs.Written.{IsSoFar, SoFar, inserted, with_cell, with_op, with_row};
 
 use crate::fits::{fits, is_short};
 use qd_base::{MAX_TEXT_BYTES, Memory, Op};
-use qd_entry::EntryWriter;
 use qd_lines::CellView;
+use qd_wal_entry::EntryWriter;
 use std::alloc::AllocError;
 
 /// Writes the making of a table or a column. Rows are not written so.

@@ -8,8 +8,6 @@ ghost use Rattle.qd_base.specs.declared.request.Reply.TheVariants as reply;
 ghost use Rattle.qd_print.specs.Printed.{csv, csv_cell, csv_line, csv_text, needs_quotes, quoted, reply_bytes};
 
 mod lengths;
-#[cfg(test)]
-mod tests;
 
 use itoa::{Buffer, Integer};
 use lengths::csv_len;

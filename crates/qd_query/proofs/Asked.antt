@@ -11,11 +11,11 @@ use Rattle.qd_base.specs.Database.{Database, StoredTable, schemas_of}
 use Rattle.qd_base.specs.Rows.{Row}
 use Rattle.qd_base.specs.Schemas.{schema_of, table_at}
 use Rattle.qd_base.proofs.Tables.{table_within}
-use Rattle.qd_trees.specs.declared.tree.Join.{Join}
-use Rattle.qd_trees.specs.declared.tree.Query.{Query}
-use Rattle.qd_trees.specs.declared.tree.Source.{Source}
-use Rattle.qd_trees.specs.declared.tree.Stmt.{Stmt}
-use Rattle.qd_trees.specs.declared.tree.Stmt.TheVariants as is
+use Rattle.qd_sql_ast.specs.declared.tree.Join.{Join}
+use Rattle.qd_sql_ast.specs.declared.tree.Query.{Query}
+use Rattle.qd_sql_ast.specs.declared.tree.Source.{Source}
+use Rattle.qd_sql_ast.specs.declared.tree.Stmt.{Stmt}
+use Rattle.qd_sql_ast.specs.declared.tree.Stmt.TheVariants as is
 use Rattle.qd_print.specs.Printed.{csv}
 use Rattle.qd_meaning.specs.declared.parts.AskPlan.{AskPlan}
 use Rattle.qd_meaning.specs.declared.refusal.Refusal.{Refusal}

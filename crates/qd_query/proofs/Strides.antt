@@ -7,10 +7,10 @@ use Rattle.std.proofs.lemmas.List.{length-map}
 use Rattle.qd_base.specs.declared.code.Code.{Code}
 use Rattle.qd_base.specs.declared.code.Code.TheVariants as code
 use Rattle.qd_base.specs.declared.schema.ColType.{ColType}
-use Rattle.qd_trees.specs.declared.tree.AlignTo.{AlignTo}
-use Rattle.qd_trees.specs.declared.tree.AlignTo.TheVariants as align
-use Rattle.qd_trees.specs.declared.tree.Fills.{Fills}
-use Rattle.qd_trees.specs.declared.tree.Sampled.{Sampled}
+use Rattle.qd_sql_ast.specs.declared.tree.AlignTo.{AlignTo}
+use Rattle.qd_sql_ast.specs.declared.tree.AlignTo.TheVariants as align
+use Rattle.qd_sql_ast.specs.declared.tree.Fills.{Fills}
+use Rattle.qd_sql_ast.specs.declared.tree.Sampled.{Sampled}
 use Rattle.qd_value.specs.declared.bound.Bound.{Bound}
 use Rattle.qd_meaning.specs.declared.parts.Agg.{Agg}
 use Rattle.qd_meaning.specs.declared.refusal.Refusal.{Refusal}

@@ -7,9 +7,9 @@ use Rattle.qd_base.specs.Laws.{IsInOrder}
 use Rattle.qd_base.specs.Rows.{Row, time_of}
 use Rattle.qd_base.specs.Codes.{number_of}
 use Rattle.qd_base.specs.Database.{Database, StoredTable}
-use Rattle.qd_trees.specs.declared.tree.Sampled.{Sampled}
-use Rattle.qd_trees.specs.declared.tree.Stmt.{Stmt}
-use Rattle.qd_trees.specs.declared.tree.Stmt.TheVariants as is
+use Rattle.qd_sql_ast.specs.declared.tree.Sampled.{Sampled}
+use Rattle.qd_sql_ast.specs.declared.tree.Stmt.{Stmt}
+use Rattle.qd_sql_ast.specs.declared.tree.Stmt.TheVariants as is
 use Rattle.qd_print.specs.Printed.{csv}
 use Rattle.qd_meaning.specs.declared.parts.AskPlan.{AskPlan}
 use Rattle.qd_meaning.specs.declared.parts.JoinSpec.{JoinSpec}

@@ -14,8 +14,6 @@ mod partitions;
 mod plans;
 mod queries;
 mod sources;
-#[cfg(test)]
-mod tests;
 
 pub use answer::Answer;
 pub use queries::run_query;

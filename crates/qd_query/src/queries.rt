@@ -10,7 +10,7 @@ use crate::plans::run_plan;
 use qd_meaning::plans_answer;
 use qd_plan::{Plan, PlanFault, plan};
 use qd_scan::{PartFault, PartSource};
-use qd_trees::Stmt;
+use qd_sql_ast::Stmt;
 use std::alloc::Global;
 
 /// Answers a query or SHOW PARTITIONS over the tables of a source: by its rows, or by the refusal that goes first.

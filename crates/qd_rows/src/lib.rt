@@ -3,8 +3,6 @@
 
 mod runs;
 mod set;
-#[cfg(test)]
-mod tests;
 
 pub use runs::{Place, Run};
 pub use set::RowSet;

@@ -1,21 +1,26 @@
 -- The laws of samples.
-use Rattle.std.proofs.Common.{◌≡◌, ℕ, ◌+◌, List, [], ◌∷◌, ◌++◌, length, map, filter, take, refl, ap, ap₂, ◌∙◌, arith, All}
-use Rattle.std.specs.Prelude.{not}
+use Rattle.std.proofs.Common.{◌≡◌, ℕ, ◌+◌, List, [], ◌∷◌, ◌++◌, length, map, filter, take, ◌≤◌, refl, sym, subst, ap, ap₂, ◌∙◌, arith, All}
+use Rattle.std.specs.Prelude.{not, slice_index, Contains}
 use Rattle.std.specs.List.{flat_map, zip}
 use Rattle.std.proofs.lemmas.Bool.{cond-false}
+use Rattle.std.proofs.lemmas.Grind.{get_or_default_zero}
 use Rattle.std.proofs.lemmas.List.{length-map, map-append, take_at}
 use Rattle.std.proofs.lemmas.List.Elements.{All-cons, All-filter, All-head, All-nil, All-tail}
 use Rattle.std.proofs.lemmas.Slice.Zip.{length-zip}
 use Rattle.qd_base.specs.declared.cell.Cell.TheVariants as cell
+use Rattle.qd_base.specs.declared.limits.TheConstants.{MAX_TIME}
 use Rattle.qd_base.specs.Rows.{Row, time_of}
 use Rattle.qd_meaning.specs.declared.parts.SampleSpec.{SampleSpec}
 use Rattle.qd_meaning.specs.Grouped.{distinct, key_of, keys_of, same_key}
 use Rattle.qd_meaning.specs.Joined.{last_or}
 use Rattle.qd_meaning.specs.Sampled.{align_of, filled_from, nulls, sample_row, skips, starts, unfilled}
 use Rattle.qd_time.specs.declared.buckets.Align.{Align}
+use Rattle.qd_time.specs.declared.buckets.Stride.{Stride}
+use Rattle.qd_time.specs.Buckets.{bucket_start, IsReached, IsStart, IsStride}
 use Rattle.qd_value.specs.declared.bound.Bound.{Bound}
-use Rattle.qd_sample.specs.Laws.{EachBucketHasEachKey}
+use Rattle.qd_sample.specs.Laws.{EachBucketHasEachKey, StartsAreAll}
 use Rattle.qd_sample.proofs.Filled.{cells_of}
+use Rattle.qd_sample.proofs.StartLists.{starts_meet, starts_rise, starts_start, starts_within}
 
 abbrev AreLong : ℕ → List Row → Type 0
 AreLong n keys = All (λ key. length key ≡ n) keys
@@ -56,3 +61,25 @@ each-bucket-has-each-key spec time_col r rs fills =
     let befores = map (λ k. nulls spec.group.aggs) keys in
     ap (map (take (1 + length spec.group.keys))) (cond-false (skips spec.fills) (unfilled spec align time_col keys list rows) (filled_from spec align time_col keys list befores rows) fills)
     ∙ buckets spec align time_col (length spec.group.keys) keys list befores rows (distinct_long (length spec.group.keys) (map (key_of spec.group.keys) rows) (rows_long spec.group.keys rows)) (length-map keys (λ k. nulls spec.group.aggs))
+
+-- ---- the starts of buckets
+
+module _ (stride : Stride) (align : Align) (first last : ℕ) (strides : IsStride stride) (reached : IsReached align first) (order : first ≤ last) (high : last ≤ MAX_TIME) where
+  is_start : (t : ℕ) → Contains (starts stride align first last) t → (bucket_start stride align first ≤ t) × (t ≤ last) × IsStart stride align t
+  is_start t has =
+      let all = starts stride align first last in
+      let same : slice_index all has.0 ≡ t = sym (get_or_default_zero all has.0 t has.1) ∙ has.2 in
+      let within = starts_within stride align first last strides reached order high has.0 has.1 in
+      (omega (arith, within.0, same), omega (arith, within.1, same), subst (IsStart stride align) same (starts_start stride align first last strides reached order high has.0 has.1))
+
+  has_start : (t : ℕ) → (bucket_start stride align first ≤ t) × (t ≤ last) × IsStart stride align t → Contains (starts stride align first last) t
+  has_start t h =
+      let found = starts_meet stride align first last strides reached order high t h.0 h.1 h.2 in
+      (found.0, found.1, get_or_default_zero (starts stride align first last) found.0 t found.1 ∙ found.2)
+
+pub starts-are-all : StartsAreAll
+starts-are-all = record {
+  rise = λ stride align first last strides reached order high. starts_rise stride align first last strides reached order high;
+  exact = λ stride align first last strides reached order high t.
+      (is_start stride align first last strides reached order high t, has_start stride align first last strides reached order high t);
+}

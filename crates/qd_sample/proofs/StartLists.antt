@@ -250,3 +250,31 @@ module _ (stride : Stride) (align : Align) (first last : ℕ) (strides : IsStrid
         | inl less ↦ less
         | inr more ↦ absurd (omega (arith, low (k - 1) (omega arith), nth_later (bucket_end stride align) (grows stride align first strides reached) (bucket_start stride align first) n (k - 1) more))
       ]
+
+  -- all of them are from the first moment's start to the last moment
+  pub starts_within : (k : ℕ) → k < length (starts stride align first last) → (bucket_start stride align first ≤ slice_index (starts stride align first last) k) × (slice_index (starts stride align first last) k ≤ last)
+  starts_within k low =
+      let next = bucket_end stride align in
+      let s = bucket_start stride align first in
+      let all = walked_all in
+      let size = ap length all.1 ∙ length-iterated next all.0 s in
+      let there : k < all.0 = omega (arith, size) in
+      let here : slice_index (starts stride align first last) k ≡ at k = ap (λ (l : List ℕ). slice_index l k) all.1 ∙ get_or-iterated next all.0 k s 0 there in
+      let later : s ≤ at k = nth_later next (grows stride align first strides reached) s 0 k (omega arith) in
+      let early : at k ≤ last = all.2 k there in
+      (omega (arith, here, later), omega (arith, here, early))
+
+  -- a moment from there on at which a bucket starts is among them
+  pub starts_meet : (t : ℕ) → bucket_start stride align first ≤ t → t ≤ last → IsStart stride align t → (k : ℕ) × (k < length (starts stride align first last)) × (slice_index (starts stride align first last) k ≡ t)
+  starts_meet t low within is = elim (cases_lt t first) [
+    | inl early ↦
+        (let found = starts_have first (omega arith) order in
+        let least = start_by-greatest (period_of stride) align first t (period_is stride strides) reached is (omega arith) in
+        (found.0, found.1, omega (arith, found.2, low, least)))
+    | inr late ↦
+        (let found = starts_have t late within in
+        let there = reached_later align first t late reached in
+        let least = start_by-greatest (period_of stride) align t t (period_is stride strides) there is (omega arith) in
+        let most = start_by-le (period_of stride) align t (period_is stride strides) there in
+        (found.0, found.1, omega (arith, found.2, least, most)))
+  ]

@@ -1,5 +1,5 @@
 -- What holds of every sample.
-use Rattle.std.specs.Prelude.{◌≡◌, ℕ, ◌+◌, ◌≤◌, true, false, All, List, [], ◌∷◌, length, map, take, Option, None, Some, ℤ, ◌+ℤ◌, IsPermutation}
+use Rattle.std.specs.Prelude.{◌≡◌, ◌↔◌, ℕ, ◌+◌, ◌<◌, ◌≤◌, true, false, All, Contains, slice_index, List, [], ◌∷◌, length, map, take, Option, None, Some, ℤ, ◌+ℤ◌, IsPermutation}
 use Rattle.std.specs.List.{flat_map}
 use Rattle.qd_base.specs.declared.cell.Cell.TheVariants as cell
 use Rattle.qd_base.specs.declared.limits.TheConstants.{MAX_TIME}
@@ -10,7 +10,9 @@ use Rattle.qd_meaning.specs.declared.parts.SampleSpec.{SampleSpec}
 use Rattle.qd_meaning.specs.Grouped.{grouped, keys_of, total, values}
 use Rattle.qd_meaning.specs.Joined.{last_or}
 use Rattle.qd_meaning.specs.Sampled.{align_of, in_bucket, sampled, skips, starts}
-use Rattle.qd_time.specs.Buckets.{IsStride}
+use Rattle.qd_time.specs.declared.buckets.Align.{Align}
+use Rattle.qd_time.specs.declared.buckets.Stride.{Stride}
+use Rattle.qd_time.specs.Buckets.{bucket_start, IsReached, IsStart, IsStride}
 use Rattle.qd_value.specs.declared.bound.Bound.{Bound}
 
 -- With a fill each bucket, from the first row's to the last row's, has one row for each key, in order of the keys' first appearance.
@@ -20,6 +22,18 @@ EachBucketHasEachKey =
     → map (take (1 + length spec.group.keys)) (sampled spec time_col (r ∷ rs))
     ≡ flat_map (λ start. map (λ key. cell.Time start ∷ key) (keys_of spec.group.keys (r ∷ rs)))
     (starts spec.stride (align_of spec.offset (time_of time_col r)) (time_of time_col r) (time_of time_col (last_or r rs)))
+
+-- ---- buckets
+
+-- The starts of the buckets from that of one moment to another moment are exactly the moments of this interval at which a
+-- bucket starts, rising.
+pub record StartsAreAll : Type 0 where
+  pub rise :
+      (stride : Stride) (align : Align) (first last : ℕ) → IsStride stride → IsReached align first → first ≤ last → last ≤ MAX_TIME
+      → (a b : ℕ) → a < b → b < length (starts stride align first last) → slice_index (starts stride align first last) a < slice_index (starts stride align first last) b
+  pub exact :
+      (stride : Stride) (align : Align) (first last : ℕ) → IsStride stride → IsReached align first → first ≤ last → last ≤ MAX_TIME
+      → (t : ℕ) → (Contains (starts stride align first last) t ↔ ((bucket_start stride align first ≤ t) × (t ≤ last) × IsStart stride align t))
 
 -- ---- grouping
 

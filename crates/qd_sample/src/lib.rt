@@ -10,10 +10,8 @@ mod groups;
 mod laws;
 mod rows;
 mod sampling;
-#[cfg(test)]
-mod tests;
 mod times;
 
 pub use fault::SampleFault;
-pub use laws::{each_bucket_has_each_key, sample_is_grouping, sums_of_buckets};
+pub use laws::{each_bucket_has_each_key, sample_is_grouping, starts_are_all, sums_of_buckets};
 pub use sampling::sample;

@@ -3,4 +3,4 @@ pub mod RowLemmas
 pub mod SetLemmas
 pub mod PartLemmas
 pub mod ScanLemmas
-pub mod FakeLemmas
+pub mod AskedLemmas

@@ -1,3 +1,3 @@
 pub mod Sources
 pub mod Scans
-pub mod Fake
+pub mod Asked

@@ -4,8 +4,6 @@
 mod fault;
 mod scans;
 mod source;
-#[cfg(test)]
-mod tests;
 
 pub use fault::PartFault;
 pub use scans::scan;

@@ -7,6 +7,7 @@ ghost use Rattle.qd_base.specs.Lawful.{IsRowOf};
 ghost use Rattle.qd_block.specs.Blocks.{kinds_in};
 ghost use Rattle.qd_manifest.specs.Spelling.{no_part};
 ghost use Rattle.qd_rows.specs.Sets.{rows_in, IsPlaced};
+ghost use Rattle.qd_scan.specs.Asked.{AskedOnly, IsPartBetween};
 ghost use Rattle.qd_scan.specs.Scans.{AreApart, HasRowsBetween, HasScanned, IsBetween};
 ghost use Rattle.qd_scan.specs.Sources.{parts_at, rows_between, schema_at, table_rows, HasCause, IsSource, Stays};
 
@@ -46,6 +47,7 @@ pub fn scan<P: PartSource>(
     ensures order { IfOk result (λ set. IsInOrder (schema_at (P.shown source.old) table).time_col (rows_in set)) }
     ensures between { IfOk result (λ set. All (IsBetween (schema_at (P.shown source.old) table).time_col lo hi) (rows_in set)) }
     ensures stays { Stays (P.shown source.old) (P.shown source.new) }
+    ensures asked { AskedOnly (IsPartBetween (P.shown source.old) table lo hi) (P.asked source.old) (P.asked source.new) }
     ensures fixed { P.fixed source.new ≡ P.fixed source.old }
     ensures cause { IfErr result (HasCause (P.shown source.old) (P.shown source.new)) }
 {
@@ -74,6 +76,7 @@ fn with_parts<P: PartSource>(
     requires single { rows.right ≡ None }
     ensures scanned { IfOk result (HasScanned (P.shown source.old) table lo hi (length (parts_at (P.shown source.old) table))) }
     ensures stays { Stays (P.shown source.old) (P.shown source.new) }
+    ensures asked { AskedOnly (IsPartBetween (P.shown source.old) table lo hi) (P.asked source.old) (P.asked source.new) }
     ensures fixed { P.fixed source.new ≡ P.fixed source.old }
     ensures cause { IfErr result (HasCause (P.shown source.old) (P.shown source.new)) }
 {

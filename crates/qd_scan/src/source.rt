@@ -1,6 +1,7 @@
 //! What a scan needs of where rows lie.
-ghost use Rattle.std.specs.Prelude.{◌≡◌, ◌<◌, length, IfOk, IfErr};
+ghost use Rattle.std.specs.Prelude.{◌≡◌, ◌<◌, List, Option, length, IfOk, IfErr};
 ghost use Rattle.std.specs.Arc.{arc_value};
+ghost use Rattle.qd_scan.specs.Asked.{with_asked, PartAt};
 ghost use Rattle.qd_scan.specs.Sources.{part_at, parts_at, schema_at, HasCause, HasRowsOf, IsBlockOf, IsSource, SourceView, Stays};
 
 use crate::fault::PartFault;
@@ -14,13 +15,17 @@ use std::sync::Arc;
 ///
 /// Its meaning is what it shows: the schemas and the parts of all tables; the tables with their rows, where it tells
 /// them; how many calls of what it reads from have failed; and how often it has found bytes damaged, with the place of
-/// the last. No call changes the tables, and no count falls. `fixed` is what else it holds that no call changes.
+/// the last. No call changes the tables, and no count falls. `asked` is which parts it was asked for, where it remembers
+/// them. `fixed` is what else it holds that no call changes.
 pub trait PartSource {
     /// What else a source holds, as far as no call changes it.
     type Fixed;
 
     /// What is shown at a moment.
     ghost shown: { Self → SourceView };
+
+    /// Which parts it was asked for, one after another, where it remembers them.
+    ghost asked: { Self → Option (List PartAt) };
 
     /// What no call changes.
     ghost fixed: { Self → Self.Fixed };
@@ -48,6 +53,7 @@ pub trait PartSource {
         ensures block { IfOk result (λ b. IsBlockOf (schema_at (shown self.old) table) (part_at (shown self.old) table i) (arc_value b)) }
         ensures told { IfOk result (λ b. HasRowsOf (shown self.old) table i (arc_value b)) }
         ensures stays { Stays (shown self.old) (shown self.new) }
+        ensures asked { asked self.new ≡ with_asked table i (asked self.old) }
         ensures fixed { fixed self.new ≡ fixed self.old }
 
         // A fault of the volume comes only where the count of faults has risen, and damage only where that of damages has,

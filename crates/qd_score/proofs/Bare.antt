@@ -1,13 +1,13 @@
 -- Books of numbers whose versions list no block.
 use Rattle.std.proofs.Common.{◌≡◌, ℕ, zero, suc, ◌-◌, ◌<◌, ◌≤◌, List, [], ◌∷◌, replicate, length, Some, None, refl, sym, ap, ◌∙◌, subst, arith, zero-le, le_refl}
 use Rattle.std.specs.Prelude.{Option, Contains}
-use Rattle.qd_pins.specs.declared.limits.TheConstants.{ROWS}
-use Rattle.qd_pins.specs.declared.view.Place.{Place}
-use Rattle.qd_pins.specs.declared.view.Version.{Version}
-use Rattle.qd_pins.specs.declared.view.View.{View}
-use Rattle.qd_pins.specs.Machine.{Book, MayOpen, version_at, IsGreatest, AllPresent}
-use Rattle.qd_pins.proofs.Lists.{prefix_refl}
-use Rattle.qd_pins.proofs.Seats.{no_version}
+use Rattle.qd_score_model.specs.declared.limits.TheConstants.{ROWS}
+use Rattle.qd_score_model.specs.declared.view.Place.{Place}
+use Rattle.qd_score_model.specs.declared.view.Version.{Version}
+use Rattle.qd_score_model.specs.declared.view.View.{View}
+use Rattle.qd_score_model.specs.Machine.{Book, MayOpen, version_at, IsGreatest, AllPresent}
+use Rattle.qd_score_model.proofs.Lists.{prefix_refl}
+use Rattle.qd_score_model.proofs.Seats.{no_version}
 use Rattle.qd_score.specs.Rule.{sight_of, IsInOrder}
 use Rattle.qd_score.specs.Calls.{MayGiveBack}
 use Rattle.qd_score.specs.Publishing.{MayMakeLive}

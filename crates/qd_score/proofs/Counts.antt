@@ -4,18 +4,18 @@ use Rattle.std.specs.Prelude.{◌&&◌, slice_index, Option}
 use mathlib.Core.Option.{some, none}
 use lib.ListN.{get_elem?}
 use Rattle.atomic_table.specs.Table.{State as TableState, Me, step, Allows, keeps}
-use Rattle.qd_pins.specs.declared.limits.TheConstants.{ROWS}
-use Rattle.qd_pins.specs.declared.view.Mode.TheVariants.{Keeper}
-use Rattle.qd_pins.specs.declared.view.Place.{Place}
-use Rattle.qd_pins.specs.declared.view.Phase.TheVariants.{Idle, Looked, Trying, Pinned}
-use Rattle.qd_pins.specs.declared.view.Sight.{Sight}
-use Rattle.qd_pins.specs.declared.view.View.{View}
-use Rattle.qd_pins.specs.Machine.{Book, Board, State, Look, Raise, Confirm, Drop, HeldRaise, put_at, same_place, looked, tries, confirmed, dropped, pinned_held}
-use Rattle.qd_pins.specs.Kept.{Kept, PhaseFits, WasCurrent}
-use Rattle.qd_pins.proofs.Boards.{put_same, put_other, same_or_other, test_same, below_rows, one_at_same}
-use Rattle.qd_pins.proofs.Follows.{pins_small}
-use Rattle.qd_pins.proofs.Frame.{once_on}
-use Rattle.qd_pins.proofs.Lists.{sum_at_le}
+use Rattle.qd_score_model.specs.declared.limits.TheConstants.{ROWS}
+use Rattle.qd_score_model.specs.declared.view.Mode.TheVariants.{Keeper}
+use Rattle.qd_score_model.specs.declared.view.Place.{Place}
+use Rattle.qd_score_model.specs.declared.view.Phase.TheVariants.{Idle, Looked, Trying, Pinned}
+use Rattle.qd_score_model.specs.declared.view.Sight.{Sight}
+use Rattle.qd_score_model.specs.declared.view.View.{View}
+use Rattle.qd_score_model.specs.Machine.{Book, Board, State, Look, Raise, Confirm, Drop, HeldRaise, put_at, same_place, looked, tries, confirmed, dropped, pinned_held}
+use Rattle.qd_score_model.specs.Kept.{Kept, PhaseFits, WasCurrent}
+use Rattle.qd_score_model.proofs.Boards.{put_same, put_other, same_or_other, test_same, below_rows, one_at_same}
+use Rattle.qd_score_model.proofs.Follows.{pins_small}
+use Rattle.qd_score_model.proofs.Frame.{once_on}
+use Rattle.qd_score_model.proofs.Lists.{sum_at_le}
 use Rattle.qd_score.specs.declared.table.Knows.{Knows}
 use Rattle.qd_score.specs.Rule.{WordsShow, Ruled, Stands, with_view, place_of, row_word}
 use Rattle.qd_score.specs.Pinning.{place_in, current_in, Looks, Raises, Confirms, Releases, Reads, HeldRaises}

@@ -4,14 +4,14 @@ use Rattle.std.specs.Prelude.{◌==◌, if◌then◌else◌, is_some, slice_inde
 use mathlib.Core.Option.{none}
 use prog.Atomic.{either}
 use Rattle.atomic_table.specs.Table.{Me, step, Allows, Act, keeps, Valid, stepped, carried_after}
-use Rattle.qd_pins.specs.declared.limits.TheConstants.{ROWS}
-use Rattle.qd_pins.specs.declared.view.Place.{Place}
-use Rattle.qd_pins.specs.declared.view.Sight.{Sight}
-use Rattle.qd_pins.specs.declared.view.Version.{Version}
-use Rattle.qd_pins.specs.declared.view.View.{View}
-use Rattle.qd_pins.specs.Machine.{Book, Board, GoLive, SetCurrent, Retire, MayGoLive, MaySetCurrent, MayRetire, put_at, version_at, sight, sees, refuses, retired}
-use Rattle.qd_pins.proofs.Boards.{put_same, put_other, test_same, test_other, same_of_test, below_rows, live_now, live_still}
-use Rattle.qd_pins.proofs.Follows.{pins_small}
+use Rattle.qd_score_model.specs.declared.limits.TheConstants.{ROWS}
+use Rattle.qd_score_model.specs.declared.view.Place.{Place}
+use Rattle.qd_score_model.specs.declared.view.Sight.{Sight}
+use Rattle.qd_score_model.specs.declared.view.Version.{Version}
+use Rattle.qd_score_model.specs.declared.view.View.{View}
+use Rattle.qd_score_model.specs.Machine.{Book, Board, GoLive, SetCurrent, Retire, MayGoLive, MaySetCurrent, MayRetire, put_at, version_at, sight, sees, refuses, retired}
+use Rattle.qd_score_model.proofs.Boards.{put_same, put_other, test_same, test_other, same_of_test, below_rows, live_now, live_still}
+use Rattle.qd_score_model.proofs.Follows.{pins_small}
 use Rattle.qd_score.specs.declared.limits.TheConstants.{VERSIONS_END}
 use Rattle.qd_score.specs.declared.table.Knows.{Knows}
 use Rattle.qd_score.specs.Rule.{Ruled, Stands, with_view, place_word, row_word}

@@ -5,10 +5,10 @@ use mathlib.Core.Option.{some, none}
 use lib.ListN.{get_elem?}
 use prog.Atomic.{either}
 use Rattle.atomic_table.specs.Table.{Me, step, Allows, Act, keeps, takes, gives, put_back, rest, Valid, stepped, carried_after}
-use Rattle.qd_pins.specs.declared.view.Sight.{Sight}
-use Rattle.qd_pins.specs.declared.view.View.{View}
-use Rattle.qd_pins.specs.declared.view.Mode.TheVariants.{Sole}
-use Rattle.qd_pins.specs.Machine.{Book, Board, Take, Give, Share, MayGive, sight, took, gave, shared}
+use Rattle.qd_score_model.specs.declared.view.Sight.{Sight}
+use Rattle.qd_score_model.specs.declared.view.View.{View}
+use Rattle.qd_score_model.specs.declared.view.Mode.TheVariants.{Sole}
+use Rattle.qd_score_model.specs.Machine.{Book, Board, Take, Give, Share, MayGive, sight, took, gave, shared}
 use Rattle.qd_score.specs.declared.table.Knows.{Knows}
 use Rattle.qd_score.specs.Rule.{IsFree, IsHeld, Ruled, IsInOrder, with_view, sight_of, ComesFrom}
 use Rattle.qd_score.specs.Plays.{Takes, Gives, Learns, Shares}

@@ -5,16 +5,16 @@ use mathlib.Core.Option.{some, some-injective, some-ne-none}
 use lib.ListN.{get_elem?}
 use Rattle.atomic_table.specs.Table.{Splits, Joins, opening as table_opening}
 use Rattle.atomic_table.proofs.Lists.{at_set, at_snoc, set_else}
-use Rattle.qd_pins.specs.declared.limits.TheConstants.{ROWS}
-use Rattle.qd_pins.specs.declared.view.Mode.{Mode}
-use Rattle.qd_pins.specs.declared.view.Place.{Place}
-use Rattle.qd_pins.specs.declared.view.Version.{Version}
-use Rattle.qd_pins.specs.declared.view.View.{View}
-use Rattle.qd_pins.specs.Machine.{Book, Split, MaySplit, MayOpen, happens, lent, newcomer, joined, gone, opening}
-use Rattle.qd_pins.specs.Kept.{Kept}
-use Rattle.qd_pins.proofs.Boards.{test_other}
-use Rattle.qd_pins.proofs.Runs.{kept_happens}
-use Rattle.qd_pins.proofs.Seats.{joins, kept_opening}
+use Rattle.qd_score_model.specs.declared.limits.TheConstants.{ROWS}
+use Rattle.qd_score_model.specs.declared.view.Mode.{Mode}
+use Rattle.qd_score_model.specs.declared.view.Place.{Place}
+use Rattle.qd_score_model.specs.declared.view.Version.{Version}
+use Rattle.qd_score_model.specs.declared.view.View.{View}
+use Rattle.qd_score_model.specs.Machine.{Book, Split, MaySplit, MayOpen, happens, lent, newcomer, joined, gone, opening}
+use Rattle.qd_score_model.specs.Kept.{Kept}
+use Rattle.qd_score_model.proofs.Boards.{test_other}
+use Rattle.qd_score_model.proofs.Runs.{kept_happens}
+use Rattle.qd_score_model.proofs.Seats.{joins, kept_opening}
 use Rattle.qd_score.specs.declared.limits.TheConstants.{VERSIONS_END}
 use Rattle.qd_score.specs.declared.table.Knows.{Knows}
 use Rattle.qd_score.specs.Rule.{Ruled, Stands, view_in, with_view, nobody, first_seat, place_word, row_word}

@@ -4,12 +4,12 @@ use Rattle.std.specs.Prelude.{Option}
 use Rattle.atomic_table.specs.Table.{Me}
 use Rattle.atomic_table.specs.Seated.{TableId}
 use Rattle.atomic_table.specs.declared.shared.Seat.{Seat}
-use Rattle.qd_pins.specs.declared.view.Mode.{Mode}
-use Rattle.qd_pins.specs.declared.view.Sight.{Sight}
-use Rattle.qd_pins.specs.declared.view.Version.{Version}
-use Rattle.qd_pins.specs.declared.view.View.{View}
-use Rattle.qd_pins.specs.Machine.{Book, MayOpen, newcomer, sees, refuses}
-use Rattle.qd_pins.proofs.Boards.{same_or_other}
+use Rattle.qd_score_model.specs.declared.view.Mode.{Mode}
+use Rattle.qd_score_model.specs.declared.view.Sight.{Sight}
+use Rattle.qd_score_model.specs.declared.view.Version.{Version}
+use Rattle.qd_score_model.specs.declared.view.View.{View}
+use Rattle.qd_score_model.specs.Machine.{Book, MayOpen, newcomer, sees, refuses}
+use Rattle.qd_score_model.proofs.Boards.{same_or_other}
 use Rattle.qd_score.specs.declared.table.Knows.{Knows}
 use Rattle.qd_score.specs.Rule.{Stands, with_view, first_seat}
 use Rattle.qd_score.specs.Publishing.{HasChanged, HasTried, without_row}

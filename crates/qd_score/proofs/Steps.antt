@@ -5,12 +5,12 @@ use mathlib.Core.Option.{Option as Found, some}
 use lib.ListN.{get_elem?}
 use Rattle.atomic_table.specs.Table.{State as TableState}
 use Rattle.atomic_table.proofs.Lists.{at_set, at_map, set_here, set_again}
-use Rattle.qd_pins.specs.declared.view.View.{View}
-use Rattle.qd_pins.specs.declared.view.Sight.{Sight}
-use Rattle.qd_pins.specs.Machine.{Book, Board, State, Event, sight, Needs, board_after, view_after, views_after}
-use Rattle.qd_pins.specs.Kept.{Kept}
-use Rattle.qd_pins.proofs.Lists.{at_below}
-use Rattle.qd_pins.proofs.Runs.{kept_happens}
+use Rattle.qd_score_model.specs.declared.view.View.{View}
+use Rattle.qd_score_model.specs.declared.view.Sight.{Sight}
+use Rattle.qd_score_model.specs.Machine.{Book, Board, State, Event, sight, Needs, board_after, view_after, views_after}
+use Rattle.qd_score_model.specs.Kept.{Kept}
+use Rattle.qd_score_model.proofs.Lists.{at_below}
+use Rattle.qd_score_model.proofs.Runs.{kept_happens}
 use Rattle.qd_score.specs.declared.table.Knows.{Knows}
 use Rattle.qd_score.specs.Rule.{WordsShow, IsFree, IsHeld, Ruled, Stands, view_in, with_view}
 use Rattle.qd_score.proofs.Words.{map_set, word_again, word_else, word_here, lock_words, held_by}

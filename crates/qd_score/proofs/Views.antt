@@ -1,10 +1,10 @@
 -- The view of a seat after the steps of a pin.
 use Rattle.std.proofs.Common.{◌≡◌, ◌≢◌, ℕ, ◌/◌, ◌%◌, Bool, true, sym, ap, ◌∙◌}
 use Rattle.std.specs.Prelude.{if◌then◌else◌}
-use Rattle.qd_pins.specs.declared.limits.TheConstants.{ROWS}
-use Rattle.qd_pins.specs.declared.view.Place.{Place}
-use Rattle.qd_pins.specs.declared.view.Phase.TheVariants.{Trying, Pinned}
-use Rattle.qd_pins.specs.Machine.{looked, tries, confirmed, dropped, pinned_held, same_place}
+use Rattle.qd_score_model.specs.declared.limits.TheConstants.{ROWS}
+use Rattle.qd_score_model.specs.declared.view.Place.{Place}
+use Rattle.qd_score_model.specs.declared.view.Phase.TheVariants.{Trying, Pinned}
+use Rattle.qd_score_model.specs.Machine.{looked, tries, confirmed, dropped, pinned_held, same_place}
 use Rattle.qd_score.specs.declared.table.Knows.{Knows}
 use Rattle.qd_score.specs.Rule.{with_view, place_of}
 use Rattle.qd_score.specs.Pinning.{moved_on}

@@ -5,12 +5,12 @@ use Rattle.std.proofs.lemmas.Bool.Decides.{eqb_tells}
 use Rattle.std.proofs.lemmas.Nat.{div-mul-add, mod-mul-add, mod_below}
 use Rattle.std.proofs.Math.Nat.{div-add-mod}
 use Rattle.std.proofs.lemmas.List.{get_or-set_same, get_or-set_other, length-set}
-use Rattle.qd_pins.specs.declared.view.Place.{Place}
-use Rattle.qd_pins.specs.declared.view.Sight.{Sight}
-use Rattle.qd_pins.specs.declared.view.Version.{Version}
-use Rattle.qd_pins.specs.declared.limits.TheConstants.{PINS_END, ROWS}
-use Rattle.qd_pins.specs.Machine.{Board, sight, seen_by, hold_of, same_place, version_at}
-use Rattle.qd_pins.proofs.Boards.{same_or_other, same_place_is, test_same}
+use Rattle.qd_score_model.specs.declared.view.Place.{Place}
+use Rattle.qd_score_model.specs.declared.view.Sight.{Sight}
+use Rattle.qd_score_model.specs.declared.view.Version.{Version}
+use Rattle.qd_score_model.specs.declared.limits.TheConstants.{PINS_END, ROWS}
+use Rattle.qd_score_model.specs.Machine.{Board, sight, seen_by, hold_of, same_place, version_at}
+use Rattle.qd_score_model.proofs.Boards.{same_or_other, same_place_is, test_same}
 use Rattle.qd_score.specs.declared.limits.TheConstants.{VERSIONS_END}
 use Rattle.qd_score.specs.Rule.{WordsShow, place_of, place_word, row_word}
 

@@ -3,12 +3,12 @@ use Rattle.std.specs.Prelude.{◌≡◌, ℕ, ◌≤◌, false, List, [], ◌∷
 use mathlib.Core.List.{IsPrefix}
 use Rattle.atomic_table.specs.declared.shared.Seat.{Seat}
 use Rattle.atomic_table.specs.Seated.{TableId}
-use Rattle.qd_pins.specs.declared.view.Mode.TheVariants.{Keeper}
-use Rattle.qd_pins.specs.declared.view.Place.{Place}
-use Rattle.qd_pins.specs.declared.view.Phase.TheVariants.{Idle, Looked}
-use Rattle.qd_pins.specs.declared.view.Sight.{Sight}
-use Rattle.qd_pins.specs.declared.view.View.{View}
-use Rattle.qd_pins.specs.Machine.{Book, IsGreatest, AllPresent}
+use Rattle.qd_score_model.specs.declared.view.Mode.TheVariants.{Keeper}
+use Rattle.qd_score_model.specs.declared.view.Place.{Place}
+use Rattle.qd_score_model.specs.declared.view.Phase.TheVariants.{Idle, Looked}
+use Rattle.qd_score_model.specs.declared.view.Sight.{Sight}
+use Rattle.qd_score_model.specs.declared.view.View.{View}
+use Rattle.qd_score_model.specs.Machine.{Book, IsGreatest, AllPresent}
 use Rattle.qd_score.specs.declared.table.Knows.{Knows}
 use Rattle.qd_score.specs.Rule.{Stands, ComesFrom}
 

@@ -1,8 +1,8 @@
 -- The book of numbers as a scoreboard sees it.
 use Rattle.std.specs.Prelude.{◌≡◌, ℕ, ◌-◌, ◌≤◌, List, [], ◌∷◌, replicate, Option, Some, None}
-use Rattle.qd_pins.specs.declared.limits.TheConstants.{ROWS}
-use Rattle.qd_pins.specs.declared.view.Version.{Version}
-use Rattle.qd_pins.specs.Machine.{Book, version_at}
+use Rattle.qd_score_model.specs.declared.limits.TheConstants.{ROWS}
+use Rattle.qd_score_model.specs.declared.view.Version.{Version}
+use Rattle.qd_score_model.specs.Machine.{Book, version_at}
 use Rattle.qd_score.specs.declared.counted.CountBook.{CountBook}
 use Rattle.qd_score.specs.declared.counted.Listed.{Listed}
 

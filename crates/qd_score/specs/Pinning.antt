@@ -1,12 +1,12 @@
 -- What the steps of a pin tell its seat, and what a pin shows.
 use Rattle.std.specs.Prelude.{◌≡◌, ℕ, ◌<◌, ◌≤◌, false, List, Option, Some, None}
 use Rattle.atomic_table.specs.Table.{Me, Step}
-use Rattle.qd_pins.specs.declared.view.Place.{Place}
-use Rattle.qd_pins.specs.declared.view.Phase.{Phase}
-use Rattle.qd_pins.specs.declared.view.Phase.TheVariants.{Idle, Looked, Trying, Pinned}
-use Rattle.qd_pins.specs.declared.view.Sight.{Sight}
-use Rattle.qd_pins.specs.declared.view.View.{View}
-use Rattle.qd_pins.specs.Machine.{looked, tries, confirmed, dropped, pinned_held, same_place}
+use Rattle.qd_score_model.specs.declared.view.Place.{Place}
+use Rattle.qd_score_model.specs.declared.view.Phase.{Phase}
+use Rattle.qd_score_model.specs.declared.view.Phase.TheVariants.{Idle, Looked, Trying, Pinned}
+use Rattle.qd_score_model.specs.declared.view.Sight.{Sight}
+use Rattle.qd_score_model.specs.declared.view.View.{View}
+use Rattle.qd_score_model.specs.Machine.{looked, tries, confirmed, dropped, pinned_held, same_place}
 use Rattle.qd_score.specs.declared.table.Knows.{Knows}
 use Rattle.qd_score.specs.Rule.{Stands, with_view, place_of}
 

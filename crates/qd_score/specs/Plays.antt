@@ -1,8 +1,8 @@
 -- What each step on the table tells its seat: its view afterwards, and that this view stands in a state that is kept.
 use Rattle.std.specs.Prelude.{◌≡◌, ◌≢◌, ℕ, List, [], ◌∷◌, Option, Some, IfSome}
 use Rattle.atomic_table.specs.Table.{Me, Step}
-use Rattle.qd_pins.specs.declared.view.Sight.{Sight}
-use Rattle.qd_pins.specs.Machine.{Book, took, gave, shared}
+use Rattle.qd_score_model.specs.declared.view.Sight.{Sight}
+use Rattle.qd_score_model.specs.Machine.{Book, took, gave, shared}
 use Rattle.qd_score.specs.declared.table.Knows.{Knows}
 use Rattle.qd_score.specs.Rule.{sight_of, IsInOrder, Stands, with_view, ComesFrom}
 

@@ -5,13 +5,13 @@ use Rattle.std.specs.Prelude.{◌≡◌, ℕ, ◌+◌, ◌*◌, ◌/◌, ◌%◌
 use mathlib.Core.Option.{Option as Found, some, none}
 use lib.ListN.{get_elem?}
 use Rattle.atomic_table.specs.Table.{State as TableState}
-use Rattle.qd_pins.specs.declared.limits.TheConstants.{ROWS}
-use Rattle.qd_pins.specs.declared.view.Place.{Place}
-use Rattle.qd_pins.specs.declared.view.Version.{Version}
-use Rattle.qd_pins.specs.declared.view.View.{View}
-use Rattle.qd_pins.specs.declared.view.Sight.{Sight}
-use Rattle.qd_pins.specs.Machine.{Book, Board, State, version_at, IsGreatest, AllPresent, first_view, gone}
-use Rattle.qd_pins.specs.Kept.{Kept}
+use Rattle.qd_score_model.specs.declared.limits.TheConstants.{ROWS}
+use Rattle.qd_score_model.specs.declared.view.Place.{Place}
+use Rattle.qd_score_model.specs.declared.view.Version.{Version}
+use Rattle.qd_score_model.specs.declared.view.View.{View}
+use Rattle.qd_score_model.specs.declared.view.Sight.{Sight}
+use Rattle.qd_score_model.specs.Machine.{Book, Board, State, version_at, IsGreatest, AllPresent, first_view, gone}
+use Rattle.qd_score_model.specs.Kept.{Kept}
 use Rattle.qd_score.specs.declared.limits.TheConstants.{VERSIONS_END}
 use Rattle.qd_score.specs.declared.table.Knows.{Knows}
 

@@ -1,6 +1,6 @@
 //! What lies under the lock.
 ghost use Rattle.std.specs.Prelude.{◌≡◌, ℕ, List};
-ghost use Rattle.qd_pins.specs.Machine.{Book};
+ghost use Rattle.qd_score_model.specs.Machine.{Book};
 
 /// A store of versions, as far as a scoreboard looks at it.
 pub trait Booked: Drop {
@@ -12,7 +12,7 @@ pub trait Booked: Drop {
     type Fixed;
 
     ghost use Rattle.std.specs.Prelude.{ℕ, List};
-    ghost use Rattle.qd_pins.specs.Machine.{Book};
+    ghost use Rattle.qd_score_model.specs.Machine.{Book};
 
     // The history, the live versions with the current one's place, the present blocks and how many of them are queued for
     // removal, how often a block was removed so far, and how many faults were met.

@@ -1,6 +1,6 @@
 //! A book of numbers, to try a scoreboard with.
 ghost use Rattle.std.specs.Prelude.{◌≡◌, ℕ, true, [], ◌∷◌, length, slice_set, Some, None, IfOk};
-ghost use Rattle.qd_pins.specs.Machine.{version_at};
+ghost use Rattle.qd_score_model.specs.Machine.{version_at};
 ghost use Rattle.qd_score.specs.Counted.{book_of, version_of, bare, IsFirst, IsSecond};
 
 use crate::booked::Booked;

@@ -6,7 +6,7 @@
 //! has seen, its own positions among them, its pin, and what it sees of the book while it holds the lock.
 //!
 //! Between any two steps, in whatever order threads take them, words, book and views show a state of the machine of
-//! `qd_pins`, and so all of its laws hold. The definitions stand in `specs/`: `Rule` (the words, the book and the views as
+//! `qd_score_model`, and so all of its laws hold. The definitions stand in `specs/`: `Rule` (the words, the book and the views as
 //! such a state), `Calls` (what calls need), and `Plays`, `Pinning` and `Publishing` (what each step tells its thread).
 #![tactic(auto)]
 

@@ -1,11 +1,11 @@
 //! Pins: a version that a seat counts on stays live.
 ghost use Rattle.std.specs.Prelude.{◌≡◌, ◌≢◌, ℕ, ◌/◌, ◌%◌, ◌<◌, ◌≤◌, ◌⊎◌, false, IfOk, IfErr, Some};
-ghost use Rattle.qd_pins.specs.declared.limits.TheConstants.{ROWS};
-ghost use Rattle.qd_pins.specs.declared.view.Mode.TheVariants.{Keeper};
-ghost use Rattle.qd_pins.specs.declared.view.Place.{Place};
-ghost use Rattle.qd_pins.specs.declared.view.Phase.TheVariants.{Idle, Looked, Trying, Pinned};
-ghost use Rattle.qd_pins.specs.declared.view.Sight.{Sight};
-ghost use Rattle.qd_pins.specs.Machine.{looked, tries, confirmed, dropped, pinned_held, same_place};
+ghost use Rattle.qd_score_model.specs.declared.limits.TheConstants.{ROWS};
+ghost use Rattle.qd_score_model.specs.declared.view.Mode.TheVariants.{Keeper};
+ghost use Rattle.qd_score_model.specs.declared.view.Place.{Place};
+ghost use Rattle.qd_score_model.specs.declared.view.Phase.TheVariants.{Idle, Looked, Trying, Pinned};
+ghost use Rattle.qd_score_model.specs.declared.view.Sight.{Sight};
+ghost use Rattle.qd_score_model.specs.Machine.{looked, tries, confirmed, dropped, pinned_held, same_place};
 ghost use Rattle.qd_score.specs.Rule.{with_view, place_of};
 ghost use Rattle.qd_score.specs.Calls.{IsSeatOf, known_by, view_of};
 ghost use Rattle.qd_score.specs.Pinning.{moved_on};
@@ -13,7 +13,7 @@ ghost use Rattle.qd_score.specs.Pinning.{moved_on};
 use crate::booked::Booked;
 use crate::score::{FIRST_ROW, Hold, PLACE, Score, Seat};
 use crate::table::{Confirm, HeldRaise, Look, Raise, Read, Release};
-use qd_pins::ROWS;
+use qd_score_model::ROWS;
 
 /// A version that its seat counts on. It stays live, with this number and in this row, until the pin is released.
 pub struct Pin {

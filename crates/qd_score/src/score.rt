@@ -1,11 +1,11 @@
 //! The score, its seats and its lock.
 ghost use Rattle.std.specs.Prelude.{◌≡◌, false, ℕ, ◌+◌, ◌*◌, ◌<◌, [], ◌∷◌, replicate, slice_set, Some, None, IsOk, IfOk, IfErr, IfSome, IfNone};
-ghost use Rattle.qd_pins.specs.declared.limits.TheConstants.{ROWS};
+ghost use Rattle.qd_score_model.specs.declared.limits.TheConstants.{ROWS};
 ghost use Rattle.qd_score.specs.declared.limits.TheConstants.{VERSIONS_END};
-ghost use Rattle.qd_pins.specs.declared.view.Mode.TheVariants.{Sole, Writer, Keeper};
-ghost use Rattle.qd_pins.specs.declared.view.Sight.{Sight};
-ghost use Rattle.qd_pins.specs.declared.view.Version.{Version};
-ghost use Rattle.qd_pins.specs.Machine.{MayOpen, MaySplit, took, gave, lent, newcomer, joined, shared};
+ghost use Rattle.qd_score_model.specs.declared.view.Mode.TheVariants.{Sole, Writer, Keeper};
+ghost use Rattle.qd_score_model.specs.declared.view.Sight.{Sight};
+ghost use Rattle.qd_score_model.specs.declared.view.Version.{Version};
+ghost use Rattle.qd_score_model.specs.Machine.{MayOpen, MaySplit, took, gave, lent, newcomer, joined, shared};
 ghost use Rattle.std.specs.Borrow.{sem, follows};
 ghost use Rattle.qd_score.specs.Lending.{with_book};
 ghost use Rattle.qd_score.specs.contracts.score.Hold.{the_row};
@@ -15,7 +15,7 @@ ghost use Rattle.qd_score.specs.Calls.{MaySit, IsSeatOf, IsLoose, IsOfSeat, MayG
 use crate::booked::Booked;
 use crate::table::{Give, KeeperOff, KnowsOf, Learn, Merge, Scored, Share, Take, WriterOff};
 use atomic_table::{Refused, Table};
-use qd_pins::{Mode, ROWS};
+use qd_score_model::{Mode, ROWS};
 use std::alloc::{AllocError, Global};
 use std::snapshot::Snapshot;
 use std::sync::Wait;
@@ -89,7 +89,7 @@ fn handed_back<B>(refused: Refused<Option<B>, Global>) -> B
 
 impl<B: Booked> Score<B> {
     /// Opens a scoreboard over a book, of which row 0 is the one live row and the current one. The seat is Sole, and has room
-    /// for [`MAX_SPLITS`](qd_pins::MAX_SPLITS) splits. Where there is no memory the book comes back.
+    /// for [`MAX_SPLITS`](qd_score_model::MAX_SPLITS) splits. Where there is no memory the book comes back.
     pub fn start(alloc: Global, book: B) -> Result<(Score<B>, Seat<B>), B>
         requires opens { (first : Version B.Shape) × MayOpen B.blocks (B.book book) first }
         requires small { (B.book book).current.n < VERSIONS_END }

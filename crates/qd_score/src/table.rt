@@ -1,7 +1,7 @@
 //! The table of words, what its seats know, and what each step tells.
 use crate::booked::Booked;
 use atomic_table::{Join, Play, Split, TableRule};
-use qd_pins::View;
+use qd_score_model::View;
 use std::snapshot::Snapshot;
 
 /// What a seat at the table knows: its view, and the book that the score was started over. No value of it is made.
@@ -64,8 +64,8 @@ impl<B: Booked> Play<Option<B>, KnowsOf<B>> for Share {
 pub(crate) struct KeeperOff;
 
 impl<B: Booked> Split<KnowsOf<B>> for KeeperOff {
-    ghost use Rattle.qd_pins.specs.Machine.{lent, newcomer};
-    ghost use Rattle.qd_pins.specs.declared.view.Mode.TheVariants.{Keeper};
+    ghost use Rattle.qd_score_model.specs.Machine.{lent, newcomer};
+    ghost use Rattle.qd_score_model.specs.declared.view.Mode.TheVariants.{Keeper};
     ghost use Rattle.qd_score.specs.Rule.{with_view};
 
     ghost left = { λ k. with_view k (lent k.view) };
@@ -77,8 +77,8 @@ impl<B: Booked> Split<KnowsOf<B>> for KeeperOff {
 pub(crate) struct WriterOff;
 
 impl<B: Booked> Split<KnowsOf<B>> for WriterOff {
-    ghost use Rattle.qd_pins.specs.Machine.{lent, newcomer};
-    ghost use Rattle.qd_pins.specs.declared.view.Mode.TheVariants.{Writer};
+    ghost use Rattle.qd_score_model.specs.Machine.{lent, newcomer};
+    ghost use Rattle.qd_score_model.specs.declared.view.Mode.TheVariants.{Writer};
     ghost use Rattle.qd_score.specs.Rule.{with_view};
 
     ghost left = { λ k. with_view k (lent k.view) };
@@ -90,7 +90,7 @@ impl<B: Booked> Split<KnowsOf<B>> for WriterOff {
 pub(crate) struct Merge;
 
 impl<B: Booked> Join<KnowsOf<B>> for Merge {
-    ghost use Rattle.qd_pins.specs.Machine.{joined};
+    ghost use Rattle.qd_score_model.specs.Machine.{joined};
     ghost use Rattle.qd_score.specs.Rule.{with_view, nobody};
 
     ghost both = { λ k other. with_view k (joined k.view other.view) };

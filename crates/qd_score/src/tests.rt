@@ -1,14 +1,14 @@
 //! A version stays live while a thread counts on it, and is retired once none does. Two threads, each with a seat of its own.
 ghost use Rattle.std.specs.Prelude.{◌≡◌, true, ◌<◌, length, IfSome, Some, None};
-ghost use Rattle.qd_pins.specs.declared.view.Mode.TheVariants.{Writer};
-ghost use Rattle.qd_pins.specs.declared.view.Phase.TheVariants.{Idle};
+ghost use Rattle.qd_score_model.specs.declared.view.Mode.TheVariants.{Writer};
+ghost use Rattle.qd_score_model.specs.declared.view.Phase.TheVariants.{Idle};
 ghost use Rattle.qd_score.specs.Rule.{sight_of};
 ghost use Rattle.qd_score.specs.Calls.{IsSeatOf, view_of};
 ghost use Rattle.qd_score.specs.Counted.{book_of, blocks_of, IsFirst, IsSecond, IsThird, AreBare};
 
 use crate::counted::CountBook;
 use crate::score::{Hold, Score, Seat};
-use qd_pins::Mode;
+use qd_score_model::Mode;
 use std::alloc::Global;
 use std::sync::Wait;
 use std::sync::atomic::{AtomicU64, Ordering};

@@ -1,10 +1,10 @@
 //! Versions go live, become the current one, and are retired, by the steps of the seat that holds the lock.
 ghost use Rattle.std.specs.Prelude.{◌≡◌, ◌≢◌, ℕ, ◌<◌, ◌≤◌, Option, Some, None, IfOk, IfErr};
-ghost use Rattle.qd_pins.specs.declared.limits.TheConstants.{ROWS};
-ghost use Rattle.qd_pins.specs.declared.view.Place.{Place};
-ghost use Rattle.qd_pins.specs.declared.view.Sight.{Sight};
-ghost use Rattle.qd_pins.specs.declared.view.Version.{Version};
-ghost use Rattle.qd_pins.specs.Machine.{version_at, sees, refuses};
+ghost use Rattle.qd_score_model.specs.declared.limits.TheConstants.{ROWS};
+ghost use Rattle.qd_score_model.specs.declared.view.Place.{Place};
+ghost use Rattle.qd_score_model.specs.declared.view.Sight.{Sight};
+ghost use Rattle.qd_score_model.specs.declared.view.Version.{Version};
+ghost use Rattle.qd_score_model.specs.Machine.{version_at, sees, refuses};
 ghost use Rattle.qd_score.specs.Rule.{with_view};
 ghost use Rattle.qd_score.specs.Calls.{IsSeatOf, known_by, view_of};
 ghost use Rattle.qd_score.specs.Publishing.{MayMakeLive, MayMakeCurrent, MayLetGo, with_live, with_current, without_row};
@@ -12,7 +12,7 @@ ghost use Rattle.qd_score.specs.Publishing.{MayMakeLive, MayMakeCurrent, MayLetG
 use crate::booked::Booked;
 use crate::score::{BOOK, FIRST_ROW, Hold, PLACE, Score, Seat};
 use crate::table::{GoLive, Retire, SetCurrent};
-use qd_pins::ROWS;
+use qd_score_model::ROWS;
 
 /// A row that couldn't be retired: it has a pin.
 #[derive(Clone, Copy, Debug)]

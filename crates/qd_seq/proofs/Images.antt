@@ -5,12 +5,13 @@ use Rattle.qd_volume.specs.Disk.{Image}
 use Rattle.qd_durable.specs.Places.{StandsAt}
 use Rattle.qd_durable.specs.Moments.{SameOutside}
 use Rattle.qd_durable.proofs.Standing.{stands_back, stands_front, stands_kept, stands_room}
-use Rattle.qd_seq.specs.Layout.{HasRecords, IsClosed, IsLawful, IsOpen, SpellsLog, body, mark, most_records, place_of, spelled}
+use Rattle.qd_seq.specs.Layout.{HasRecords, IsClosed, IsLawful, IsOpen, SpellsLog, body, mark, place_of, spelled}
 use Rattle.qd_seq.specs.States.{GivesKnown, IsKnown}
 use Rattle.qd_seq.proofs.Records.{body_long, count_more, has_more, judged, record_stands, spelled_long, zero_closed}
+use Rattle.qd_base.specs.declared.limits.TheConstants.{MAX_TXNS}
 
 -- a pending reference, by the facts of its place
-module _ (refs : List WalRef) (ref : WalRef) (bytes : List ℕ) (has : HasRecords refs bytes) (lawful : IsLawful (length refs) ref) (few : length refs < most_records) (stands : StandsAt bytes (place_of (length refs) + 1) (body ref ++ 0 ∷ [])) where
+module _ (refs : List WalRef) (ref : WalRef) (bytes : List ℕ) (has : HasRecords refs bytes) (lawful : IsLawful (length refs) ref) (few : length refs < MAX_TXNS) (stands : StandsAt bytes (place_of (length refs) + 1) (body ref ++ 0 ∷ [])) where
   pending_long : place_of (length refs) + 26 ≤ length bytes
   pending_long = omega (arith, stands_room bytes (place_of (length refs) + 1) (body ref ++ 0 ∷ []) stands (omega (arith, length-append (body ref) (0 ∷ []))), length-append (body ref) (0 ∷ []), body_long ref)
 
@@ -67,7 +68,7 @@ gate_step refs ref earlier image known same = record {
 }
 
 -- a body that is written, and a gate that is opened or closed
-pub body_known : (refs : List WalRef) (ref : WalRef) (bytes : List ℕ) → IsLawful (length refs) ref → length refs < most_records → IsKnown refs None bytes → StandsAt bytes (place_of (length refs) + 1) (body ref ++ 0 ∷ []) → IsKnown refs (Some ref) bytes
+pub body_known : (refs : List WalRef) (ref : WalRef) (bytes : List ℕ) → IsLawful (length refs) ref → length refs < MAX_TXNS → IsKnown refs None bytes → StandsAt bytes (place_of (length refs) + 1) (body ref ++ 0 ∷ []) → IsKnown refs (Some ref) bytes
 body_known refs ref bytes lawful few known stands = record { records = known.records; behind = (lawful, few, stands) }
 
 pub opened_known : (refs : List WalRef) (ref : WalRef) (bytes : List ℕ) → IsKnown refs (Some ref) bytes → IsOpen bytes (place_of (length refs)) → IsKnown (refs ++ ref ∷ []) None bytes

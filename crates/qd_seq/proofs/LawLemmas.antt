@@ -7,9 +7,10 @@ use Rattle.std.proofs.lemmas.Nat.{from_le_bytes-to_le_bytes_4, from_le_bytes-to_
 use Rattle.qd_base.specs.declared.part.WalRef.{WalRef}
 use Rattle.qd_durable.specs.Places.{StandsAt}
 use Rattle.qd_durable.proofs.Standing.{stands_back, stands_front, stands_room}
-use Rattle.qd_seq.specs.Layout.{AreLawful, Fits, HasRecords, IsClosed, IsLawful, IsOpen, SpellsLog, body, mark, most_records, place_of, records}
-use Rattle.qd_seq.specs.Damage.{AtRecord, BadRecord, CutMark, CutRecord, IsBreak, IsDamaged, IsUnlawful, NoGate, OtherMark, TooMany}
+use Rattle.qd_seq.specs.Layout.{AreLawful, Fits, HasRecords, IsClosed, IsLawful, IsOpen, SpellsLog, body, mark, place_of, records}
+use Rattle.qd_seq.specs.Damage.{AtRecord, BadRecord, CutMark, CutRecord, IsBreak, IsDamaged, IsUnlawfulAt, NoGate, OtherMark, Segment, TooMany, Writer}
 use Rattle.qd_seq.proofs.Records.{body_long, closed_or_open, closed_there, open_there, record_body, record_long, record_open, start_long, wal_long}
+use Rattle.qd_base.specs.declared.limits.TheConstants.{MAX_TXNS}
 
 -- a piece of a length at a place is one
 one_piece : (bytes : List ℕ) (at : ℕ) (a b : List ℕ) → length a ≡ length b → StandsAt bytes at a → StandsAt bytes at b → a ≡ b
@@ -65,7 +66,7 @@ one_body bytes at a b small less first second =
     (one_number bytes (at + 4 + 4) a.start b.start small.start less.start (start_stands bytes at a first) (start_stands bytes at b second))
     (one_number bytes (at + 4 + 4 + 8) a.len b.len small.size less.size (len_stands bytes at a first) (len_stands bytes at b second))
 
-lawful_fits : (n : ℕ) (ref : WalRef) → n < most_records → IsLawful n ref → Fits ref
+lawful_fits : (n : ℕ) (ref : WalRef) → n < MAX_TXNS → IsLawful n ref → Fits ref
 lawful_fits n ref few lawful = record { wal = omega (arith, lawful.wal, few); segment = omega (arith, lawful.segment); start = lawful.start; size = lawful.size }
 
 -- a record that stands, and may be there
@@ -103,7 +104,7 @@ module _ (bytes : List ℕ) (refs : List WalRef) (has : HasRecords refs bytes) w
   record_at n within = let e : 0 + n ≡ n = omega arith in subst (λ k. Stands bytes k) e (run_at bytes 0 refs records_stand has.lawful n within)
 
 -- a list of a length is one
-same_records : (bytes : List ℕ) (m : ℕ) (a b : List WalRef) → m + length a ≤ most_records → length a ≡ length b → StandsAt bytes (place_of m) (records a) → StandsAt bytes (place_of m) (records b) → AreLawful m a → AreLawful m b → a ≡ b
+same_records : (bytes : List ℕ) (m : ℕ) (a b : List WalRef) → m + length a ≤ MAX_TXNS → length a ≡ length b → StandsAt bytes (place_of m) (records a) → StandsAt bytes (place_of m) (records b) → AreLawful m a → AreLawful m b → a ≡ b
 same_records bytes m [] [] few long first second lawful also = refl
 same_records bytes m [] (ref ∷ more) few long first second lawful also = absurd (omega (arith, long))
 same_records bytes m (ref ∷ more) [] few long first second lawful also = absurd (omega (arith, long))
@@ -111,7 +112,7 @@ same_records bytes m (a ∷ more) (b ∷ others) few long first second lawful al
     ap (λ (r : WalRef). r ∷ more) one
     ∙ ap (λ (l : List WalRef). b ∷ l) (same_records bytes (suc m) more others (omega (arith, few)) (omega (arith, long)) (tails a more first) (tails b others second) lawful.1 also.1)
   where
-    below : m < most_records
+    below : m < MAX_TXNS
     below = omega (arith, few)
 
     heads : (ref : WalRef) (more : List WalRef) → StandsAt bytes (place_of m) (records (ref ∷ more)) → StandsAt bytes (place_of m + 1) (body ref)
@@ -140,11 +141,11 @@ one_list bytes refs others a b = by (cases_order (length refs) (length others))
     by (inr (inr more)) = absurd (apart others refs b a more)
 
 -- where a log breaks off there is no record
-break_or_record : (bytes : List ℕ) (n at : ℕ) → n < most_records → IsBreak bytes n at → Stands bytes n → ⊥
+break_or_record : (bytes : List ℕ) (n at : ℕ) → n < MAX_TXNS → IsBreak bytes n at → Stands bytes n → ⊥
 break_or_record bytes n at few (NoGate ends) is = omega (arith, ends, record_long bytes (place_of n) is.ref is.stands)
 break_or_record bytes n at few (TooMany opened full) is = omega (arith, full, few)
 break_or_record bytes n at few (CutRecord opened less short) is = omega (arith, short, record_long bytes (place_of n) is.ref is.stands)
-break_or_record bytes n at few (BadRecord less bad) is = by bad.unlawful
+break_or_record bytes n at few (BadRecord byte less bad) is = by byte bad.unlawful
   where
     same : is.ref ≡ bad.ref
     same = one_body bytes (place_of n + 1) is.ref bad.ref (lawful_fits n is.ref few is.lawful) bad.fits (record_body bytes (place_of n) is.ref is.stands) (record_body bytes (place_of n) bad.ref bad.stands)
@@ -152,16 +153,16 @@ break_or_record bytes n at few (BadRecord less bad) is = by bad.unlawful
     lawful : IsLawful n bad.ref
     lawful = subst (λ (r : WalRef). IsLawful n r) same is.lawful
 
-    by : IsUnlawful n bad.ref → ⊥
-    by (inl wal) = omega (arith, wal, lawful.wal)
-    by (inr segment) = omega (arith, segment, lawful.segment)
+    by : (k : ℕ) → IsUnlawfulAt n bad.ref k → ⊥
+    by k (Writer wal) = omega (arith, wal, lawful.wal)
+    by k (Segment wal segment) = omega (arith, segment, lawful.segment)
 
 -- and no gate that isn't open
 break_or_closed : (bytes : List ℕ) (n at : ℕ) → IsBreak bytes n at → IsClosed bytes (place_of n) → ⊥
 break_or_closed bytes n at (NoGate ends) closed = omega (arith, ends, closed_there bytes (place_of n) closed)
 break_or_closed bytes n at (TooMany opened full) closed = closed_or_open bytes (place_of n) closed opened
 break_or_closed bytes n at (CutRecord opened less short) closed = closed_or_open bytes (place_of n) closed opened
-break_or_closed bytes n at (BadRecord less bad) closed = closed_or_open bytes (place_of n) closed (record_open bytes (place_of n) bad.ref bad.stands)
+break_or_closed bytes n at (BadRecord byte less bad) closed = closed_or_open bytes (place_of n) closed (record_open bytes (place_of n) bad.ref bad.stands)
 
 -- the mark stands, or the log is damaged there
 mark_whole : (bytes : List ℕ) → StandsAt bytes 0 mark → 8 ≤ length bytes
@@ -186,23 +187,32 @@ damaged_none bytes refs at (AtRecord before place has broken) spells = by (cases
 no_gate : (bytes : List ℕ) (n : ℕ) → length bytes ≡ place_of n → IsOpen bytes (place_of n) → ⊥
 no_gate bytes n ends opened = omega (arith, ends, open_there bytes (place_of n) opened)
 
+one_field : (n : ℕ) (a b : WalRef) (byte other : ℕ) → a ≡ b → IsUnlawfulAt n a byte → IsUnlawfulAt n b other → byte ≡ other
+one_field n a b byte other same (Writer wal) (Writer also) = refl
+one_field n a b byte other same (Writer wal) (Segment lawful also) = absurd (omega (arith, wal, lawful, ap (λ (r : WalRef). r.wal) same))
+one_field n a b byte other same (Segment lawful segment) (Writer also) = absurd (omega (arith, lawful, also, ap (λ (r : WalRef). r.wal) same))
+one_field n a b byte other same (Segment lawful segment) (Segment _ also) = refl
+
 one_break : (bytes : List ℕ) (n at other : ℕ) → IsBreak bytes n at → IsBreak bytes n other → at ≡ other
 one_break bytes n at other (NoGate a) (NoGate b) = refl
 one_break bytes n at other (NoGate a) (TooMany b _) = absurd (no_gate bytes n a b)
 one_break bytes n at other (NoGate a) (CutRecord b _ _) = absurd (no_gate bytes n a b)
-one_break bytes n at other (NoGate a) (BadRecord _ b) = absurd (no_gate bytes n a (record_open bytes (place_of n) b.ref b.stands))
+one_break bytes n at other (NoGate a) (BadRecord _ _ b) = absurd (no_gate bytes n a (record_open bytes (place_of n) b.ref b.stands))
 one_break bytes n at other (TooMany a _) (NoGate b) = absurd (no_gate bytes n b a)
 one_break bytes n at other (TooMany a full) (TooMany b also) = refl
 one_break bytes n at other (TooMany a full) (CutRecord b less _) = absurd (omega (arith, full, less))
-one_break bytes n at other (TooMany a full) (BadRecord less b) = absurd (omega (arith, full, less))
+one_break bytes n at other (TooMany a full) (BadRecord _ less b) = absurd (omega (arith, full, less))
 one_break bytes n at other (CutRecord a _ _) (NoGate b) = absurd (no_gate bytes n b a)
 one_break bytes n at other (CutRecord a less _) (TooMany b full) = absurd (omega (arith, full, less))
 one_break bytes n at other (CutRecord a less short) (CutRecord b also cut) = refl
-one_break bytes n at other (CutRecord a less short) (BadRecord also b) = absurd (omega (arith, short, record_long bytes (place_of n) b.ref b.stands))
-one_break bytes n at other (BadRecord _ a) (NoGate b) = absurd (no_gate bytes n b (record_open bytes (place_of n) a.ref a.stands))
-one_break bytes n at other (BadRecord less a) (TooMany b full) = absurd (omega (arith, full, less))
-one_break bytes n at other (BadRecord less a) (CutRecord b also short) = absurd (omega (arith, short, record_long bytes (place_of n) a.ref a.stands))
-one_break bytes n at other (BadRecord less a) (BadRecord also b) = refl
+one_break bytes n at other (CutRecord a less short) (BadRecord _ also b) = absurd (omega (arith, short, record_long bytes (place_of n) b.ref b.stands))
+one_break bytes n at other (BadRecord _ _ a) (NoGate b) = absurd (no_gate bytes n b (record_open bytes (place_of n) a.ref a.stands))
+one_break bytes n at other (BadRecord _ less a) (TooMany b full) = absurd (omega (arith, full, less))
+one_break bytes n at other (BadRecord _ less a) (CutRecord b also short) = absurd (omega (arith, short, record_long bytes (place_of n) a.ref a.stands))
+one_break bytes n at other (BadRecord byte less a) (BadRecord k also b) = ap (λ j. place_of n + j) (one_field n a.ref b.ref byte k same a.unlawful b.unlawful)
+  where
+    same : a.ref ≡ b.ref
+    same = one_body bytes (place_of n + 1) a.ref b.ref a.fits b.fits (record_body bytes (place_of n) a.ref a.stands) (record_body bytes (place_of n) b.ref b.stands)
 
 -- and at one record
 two_breaks : (bytes : List ℕ) (refs others : List WalRef) (at other : ℕ) → HasRecords refs bytes → HasRecords others bytes → IsBreak bytes (length refs) at → IsBreak bytes (length others) other → at ≡ other

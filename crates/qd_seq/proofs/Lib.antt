@@ -1,5 +1,6 @@
 -- Lemmas that the proofs of this crate share.
 pub mod Records
+pub mod GivenLemmas
 pub mod Images
 pub mod Steps
 pub mod ToldLemmas

@@ -15,11 +15,12 @@ use Rattle.qd_durable.specs.declared.fault.LogFault.TheVariants as fault
 use Rattle.qd_durable.proofs.Standing.{stands_room}
 use Rattle.qd_seq.specs.declared.reading.End.{End}
 use Rattle.qd_seq.specs.declared.reading.End.TheVariants as end
-use Rattle.qd_seq.specs.Layout.{Fits, HasRecords, IsLawful, IsOpen, SpellsLog, body, mark, most_records, place_of, spelled}
-use Rattle.qd_seq.specs.Damage.{AtRecord, BadRecord, CutMark, CutRecord, IsDamaged, IsUnlawful, NoGate, OtherMark, TooMany}
-use Rattle.qd_seq.specs.Reading.{AreTaken, EndsAt, IsBroken, IsEnd, IsOfBytes, IsUsedUp}
+use Rattle.qd_seq.specs.Layout.{Fits, HasRecords, IsLawful, IsOpen, SpellsLog, body, mark, place_of, spelled}
+use Rattle.qd_seq.specs.Damage.{AtRecord, BadRecord, CutMark, CutRecord, IsDamaged, NoGate, OtherMark, TooMany}
+use Rattle.qd_seq.specs.Reading.{AreTaken, EndsAt, IsBadRest, IsBroken, IsEnd, IsOfBytes, IsTooMany, IsUsedUp}
 use Rattle.qd_seq.proofs.PieceLemmas.{rest_stands, stands_through}
 use Rattle.qd_seq.proofs.Records.{has_more, spelled_long}
+use Rattle.qd_base.specs.declared.limits.TheConstants.{MAX_TXNS}
 
 -- a fault of the volume breaks no layout
 pub broken_by_volume : (bytes : List ℕ) (cause : IoFault) → IsBroken bytes (vol_of cause)
@@ -86,7 +87,7 @@ module _ (bytes piece rest : List ℕ) (from at : ℕ) (within : at ≤ length p
   lifted part outer inner = subst (λ n. StandsAt bytes n part) (sym placed) (stands_through bytes (from + at) rest part (rest_stands bytes from at piece rest within is outer) inner)
 
   -- one more record
-  pub taken_more : (ref : WalRef) → StandsAt bytes from piece → HasRecords refs bytes → length refs < most_records → IsLawful (length refs) ref → StandsAt rest 0 (1 ∷ body ref) → HasRecords (refs ++ ref ∷ []) bytes
+  pub taken_more : (ref : WalRef) → StandsAt bytes from piece → HasRecords refs bytes → length refs < MAX_TXNS → IsLawful (length refs) ref → StandsAt rest 0 (1 ∷ body ref) → HasRecords (refs ++ ref ∷ []) bytes
   taken_more ref outer has few lawful stands = has_more refs ref bytes has few lawful (lifted (1 ∷ body ref) outer stands)
 
   rest_long : length rest ≡ length piece - at
@@ -100,11 +101,13 @@ module _ (bytes piece rest : List ℕ) (from at : ℕ) (within : at ≤ length p
       by end.Closed closed = record { gate = closed.gate; there = lifted (closed.gate ∷ []) outer closed.there; not_open = closed.not_open }
       by end.Cut (inl none) = inl (omega (arith, placed, ap length none, rest_long, within))
       by end.Cut (inr cut) = inr (lifted (1 ∷ []) outer cut.0, cut.1, omega (arith, placed, cut.2, rest_long, within))
-      by end.Broken bad = broken (lifted (1 ∷ []) outer bad.0) bad.1
+      by (end.Broken byte) bad = broken (lifted (1 ∷ []) outer bad.0) bad.1
         where
-          broken : IsOpen bytes (place_of (length refs)) → (length refs ≡ most_records) ⊎ ((length refs < most_records) × (ref : WalRef) × Fits ref × StandsAt rest 0 (1 ∷ body ref) × IsUnlawful (length refs) ref) → IsDamaged bytes (place_of (length refs))
-          broken opened (inl full) = AtRecord refs (place_of (length refs)) has (TooMany opened full)
-          broken opened (inr bad) = AtRecord refs (place_of (length refs)) has (BadRecord bad.0 (record { ref = bad.1; fits = bad.2; stands = lifted (1 ∷ body bad.1) outer bad.3; unlawful = bad.4 }))
+          broken : IsOpen bytes (place_of (length refs)) → IsTooMany (length refs) byte ⊎ IsBadRest (length refs) byte rest → IsDamaged bytes (place_of (length refs) + byte)
+          broken opened (inl full) =
+              let at : place_of (length refs) ≡ place_of (length refs) + byte = omega (arith, full.1) in
+              subst (λ k. IsDamaged bytes k) at (AtRecord refs (place_of (length refs)) has (TooMany opened full.0))
+          broken opened (inr bad) = AtRecord refs (place_of (length refs) + byte) has (BadRecord byte bad.0 (record { ref = bad.1; fits = bad.2; stands = lifted (1 ∷ body bad.1) outer bad.3; unlawful = bad.4 }))
 
 -- what is said of the bytes alone is counted as no fault
 pub counted_bytes : {T : Type 0} (before now : ℕ) (result : Result T LogFault) → now ≡ before → IfErr result IsOfBytes → CountsVol before now result
@@ -116,7 +119,7 @@ counted_bytes before now (Err fault.Memory) same is = same
 -- how much of a piece is left where it is cut
 pub used_up : (piece rest : List ℕ) (at before now : ℕ) (last : End) → at ≤ length piece → rest ≡ drop at piece → place_of now ≡ place_of before + at → IsEnd last now rest → IsUsedUp last before now (length piece)
 used_up piece rest at before now end.Closed within is placed ends = tt
-used_up piece rest at before now end.Broken within is placed ends = tt
+used_up piece rest at before now (end.Broken byte) within is placed ends = tt
 used_up piece rest at before now end.Cut within is placed (inl none) = omega (arith, within, ap length is, length-drop at piece, placed, ap length none)
 used_up piece rest at before now end.Cut within is placed (inr cut) = omega (arith, within, ap length is, length-drop at piece, placed, cut.2)
 

@@ -1,12 +1,14 @@
 -- The bytes of records, and the gates in front of them.
-use Rattle.std.proofs.Common.{◌≡◌, ◌⊎◌, inl, inr, ℕ, suc, ◌+◌, ◌*◌, ◌<◌, ◌≤◌, nat_eq, Bool, true, false, List, [], ◌∷◌, ◌++◌, length, slice_index, refl, sym, ◌∙◌, ap, subst, arith, eq-eqb, length-append}
+use Rattle.std.proofs.Common.{◌≡◌, ◌⊎◌, inl, inr, ℕ, suc, ◌+◌, ◌*◌, ◌^◌, ◌<◌, ◌≤◌, nat_eq, Bool, true, false, List, [], ◌∷◌, ◌++◌, length, slice_index, refl, sym, ◌∙◌, ap, subst, arith, eq-eqb, length-append}
 use Rattle.std.specs.Int.{to_le_bytes, w32, w64}
 use Rattle.std.proofs.lemmas.Bool.{eqb-true}
 use Rattle.std.proofs.lemmas.List.{append_assoc}
+use Rattle.std.proofs.lemmas.List.Elements.{All-push}
 use Rattle.qd_base.specs.declared.part.WalRef.{WalRef}
 use Rattle.qd_durable.specs.Places.{StandsAt}
 use Rattle.qd_durable.proofs.Standing.{stands_back, stands_by, stands_each, stands_front, stands_join, stands_room}
-use Rattle.qd_seq.specs.Layout.{AreLawful, HasRecords, IsClosed, IsLawful, IsOpen, body, mark, most_records, place_of, records, spelled}
+use Rattle.qd_seq.specs.Layout.{AreInSegments, AreLawful, HasRecords, IsClosed, IsLawful, IsOpen, body, mark, place_of, records, spelled}
+use Rattle.qd_base.specs.declared.limits.TheConstants.{MAX_TXNS}
 
 -- how long the parts are
 pub wal_long : (n : ℕ) → length (to_le_bytes w32 n) ≡ 4
@@ -49,8 +51,11 @@ lawful_more n (first ∷ more) ref are is =
     let e : n + suc (length more) ≡ suc n + length more = omega arith in
     (are.0, lawful_more (suc n) more ref are.1 (subst (λ k. IsLawful k ref) e is))
 
+pub in_segments : (refs : List WalRef) (ref : WalRef) → AreInSegments refs → ref.segment < 2 ^ 24 → AreInSegments (refs ++ ref ∷ [])
+in_segments refs ref are is = All-push (λ (r : WalRef). r.segment < 2 ^ 24) refs ref are is
+
 -- a record stands behind the others
-pub has_more : (refs : List WalRef) (ref : WalRef) (bytes : List ℕ) → HasRecords refs bytes → length refs < most_records → IsLawful (length refs) ref → StandsAt bytes (place_of (length refs)) (1 ∷ body ref) → HasRecords (refs ++ ref ∷ []) bytes
+pub has_more : (refs : List WalRef) (ref : WalRef) (bytes : List ℕ) → HasRecords refs bytes → length refs < MAX_TXNS → IsLawful (length refs) ref → StandsAt bytes (place_of (length refs)) (1 ∷ body ref) → HasRecords (refs ++ ref ∷ []) bytes
 has_more refs ref bytes has few lawful stands =
     let e : length refs ≡ 0 + length refs = omega arith in
     let behind : place_of (length refs) ≡ 0 + length (spelled refs) = omega (arith, spelled_long refs) in record {

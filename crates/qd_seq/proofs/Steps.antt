@@ -5,11 +5,12 @@ use Rattle.qd_volume.specs.Disk.{Disk, Image}
 use Rattle.qd_durable.specs.Moments.{EachNow, LeavesOnly, Moves, SameBut, SameOutside, Touches}
 use Rattle.qd_durable.specs.Writing.{Overwrites}
 use Rattle.qd_durable.proofs.Moved.{but_both, but_same, leaves_both, leaves_still, leaves_weaker, moments_have, moves_both, moves_still, moves_weaker, now_has, outside_but}
-use Rattle.qd_seq.specs.Layout.{GivesList, IsLawful, body, mark, most_records, place_of}
+use Rattle.qd_seq.specs.Layout.{GivesList, IsLawful, body, mark, place_of}
 use Rattle.qd_seq.specs.States.{GivesKnown, GivesOneOf, IsKnown, Knows}
 use Rattle.qd_seq.specs.Calls.{Appends, ChangesLog, Creates, Repairs}
 use Rattle.qd_seq.proofs.Images.{body_known, body_step, closed_known, empty_known, gate_step, gives_known, opened_known}
 use Rattle.qd_seq.proofs.Records.{body_long}
+use Rattle.qd_base.specs.declared.limits.TheConstants.{MAX_TXNS}
 
 -- a write to the log changes no other file
 pub elsewhere_of : (at size : ℕ) (before after : Disk) → Touches 1 at size before after → ChangesLog before after
@@ -79,7 +80,7 @@ module _ {T E : Type 0} (refs : List WalRef) (ref : WalRef) (before : Disk) wher
   }
 
   -- and then the gate
-  module _ (mid after : Disk) (done : T) (first : Body {T = T} {E = E} (Ok done) refs ref before mid) (lawful : IsLawful (length refs) ref) (few : length refs < most_records) where
+  module _ (mid after : Disk) (done : T) (first : Body {T = T} {E = E} (Ok done) refs ref before mid) (lawful : IsLawful (length refs) ref) (few : length refs < MAX_TXNS) where
     body_stands : Knows refs None before → Knows refs (Some ref) mid
     body_stands knows image now = body_known refs ref (image 1) lawful few (body_behind {R = Ok done} mid first knows image now) (first.durable image now)
 

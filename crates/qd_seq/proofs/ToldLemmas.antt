@@ -7,9 +7,10 @@ use Rattle.qd_volume.specs.Disk.{Disk}
 use Rattle.qd_durable.specs.Moments.{Told}
 use Rattle.qd_durable.specs.Writing.{Overwrites}
 use Rattle.qd_durable.proofs.Writes.{told_both, told_map, told_still}
-use Rattle.qd_seq.specs.Layout.{IsLawful, body, mark, most_records, place_of}
+use Rattle.qd_seq.specs.Layout.{IsLawful, body, mark, place_of}
 use Rattle.qd_seq.specs.Calls.{Appends, Creates, Repairs}
 use Rattle.qd_seq.proofs.Steps.{Body, Gate, append_done, append_failed, append_not_begun, create_done, create_failed, repair_done, repair_failed, repair_none}
+use Rattle.qd_base.specs.declared.limits.TheConstants.{MAX_TXNS}
 
 -- what a write answers
 abbrev pub Answer : Type 0
@@ -32,7 +33,7 @@ module _ (refs : List WalRef) (ref : WalRef) (at gate : ℕ) (bytes : List ℕ) 
       told_map (Body {T = Unit {0}} {E = IoFault} (Err fault) refs ref) (Appends {T = U} {E = IoFault} (Err answer) refs ref None) old new
       (λ before after wrote. append_not_begun {T = Unit {0}} {E = IoFault} refs ref before after fault answer wrote) (as_body (Err fault) old new told)
 
-  module _ (lawful : IsLawful (length refs) ref) (few : length refs < most_records) (old mid new : Option Disk) (done : Unit {0}) (first : Told old mid (Wrote (Ok done) at bytes)) where
+  module _ (lawful : IsLawful (length refs) ref) (few : length refs < MAX_TXNS) (old mid new : Option Disk) (done : Unit {0}) (first : Told old mid (Wrote (Ok done) at bytes)) where
     pub append_failed_told : (U : Type 0) (fault answer : IoFault) → Told mid new (Wrote (Err fault) gate (1 ∷ [])) → Told old new (Appends {T = U} {E = IoFault} (Err answer) refs ref (Some ref))
     append_failed_told U fault answer second =
         told_both (Body {T = Unit {0}} {E = IoFault} (Ok done) refs ref) (Gate {T = Unit {0}} {E = IoFault} (Err fault) refs 1) (Appends {T = U} {E = IoFault} (Err answer) refs ref (Some ref)) old mid new

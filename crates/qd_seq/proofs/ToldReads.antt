@@ -47,6 +47,6 @@ module _ (disk : Option Disk) (refs more : List WalRef) (at n : ℕ) (before aft
   pub full_told : Taking end.Cut refs more (take n after) → IfSome disk (λ d. HasRecords refs (reads_of d 1) → HasRecords more (reads_of d 1))
   full_told taken = told end.Cut (λ bytes. HasRecords more bytes) taken (λ bytes are all. are.records)
 
-  pub broken_told : (cause : LogFault) → cause ≡ fault.Damaged 1 (place_of (length more)) → Taking end.Broken refs more (take n after) → IfSome disk (λ d. HasRecords refs (reads_of d 1) → IsBroken (reads_of d 1) cause)
-  broken_told cause same taken = told end.Broken (λ bytes. IsBroken bytes cause) taken
+  pub broken_told : (byte : ℕ) (cause : LogFault) → cause ≡ fault.Damaged 1 (place_of (length more) + byte) → Taking (end.Broken byte) refs more (take n after) → IfSome disk (λ d. HasRecords refs (reads_of d 1) → IsBroken (reads_of d 1) cause)
+  broken_told byte cause same taken = told (end.Broken byte) (λ bytes. IsBroken bytes cause) taken
       (λ bytes are all. subst (λ (f : LogFault). IsBroken bytes f) (sym same) (refl, are.ends))

@@ -3,26 +3,29 @@
 use Rattle.std.specs.Prelude.{◌≡◌, ◌⊎◌, ℕ, ◌+◌, ◌^◌, ◌<◌, ◌≤◌, List, ◌∷◌, length, take}
 use Rattle.qd_base.specs.declared.part.WalRef.{WalRef}
 use Rattle.qd_durable.specs.Places.{StandsAt}
-use Rattle.qd_seq.specs.Layout.{Fits, HasRecords, IsOpen, body, mark, most_records, place_of}
+use Rattle.qd_seq.specs.Layout.{Fits, HasRecords, IsOpen, body, mark, place_of}
+use Rattle.qd_base.specs.declared.limits.TheConstants.{MAX_TXNS}
 
--- a reference can't be that of record n
-abbrev pub IsUnlawful : ℕ → WalRef → Type 0
-IsUnlawful n ref = (n < ref.wal) ⊎ (2 ^ 24 ≤ ref.segment)
+-- The byte of record n at which a reference that can't be its breaks the layout: that of the number of a writer, where it is greater
+-- than the record's own; else that of the number of a segment, where it is too great.
+pub data IsUnlawfulAt (n : ℕ) (ref : WalRef) : ℕ → Type 0 where
+  Writer : n < ref.wal → IsUnlawfulAt n ref 1
+  Segment : ref.wal ≤ n → 2 ^ 24 ≤ ref.segment → IsUnlawfulAt n ref 5
 
--- the bytes of a reference that can't be that of record n
-pub record IsBadRecord (bytes : List ℕ) (n : ℕ) : Type 0 where
+-- the bytes of a reference that can't be that of record n, which breaks the layout at one of its bytes
+pub record IsBadRecord (bytes : List ℕ) (n byte : ℕ) : Type 0 where
   pub ref : WalRef
   pub fits : Fits ref
   pub stands : StandsAt bytes (place_of n) (1 ∷ body ref)
-  pub unlawful : IsUnlawful n ref
+  pub unlawful : IsUnlawfulAt n ref byte
 
 -- Record n is where a log breaks off: it has no gate; or its gate is open, and it is one too many, or cut, or has a reference that
 -- can't be its.
 pub data IsBreak (bytes : List ℕ) (n : ℕ) : ℕ → Type 0 where
   NoGate : length bytes ≡ place_of n → IsBreak bytes n (length bytes)
-  TooMany : IsOpen bytes (place_of n) → n ≡ most_records → IsBreak bytes n (place_of n)
-  CutRecord : IsOpen bytes (place_of n) → n < most_records → length bytes < place_of n + 25 → IsBreak bytes n (length bytes)
-  BadRecord : n < most_records → IsBadRecord bytes n → IsBreak bytes n (place_of n)
+  TooMany : IsOpen bytes (place_of n) → n ≡ MAX_TXNS → IsBreak bytes n (place_of n)
+  CutRecord : IsOpen bytes (place_of n) → n < MAX_TXNS → length bytes < place_of n + 25 → IsBreak bytes n (length bytes)
+  BadRecord : (byte : ℕ) → n < MAX_TXNS → IsBadRecord bytes n byte → IsBreak bytes n (place_of n + byte)
 
 -- The damage of a log, in the order in which it is looked for: another mark, as far as its bytes go; a mark that is cut; the first
 -- record that breaks the layout.

@@ -4,11 +4,12 @@
 -- bytes of a transaction in the write-ahead log, as the numbers of a writer's log and of a segment in 4 bytes each, the offset of
 -- the first byte and the number of bytes in 8 bytes each, the lowest byte first. The log gives the references before the first gate
 -- that isn't open; a gate is open where its byte is 1. What follows that gate is of no account.
-use Rattle.std.specs.Prelude.{◌≡◌, ℕ, suc, ◌+◌, ◌*◌, ◌^◌, ◌<◌, ◌≤◌, List, [], ◌∷◌, ◌++◌, length}
+use Rattle.std.specs.Prelude.{◌≡◌, ℕ, suc, ◌+◌, ◌*◌, ◌^◌, ◌<◌, ◌≤◌, List, [], ◌∷◌, ◌++◌, length, All}
 use Rattle.std.specs.Int.{to_le_bytes, w32, w64}
 use Rattle.qd_base.specs.declared.part.WalRef.{WalRef}
 use Rattle.qd_volume.specs.Disk.{Image}
 use Rattle.qd_durable.specs.Places.{StandsAt}
+use Rattle.qd_base.specs.declared.limits.TheConstants.{MAX_TXNS}
 
 -- `TSDBSEQ1`
 abbrev pub mark : List ℕ
@@ -31,10 +32,6 @@ spelled refs = mark ++ records refs
 abbrev pub place_of : ℕ → ℕ
 place_of n = 8 + 25 * n
 
--- how many records a log has at most
-abbrev pub most_records : ℕ
-most_records = 4194304
-
 -- the numbers of a reference fit their bytes
 pub record Fits (ref : WalRef) : Type 0 where
   pub wal : ref.wal < 2 ^ 32
@@ -55,6 +52,10 @@ abbrev pub AreLawful : ℕ → List WalRef → Type 0
 AreLawful n [] = Unit {0}
 AreLawful n (ref ∷ more) = IsLawful n ref × AreLawful (suc n) more
 
+-- each of some references is to a segment whose file is its log's own
+abbrev pub AreInSegments : List WalRef → Type 0
+AreInSegments refs = All (λ (ref : WalRef). ref.segment < 2 ^ 24) refs
+
 -- a gate is open
 abbrev pub IsOpen : List ℕ → ℕ → Type 0
 IsOpen bytes at = StandsAt bytes at (1 ∷ [])
@@ -69,7 +70,7 @@ pub record IsClosed (bytes : List ℕ) (at : ℕ) : Type 0 where
 pub record HasRecords (refs : List WalRef) (bytes : List ℕ) : Type 0 where
   pub stand : StandsAt bytes 0 (spelled refs)
   pub lawful : AreLawful 0 refs
-  pub few : length refs ≤ most_records
+  pub few : length refs ≤ MAX_TXNS
 
 -- the bytes of a log of these records: behind them stands a gate that isn't open
 pub record SpellsLog (refs : List WalRef) (bytes : List ℕ) : Type 0 where

@@ -1,5 +1,5 @@
 -- What is read of the bytes of a log.
-use Rattle.std.specs.Prelude.{◌≡◌, ◌⊎◌, ℕ, ◌+◌, ◌*◌, ◌<◌, Bool, true, false, List, [], ◌∷◌, length, Result, Ok, Err, Vec}
+use Rattle.std.specs.Prelude.{◌≡◌, ◌⊎◌, ℕ, ◌+◌, ◌-◌, ◌*◌, ◌<◌, ◌≤◌, Bool, true, false, List, [], ◌∷◌, length, slice_index, Result, Ok, Err, Vec}
 use Rattle.std.specs.declared.alloc.Global.{Global}
 use Rattle.qd_base.specs.declared.part.WalRef.{WalRef}
 use Rattle.qd_durable.specs.Places.{StandsAt}
@@ -9,8 +9,40 @@ use Rattle.qd_seq.specs.declared.reading.End.{End}
 use Rattle.qd_seq.specs.declared.reading.End.TheVariants as end
 use Rattle.qd_seq.specs.declared.reading.Seen.{Seen}
 use Rattle.qd_seq.specs.declared.reading.Seen.TheVariants as seen
-use Rattle.qd_seq.specs.Layout.{Fits, HasRecords, IsClosed, IsLawful, IsOpen, SpellsLog, body, mark, most_records, place_of}
-use Rattle.qd_seq.specs.Damage.{IsDamaged, IsUnlawful}
+use Rattle.qd_seq.specs.Layout.{Fits, HasRecords, IsClosed, IsLawful, IsOpen, SpellsLog, body, mark, place_of, spelled}
+use Rattle.qd_seq.specs.Damage.{IsDamaged, IsUnlawfulAt}
+use Rattle.qd_base.specs.declared.limits.TheConstants.{MAX_TXNS}
+
+-- a byte of the log is one that a read of its place gave
+pub record IsGivenByte (gives : ℕ → ℕ → List ℕ → Type 0) (place byte : ℕ) : Type 0 where
+  pub from : ℕ
+  pub part : List ℕ
+  pub given : gives 1 from part
+  pub behind : from ≤ place
+  pub within : place < from + length part
+  pub same : slice_index part (place - from) ≡ byte
+
+-- The first bytes of the log, each of which a read gave. Which bytes a read may have given is what a volume says, also one that tells
+-- nothing of what it holds.
+abbrev pub AreGiven : (ℕ → ℕ → List ℕ → Type 0) → List ℕ → Type 0
+AreGiven gives bytes = (i : ℕ) → i < length bytes → IsGivenByte gives i (slice_index bytes i)
+
+-- bytes that reads gave spell a log of this list
+pub record IsGiven (gives : ℕ → ℕ → List ℕ → Type 0) (refs : List WalRef) : Type 0 where
+  pub bytes : List ℕ
+  pub given : AreGiven gives bytes
+  pub spelled : SpellsLog refs bytes
+
+-- bytes that reads gave are the mark and the records so far
+pub record IsSoFar (gives : ℕ → ℕ → List ℕ → Type 0) (refs : List WalRef) : Type 0 where
+  pub given : AreGiven gives (spelled refs)
+  pub records : HasRecords refs (spelled refs)
+
+-- a piece is read: more may follow, or the log ends behind the records
+abbrev pub IsPieceGiven : (ℕ → ℕ → List ℕ → Type 0) → Result Bool LogFault → List WalRef → Type 0
+IsPieceGiven gives (Ok true) refs = IsSoFar gives refs
+IsPieceGiven gives (Ok false) refs = IsGiven gives refs
+IsPieceGiven gives (Err cause) refs = Unit {0}
 
 -- the log is damaged there
 abbrev pub IsBroken : List ℕ → LogFault → Type 0
@@ -27,22 +59,30 @@ abbrev pub IsMarked : {T : Type 0} → Result T LogFault → List ℕ → Type 0
 IsMarked (Ok done) bytes = StandsAt bytes 0 mark
 IsMarked (Err cause) bytes = IsBroken bytes cause
 
+-- record n is one too many, which its gate says
+abbrev pub IsTooMany : ℕ → ℕ → Type 0
+IsTooMany n byte = (n ≡ MAX_TXNS) × (byte ≡ 0)
+
+-- a reference that can't be that of record n, in bytes that begin with it
+abbrev pub IsBadRest : ℕ → ℕ → List ℕ → Type 0
+IsBadRest n byte rest = (n < MAX_TXNS) × (ref : WalRef) × Fits ref × StandsAt rest 0 (1 ∷ body ref) × IsUnlawfulAt n ref byte
+
 -- why record n is none, in bytes that begin with it
 abbrev pub IsEnd : End → ℕ → List ℕ → Type 0
 IsEnd end.Closed n rest = IsClosed rest 0
-IsEnd end.Cut n rest = (rest ≡ []) ⊎ (IsOpen rest 0 × (n < most_records) × (length rest < 25))
-IsEnd end.Broken n rest = IsOpen rest 0 × ((n ≡ most_records) ⊎ ((n < most_records) × (ref : WalRef) × Fits ref × StandsAt rest 0 (1 ∷ body ref) × IsUnlawful n ref))
+IsEnd end.Cut n rest = (rest ≡ []) ⊎ (IsOpen rest 0 × (n < MAX_TXNS) × (length rest < 25))
+IsEnd (end.Broken byte) n rest = IsOpen rest 0 × (IsTooMany n byte ⊎ IsBadRest n byte rest)
 
 -- record n, or why it is none
 abbrev pub IsSeen : Seen → ℕ → List ℕ → Type 0
-IsSeen (seen.Entry ref) n rest = (n < most_records) × IsLawful n ref × StandsAt rest 0 (1 ∷ body ref)
+IsSeen (seen.Entry ref) n rest = (n < MAX_TXNS) × IsLawful n ref × StandsAt rest 0 (1 ∷ body ref)
 IsSeen (seen.Ends end) n rest = IsEnd end n rest
 
 -- why there is no record behind these, in the bytes of a log up to a place
 abbrev pub EndsAt : End → ℕ → ℕ → List ℕ → Type 0
 EndsAt end.Closed n limit bytes = IsClosed bytes (place_of n)
-EndsAt end.Cut n limit bytes = (limit ≡ place_of n) ⊎ (IsOpen bytes (place_of n) × (n < most_records) × (limit < place_of n + 25))
-EndsAt end.Broken n limit bytes = IsDamaged bytes (place_of n)
+EndsAt end.Cut n limit bytes = (limit ≡ place_of n) ⊎ (IsOpen bytes (place_of n) × (n < MAX_TXNS) × (limit < place_of n + 25))
+EndsAt (end.Broken byte) n limit bytes = IsDamaged bytes (place_of n + byte)
 
 -- the records up to that place are these
 pub record AreTaken (end : End) (refs : List WalRef) (limit : ℕ) (bytes : List ℕ) : Type 0 where

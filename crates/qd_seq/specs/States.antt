@@ -4,7 +4,8 @@ use Rattle.qd_base.specs.declared.part.WalRef.{WalRef}
 use Rattle.qd_volume.specs.Disk.{Disk, Image}
 use Rattle.qd_durable.specs.Moments.{EachNow}
 use Rattle.qd_durable.specs.Places.{StandsAt}
-use Rattle.qd_seq.specs.Layout.{GivesList, HasRecords, IsClosed, IsLawful, body, most_records, place_of}
+use Rattle.qd_seq.specs.Layout.{GivesList, HasRecords, IsClosed, IsLawful, body, place_of}
+use Rattle.qd_base.specs.declared.limits.TheConstants.{MAX_TXNS}
 
 -- A log as contracts see it.
 pub record Log : Type 0 where
@@ -19,7 +20,7 @@ pub record Log : Type 0 where
 -- the closed gate of the record behind it.
 abbrev pub IsBehind : Option WalRef → ℕ → List ℕ → Type 0
 IsBehind None n bytes = IsClosed bytes (place_of n)
-IsBehind (Some ref) n bytes = IsLawful n ref × (n < most_records) × StandsAt bytes (place_of n + 1) (body ref ++ 0 ∷ [])
+IsBehind (Some ref) n bytes = IsLawful n ref × (n < MAX_TXNS) × StandsAt bytes (place_of n + 1) (body ref ++ 0 ∷ [])
 
 pub record IsKnown (refs : List WalRef) (pending : Option WalRef) (bytes : List ℕ) : Type 0 where
   pub records : HasRecords refs bytes

@@ -1,4 +1,5 @@
 //! The bytes of the sequencer log.
+ghost use Rattle.qd_base.specs.declared.limits.TheConstants.{MAX_TXNS};
 ghost use Rattle.qd_seq.specs.Layout.{body, mark, place_of};
 ghost use Rattle.std.specs.Prelude.{◌≡◌, ◌≤◌, [], ◌∷◌, ◌++◌};
 
@@ -6,9 +7,6 @@ use qd_base::WalRef;
 
 /// The number of the log's file.
 pub const LOG: u64 = 1;
-
-/// How many records a log has at most.
-pub const MAX_RECORDS: usize = 4_194_304;
 
 /// The numbers of segments are below this one.
 pub const MAX_SEGMENTS: u32 = 16_777_216;
@@ -24,6 +22,12 @@ pub(crate) const MARK: usize = 8;
 
 /// How many bytes a record has, its gate among them.
 pub(crate) const RECORD: usize = 25;
+
+/// Where the number of a writer's log stands in a record.
+pub(crate) const WAL: u8 = 1;
+
+/// Where the number of a segment stands in a record.
+pub(crate) const SEGMENT: u8 = 5;
 
 /// What a log begins with.
 pub(crate) fn mark_bytes() -> [u8; MARK]
@@ -41,7 +45,7 @@ pub(crate) fn empty_log() -> [u8; 9]
 
 /// Where the gate of a record is.
 pub(crate) fn gate_at(n: usize) -> u64
-    requires few { n ≤ 4194304 }
+    requires few { n ≤ MAX_TXNS }
     ensures place { result ≡ place_of n }
 {
     (MARK + RECORD * n) as u64

@@ -11,13 +11,11 @@ mod laws;
 mod layout;
 mod log;
 mod reading;
-#[cfg(test)]
-mod tests;
 
 pub use laws::{
     damage_has_one_place, damaged_gives_none, one_list_is_given, other_files_leave_it,
     what_is_known_is_given,
 };
-pub use layout::{LOG, MAX_RECORDS, MAX_SEGMENTS};
+pub use layout::{LOG, MAX_SEGMENTS};
 pub use log::SeqLog;
 pub use qd_durable::LogFault;

@@ -1,9 +1,12 @@
 //! The log: its references, one more at its end, and the gate of that one.
+ghost use Rattle.qd_base.specs.declared.limits.TheConstants.{MAX_TXNS};
 ghost use Rattle.qd_durable.specs.Faults.{CountsVol};
 ghost use Rattle.qd_durable.specs.Moments.{Told};
 ghost use Rattle.qd_io.specs.Ends.{Counts};
 ghost use Rattle.qd_seq.specs.Calls.{Appends, Creates, Repairs};
+ghost use Rattle.qd_seq.specs.Layout.{AreInSegments};
 ghost use Rattle.qd_seq.specs.Opening.{Opens};
+ghost use Rattle.qd_seq.specs.Reading.{IsGiven};
 ghost use Rattle.std.specs.Prelude.{◌≡◌, ◌⊎◌, ◌↔◌, ◌+◌, ◌^◌, ◌<◌, ◌≤◌, [], ◌∷◌, ◌++◌, length, vec_capacity, vec_len, IfOk, IsSome, IsTrue, None, OnErr, OnOk, Some};
 
 use crate::layout::{CLOSED, LOG, OPEN, body_and_gate, empty_log, gate_at};
@@ -27,6 +30,8 @@ pub struct SeqLog {
 }
 
 impl Model for SeqLog {
+    ghost use Rattle.qd_base.specs.declared.limits.TheConstants.{MAX_TXNS};
+    ghost use Rattle.qd_seq.specs.Layout.{AreInSegments};
     ghost use Rattle.qd_seq.specs.States.{Log};
     ghost use Rattle.std.specs.Prelude.{◌-◌, ◌≤◌, length, vec_capacity, vec_len};
 
@@ -34,7 +39,7 @@ impl Model for SeqLog {
 
     ghost view = { λ s. record { refs = s.refs.items; spare = vec_capacity s.refs - vec_len s.refs; pending = s.pending } };
 
-    ghost invariant = { λ s. length s.refs.items ≤ 4194304 };
+    ghost invariant = { λ s. (length s.refs.items ≤ MAX_TXNS) × AreInSegments s.refs.items };
 }
 
 impl SeqLog {
@@ -63,15 +68,19 @@ impl SeqLog {
     /// At every moment, and whatever is answered, a crash leaves only what it might have left before the call, and after an `Ok`
     /// only that list. What files read stays as it was.
     ///
-    /// It answers [`LogFault::Damaged`] where the file gives no list, and only there: at 0 where its mark is another one; at the
-    /// first byte of the first record that has a segment not below [`MAX_SEGMENTS`], a writer's number greater than its own, or
-    /// [`MAX_RECORDS`] before it; or at the file's length where bytes are missing. [`LogFault::Vol`] says that the volume failed,
-    /// and [`LogFault::Memory`] that there was no memory; it may be called again then.
+    /// It answers [`LogFault::Damaged`] where the file gives no list, and only there: at 0 where its mark is another one; in the
+    /// first record that can't be there, at byte 1 where it has a writer's number greater than its own, else at byte 5 where it
+    /// has a segment not below [`MAX_SEGMENTS`], and at its gate where [`MAX_TXNS`] are before it; or at the file's length where
+    /// bytes are missing. [`LogFault::Vol`] says that the volume failed, and [`LogFault::Memory`] that there was no memory; it
+    /// may be called again then.
     ///
-    /// [`MAX_RECORDS`]: crate::MAX_RECORDS
+    /// The list was read: where the volume gives fewer bytes, whatever it tells, none are taken in their place.
+    ///
+    /// [`MAX_TXNS`]: qd_base::MAX_TXNS
     /// [`MAX_SEGMENTS`]: crate::MAX_SEGMENTS
     pub fn open_log<V: Volume>(alloc: Global, volume: &mut V) -> Result<SeqLog, LogFault>
         ensures clean { IfOk result (λ log. log.pending ≡ None) }
+        ensures given { IfOk result (λ log. IsGiven V.gives log.refs) }
         ensures told { Told (V.storage volume.old).disk (V.storage volume.new).disk (Opens result) }
 
         // The count of faults rises exactly where `Vol` is answered.
@@ -85,9 +94,12 @@ impl SeqLog {
         })
     }
 
-    /// The references, in commit order, in constant time.
+    /// The references, in commit order, in constant time. Each is to a segment below [`MAX_SEGMENTS`].
+    ///
+    /// [`MAX_SEGMENTS`]: crate::MAX_SEGMENTS
     pub fn refs(&self) -> &[WalRef]
         ensures list { result.now ≡ self.now.refs }
+        ensures segments { AreInSegments result.now }
     {
         self.refs.as_slice()
     }
@@ -120,7 +132,7 @@ impl SeqLog {
     pub fn append<V: Volume>(&mut self, volume: &mut V, at: WalRef) -> Result<u64, IoFault>
         requires room { 0 < self.old.spare }
         requires clean { self.old.pending ≡ None }
-        requires few { length self.old.refs < 4194304 }
+        requires few { length self.old.refs < MAX_TXNS }
         requires wal { at.wal ≤ length self.old.refs }
         requires segment { at.segment < 2 ^ 24 }
         ensures count { IfOk result (λ n. n ≡ length self.new.refs) }

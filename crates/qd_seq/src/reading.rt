@@ -1,15 +1,16 @@
 //! The list that the bytes of a log give, read piece by piece.
+ghost use Rattle.qd_base.specs.declared.limits.TheConstants.{MAX_TXNS};
 ghost use Rattle.qd_durable.specs.Faults.{CountsVol};
 ghost use Rattle.qd_durable.specs.Places.{StandsAt};
 ghost use Rattle.qd_durable.specs.declared.fault.LogFault.TheVariants.{Damaged};
-ghost use Rattle.qd_seq.specs.Layout.{Fits, HasRecords, body, place_of};
-ghost use Rattle.qd_seq.specs.Reading.{AreTaken, IsListRead, IsMarked, IsOfBytes, IsPieceRead, IsRead, IsSeen, IsUsedUp};
+ghost use Rattle.qd_seq.specs.Layout.{AreInSegments, Fits, HasRecords, body, place_of};
+ghost use Rattle.qd_seq.specs.Reading.{AreTaken, IsGiven, IsListRead, IsMarked, IsOfBytes, IsPieceGiven, IsPieceRead, IsRead, IsSeen, IsSoFar, IsUsedUp};
 ghost use Rattle.qd_volume.specs.Disk.{reads_of};
-ghost use Rattle.std.specs.Prelude.{◌≡◌, ◌+◌, ◌<◌, ◌≤◌, ℕ, List, length, take, true, IfErr, IfOk, IfSome};
+ghost use Rattle.std.specs.Prelude.{◌≡◌, ◌+◌, ◌<◌, ◌≤◌, ℕ, List, [], length, take, true, IfErr, IfOk, IfSome, OnOk};
 
-use crate::layout::{LOG, MARK, MAX_RECORDS, MAX_SEGMENTS, OPEN, RECORD, gate_at, mark_bytes};
+use crate::layout::{LOG, MARK, MAX_SEGMENTS, OPEN, RECORD, SEGMENT, WAL, gate_at, mark_bytes};
 use byteorder::{ByteOrder, LittleEndian};
-use qd_base::WalRef;
+use qd_base::{MAX_TXNS, WalRef};
 use qd_durable::LogFault;
 use qd_volume::Volume;
 use std::alloc::{AllocError, Global};
@@ -24,8 +25,8 @@ pub(crate) enum End {
     Closed,
     /// The bytes end before the next gate, or inside of a record whose gate is open.
     Cut,
-    /// The next gate is open, and its record breaks the layout.
-    Broken,
+    /// The next gate is open, and its record breaks the layout at a byte of it.
+    Broken { byte: u8 },
 }
 
 /// What stands at the place of a record.
@@ -40,8 +41,10 @@ enum Seen {
 /// Reads the list of the log. It costs a read for the mark, one for each piece of the records that are there, and memory for
 /// these and for one piece.
 pub(crate) fn read_refs<V: Volume>(alloc: Global, volume: &mut V) -> Result<Vec<WalRef>, LogFault>
+    ensures given { IfOk result (λ refs. IsGiven V.gives refs.items) }
     ensures told { IfSome (V.storage volume.old).disk (λ disk. IsRead result (reads_of disk 1)) }
-    ensures few { IfOk result (λ refs. length refs.items ≤ 4194304) }
+    ensures few { IfOk result (λ refs. length refs.items ≤ MAX_TXNS) }
+    ensures segments { IfOk result (λ refs. AreInSegments refs.items) }
     ensures stays { (V.storage volume.new).disk ≡ (V.storage volume.old).disk }
     ensures counted { CountsVol (V.storage volume.old).faults (V.storage volume.new).faults result }
 {
@@ -66,9 +69,12 @@ fn read_pieces<V: Volume>(
     refs: &mut Vec<WalRef>,
 ) -> Result<(), LogFault>
     requires room { 25 ≤ length piece.old }
-    requires few { length refs.old.items ≤ 4194304 }
+    requires few { length refs.old.items ≤ MAX_TXNS }
+    requires segments { AreInSegments refs.old.items }
+    ensures given { IsSoFar V.gives refs.old.items → OnOk result (IsGiven V.gives refs.new.items) }
     ensures told { IfSome (V.storage volume.old).disk (λ disk. HasRecords refs.old.items (reads_of disk 1) → IsListRead result refs.new.items (reads_of disk 1)) }
-    ensures few { length refs.new.items ≤ 4194304 }
+    ensures few { length refs.new.items ≤ MAX_TXNS }
+    ensures segments { AreInSegments refs.new.items }
     ensures stays { (V.storage volume.new).disk ≡ (V.storage volume.old).disk }
     ensures counted { CountsVol (V.storage volume.old).faults (V.storage volume.new).faults result }
 {
@@ -82,6 +88,7 @@ fn read_pieces<V: Volume>(
 
 /// Reads the mark.
 fn read_mark<V: Volume>(volume: &mut V) -> Result<(), LogFault>
+    ensures given { OnOk result (IsSoFar V.gives []) }
     ensures told { IfSome (V.storage volume.old).disk (λ disk. IsMarked result (reads_of disk 1)) }
     ensures stays { (V.storage volume.new).disk ≡ (V.storage volume.old).disk }
     ensures counted { CountsVol (V.storage volume.old).faults (V.storage volume.new).faults result }
@@ -120,9 +127,12 @@ fn read_piece<V: Volume>(
     refs: &mut Vec<WalRef>,
 ) -> Result<bool, LogFault>
     requires room { 25 ≤ length piece.old }
-    requires few { length refs.old.items ≤ 4194304 }
+    requires few { length refs.old.items ≤ MAX_TXNS }
+    requires segments { AreInSegments refs.old.items }
+    ensures given { IsSoFar V.gives refs.old.items → IsPieceGiven V.gives result refs.new.items }
     ensures told { IfSome (V.storage volume.old).disk (λ disk. HasRecords refs.old.items (reads_of disk 1) → IsPieceRead result refs.new.items (reads_of disk 1)) }
-    ensures few { length refs.new.items ≤ 4194304 }
+    ensures few { length refs.new.items ≤ MAX_TXNS }
+    ensures segments { AreInSegments refs.new.items }
     ensures grown { IfOk result (λ more. more ≡ true → length refs.old.items < length refs.new.items) }
     ensures stays { (V.storage volume.new).disk ≡ (V.storage volume.old).disk }
     ensures counted { CountsVol (V.storage volume.old).faults (V.storage volume.new).faults result }
@@ -138,16 +148,18 @@ fn read_piece<V: Volume>(
             }
             Ok(true)
         }
-        End::Broken => Err(damaged(gate_at(refs.len()))),
+        End::Broken { byte } => Err(damaged(gate_at(refs.len()) + byte as u64)),
     }
 }
 
 /// Takes the records at the start of a piece, and says why there is no further one.
 fn take_records(piece: &[u8], refs: &mut Vec<WalRef>) -> Result<End, AllocError>
-    requires few { length refs.old.items ≤ 4194304 }
+    requires few { length refs.old.items ≤ MAX_TXNS }
+    requires segments { AreInSegments refs.old.items }
     ensures taken { IfOk result (λ end. (bytes : List ℕ) → HasRecords refs.old.items bytes → StandsAt bytes (place_of (length refs.old.items)) piece.now → AreTaken end refs.new.items (place_of (length refs.old.items) + length piece.now) bytes) }
     ensures used { IfOk result (λ end. IsUsedUp end (length refs.old.items) (length refs.new.items) (length piece.now)) }
-    ensures few { length refs.new.items ≤ 4194304 }
+    ensures few { length refs.new.items ≤ MAX_TXNS }
+    ensures segments { AreInSegments refs.new.items }
 {
     let mut at = 0;
     'records: loop {
@@ -163,7 +175,7 @@ fn take_records(piece: &[u8], refs: &mut Vec<WalRef>) -> Result<End, AllocError>
 
 /// What stands at the place of record n, by the bytes from there on.
 fn judge(rest: &[u8], n: usize) -> Seen
-    requires few { n ≤ 4194304 }
+    requires few { n ≤ MAX_TXNS }
     ensures seen { IsSeen result n rest.now }
 {
     if rest.is_empty() {
@@ -172,15 +184,18 @@ fn judge(rest: &[u8], n: usize) -> Seen
     if rest[0] != OPEN {
         return Seen::Ends(End::Closed);
     }
-    if n == MAX_RECORDS {
-        return Seen::Ends(End::Broken);
+    if n == MAX_TXNS as usize {
+        return Seen::Ends(End::Broken { byte: 0 });
     }
     if rest.len() < RECORD {
         return Seen::Ends(End::Cut);
     }
     let place = ref_in(rest);
-    if place.wal as usize > n || place.segment >= MAX_SEGMENTS {
-        return Seen::Ends(End::Broken);
+    if place.wal as usize > n {
+        return Seen::Ends(End::Broken { byte: WAL });
+    }
+    if place.segment >= MAX_SEGMENTS {
+        return Seen::Ends(End::Broken { byte: SEGMENT });
     }
     Seen::Entry(place)
 }

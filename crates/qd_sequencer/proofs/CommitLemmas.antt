@@ -16,7 +16,7 @@ use Rattle.qd_volume.proofs.Sound.{image_of_reads, sound_file}
 use Rattle.qd_durable.specs.Moments.{EachNow, LeavesOnly, SameBut, Told}
 use Rattle.qd_durable.proofs.Moved.{but_same, leaves_both, leaves_still, leaves_weaker, moves_both, moves_still, but_both}
 use Rattle.qd_durable.proofs.Writes.{told_both, told_map, told_still}
-use Rattle.qd_entry.specs.Spelling.{SpellsEntry}
+use Rattle.qd_wal_entry.specs.Spelling.{SpellsEntry}
 use Rattle.qd_seq.specs.Calls.{Creates, Repairs}
 use Rattle.qd_seq.specs.States.{Knows, Log}
 use Rattle.qd_wal.specs.declared.writer.WalWriter.{WalWriter}
@@ -25,11 +25,12 @@ use Rattle.qd_wal.specs.Segments.{behind, is_full, ref_for}
 use Rattle.qd_sequencer.specs.Faults.{CountsFault, IsOfVolume, fault_of}
 use Rattle.qd_sequencer.specs.Histories.{AreSpelled, HasPending, HoldsHistory, IsLawfulOver, IsPending, MayHold, is_log_file}
 use Rattle.qd_sequencer.specs.Sequences.{AreKept, IsAsBefore, IsInFront, IsSequence, Sequence, chosen, fresh, with_writer}
-use Rattle.qd_sequencer.specs.Calls.{Accepts, Enters, IsReady, Makes, Settles}
+use Rattle.qd_sequencer.specs.Calls.{Accepts, Enters, IsReady, Makes, PendsOwn, Settles}
 use Rattle.qd_sequencer.proofs.Held.{log_among, may_hold}
 use Rattle.qd_sequencer.proofs.Histories.{lawful_next, schemas_more}
-use Rattle.qd_sequencer.proofs.SequenceLemmas.{sequence_holds, sequence_of, settled, unsettled}
+use Rattle.qd_sequencer.proofs.SequenceLemmas.{none_pends, sequence_holds, sequence_of, settled, unsettled}
 use Rattle.qd_sequencer.proofs.WriterLemmas.{IsLow, all_front_apart, chosen_has, chosen_low, fresh_front, kept_with, lawful_low, writers_behind}
+use Rattle.qd_base.specs.declared.limits.TheConstants.{MAX_TXNS}
 
 -- ---- faults
 
@@ -85,7 +86,7 @@ image_there disk P each = each (reads_of disk) (λ file. image_of_reads (file_of
 low_refs : (refs : List WalRef) (pending : Option WalRef) (disk : Disk) → Knows refs pending disk → AllByRecursion (IsLow (length refs)) refs
 low_refs refs pending disk knows = lawful_low 0 (length refs) refs (omega arith) (image_there disk _ knows).records.lawful
 
-module _ (old : Sequence) (writer : Option ℕ) (seg_bytes len : ℕ) (kept : AreKept (length old.refs) old.writers) (few : length old.refs < 4194304) where
+module _ (old : Sequence) (writer : Option ℕ) (seg_bytes len : ℕ) (kept : AreKept (length old.refs) old.writers) (few : length old.refs < MAX_TXNS) where
   w : WalWriter
   w = chosen old writer
 
@@ -103,7 +104,7 @@ module _ (old : Sequence) (writer : Option ℕ) (seg_bytes len : ℕ) (kept : Ar
     chosen_behind : All (λ (x : WalWriter). All (IsInFront x) (old.refs ++ ref_for (chosen old writer) seg_bytes len ∷ [])) (with_writer old.writers (behind (ref_for (chosen old writer) seg_bytes len)))
     chosen_behind = writers_behind old.writers (chosen old writer) seg_bytes len old.refs kept.apart is.writers chosen_front
 
-module _ (old new : Sequence) (writer : Option ℕ) (seg_bytes : ℕ) (bytes : List ℕ) (e : Entry) (kept : AreKept (length old.refs) old.writers) (few : length old.refs < 4194304) (clean : old.pending ≡ None)
+module _ (old new : Sequence) (writer : Option ℕ) (seg_bytes : ℕ) (bytes : List ℕ) (e : Entry) (kept : AreKept (length old.refs) old.writers) (few : length old.refs < MAX_TXNS) (clean : old.pending ≡ None)
     (spells : SpellsEntry bytes e) (over : IsLawfulOver old.schemas e) where
   ready : (h : List Entry) (before : Disk) → IsSequence old h before → IsReady old.refs h (ref_for (chosen old writer) seg_bytes (length bytes)) e bytes before
   ready h before is = record {
@@ -127,6 +128,7 @@ module _ (old new : Sequence) (writer : Option ℕ) (seg_bytes : ℕ) (bytes : L
   accepts_failed {T} {U} {E} {F} fault answer before after same enters = record {
     any_moment = moments {T = T} {E = E} (Err fault) before after enters;
     behind = λ h is. let left = enters.behind h e (ready h before is) in sequence_of old new h before after same is left.0 left.1 left.2;
+    pending = λ h is. inr (enters.behind h e (ready h before is)).3;
     elsewhere = enters.elsewhere;
   }
 
@@ -151,6 +153,7 @@ module _ (old new : Sequence) (writer : Option ℕ) (seg_bytes : ℕ) (bytes : L
                 (subst (λ (ws : List WalWriter). All (λ (x : WalWriter). All (IsInFront x) (old.refs ++ ref_for (chosen old writer) seg_bytes (length bytes) ∷ [])) ws) (sym writers) front);
           },
         );
+    pending = λ h is. inr (λ x p. absurd (none_pends new.pending after x clean p));
     elsewhere = enters.elsewhere;
   }
 
@@ -161,6 +164,7 @@ accepts_still answer old new own disk same pending = record {
       (λ image now. may_hold old.refs h (IsPending old.pending disk) (λ x. own x ⊎ IsPending old.pending disk x) image (λ x p. inr p) (sequence_holds old h disk is image now));
   behind = λ h is. sequence_of old new h disk disk same is
       (subst (λ (p : Option WalRef). Knows old.refs p disk) (sym pending) is.log) is.spelled (subst (λ (p : Option WalRef). HasPending p h disk) (sym pending) is.pending);
+  pending = λ h is. inl (λ x p. subst (λ (o : Option WalRef). IsPending o disk x) pending p);
   elsewhere = moves_still _ disk (but_same is_log_file);
 }
 
@@ -177,6 +181,7 @@ module _ (old mid : Sequence) (before between : Disk) (settles : Settles old mid
   accepts_settled answer own = record {
     any_moment = own_or_pending own;
     behind = settles.behind;
+    pending = λ h is. inl (settles.pending h is);
     elsewhere = settles.elsewhere;
   }
 
@@ -184,6 +189,11 @@ module _ (old mid : Sequence) (before between : Disk) (settles : Settles old mid
   no_pending None own disk x clean (inl o) = o
   no_pending None own disk x clean (inr p) = absurd p
   no_pending (Some ref) own disk x clean both = absurd (cc)
+
+  -- where nothing is pending before a commit, its own alone is behind it
+  own_alone : (new : Sequence) (own : Entry → Type 0) (after : Disk) → mid.pending ≡ None → PendsOwn mid.pending new.pending own between after → (x : Entry) → IsPending new.pending after x → own x
+  own_alone new own after clean (inl as_before) x p = absurd (none_pends mid.pending between x clean (as_before x p))
+  own_alone new own after clean (inr mine) x p = mine x p
 
   pub accepts_after : {T E : Type 0} (R : Result T E) (new : Sequence) (own : Entry → Type 0) (after : Disk) → mid.pending ≡ None → Accepts R mid new own between after → Accepts R old new own before after
   accepts_after R new own after clean accepts = record {
@@ -193,6 +203,7 @@ module _ (old mid : Sequence) (before between : Disk) (settles : Settles old mid
         (may_hold mid.refs h (λ x. own x ⊎ IsPending mid.pending between x) (λ x. own x ⊎ IsPending old.pending before x) image (λ x p. inl (no_pending mid.pending own between x clean p)) holds))
         (accepts.any_moment h (settles.behind h is)));
     behind = λ h is. accepts.behind h (settles.behind h is);
+    pending = λ h is. inr (own_alone new own after clean (accepts.pending h (settles.behind h is)));
     elsewhere = moves_both (SameBut is_log_file) (SameBut is_log_file) (SameBut is_log_file) before between after (λ x y s. s) (but_both is_log_file) settles.elsewhere accepts.elsewhere;
   }
 
@@ -232,7 +243,7 @@ sound_or None schemas given sound = sound
 sound_or (Some other) schemas given sound = given
 
 module _ (before new : Sequence) (writer : Option ℕ) (seg_bytes : ℕ) (bytes : List ℕ) (refs : List WalRef) (w : WalWriter) (refs_are : refs ≡ before.refs) (w_is : w ≡ chosen before writer)
-    (kept : AreKept (length before.refs) before.writers) (few : length before.refs < 4194304) (clean : before.pending ≡ None) (old now : Option Disk) where
+    (kept : AreKept (length before.refs) before.writers) (few : length before.refs < MAX_TXNS) (clean : before.pending ≡ None) (old now : Option Disk) where
   entered_as : {T E : Type 0} (R : Result T E) → Told old now (Enters R refs (ref_for w seg_bytes (length bytes)) bytes new.pending) → Told old now (Enters R before.refs (ref_for (chosen before writer) seg_bytes (length bytes)) bytes new.pending)
   entered_as R told =
       subst (λ (l : List WalRef). Told old now (Enters R l (ref_for (chosen before writer) seg_bytes (length bytes)) bytes new.pending)) refs_are

@@ -4,20 +4,21 @@ use Rattle.std.proofs.lemmas.Bool.Decides.{nat_tests}
 use Rattle.qd_base.specs.declared.op.Entry.{Entry}
 use Rattle.qd_base.specs.declared.part.WalRef.{WalRef}
 use Rattle.qd_base.specs.Lawful.{Lawful}
-use Rattle.qd_volume.specs.Disk.{Disk, Image}
+use Rattle.qd_volume.specs.Disk.{Disk, Image, reads_of}
 use Rattle.qd_durable.specs.Moments.{EachNow, LeavesOnly, Moves, SameBut, SameOutside}
 use Rattle.qd_durable.specs.Places.{StandsAt}
 use Rattle.qd_durable.proofs.Moved.{leaves_both, leaves_weaker, moments_have, moves_both, now_has, but_both}
-use Rattle.qd_entry.specs.Spelling.{SpellsEntry}
+use Rattle.qd_wal_entry.specs.Spelling.{SpellsEntry}
 use Rattle.qd_seq.specs.States.{GivesKnown, GivesOneOf, Knows}
 use Rattle.qd_seq.specs.Calls.{Appends}
 use Rattle.qd_seq.proofs.Steps.{others_leave}
 use Rattle.qd_wal.specs.Puts.{Puts}
 use Rattle.qd_wal.specs.Reading.{SpellsAt}
 use Rattle.qd_wal.specs.Segments.{file_in, part_at}
-use Rattle.qd_sequencer.specs.Histories.{AreSpelled, HasPending, MayHold, is_log_file}
+use Rattle.qd_wal.proofs.LawLemmas.{one_read}
+use Rattle.qd_sequencer.specs.Histories.{AreSpelled, HasPending, IsPending, MayHold, is_log_file}
 use Rattle.qd_sequencer.specs.Calls.{ChangesLogs, Enters, IsReady}
-use Rattle.qd_sequencer.proofs.Moments.{leaves_and}
+use Rattle.qd_sequencer.proofs.Moments.{leaves_and, now_reads}
 use Rattle.qd_sequencer.proofs.Held.{all_apart, all_kept, log_alone, log_among, one_kept, segment_among, segment_high, spelled_push}
 
 -- bytes that stand at a place spell what they spell
@@ -102,6 +103,14 @@ module _ (refs : List WalRef) (h : List Entry) (at : WalRef) (e : Entry) (bytes 
     append_pending (inl none) = subst (λ (p : Option WalRef). HasPending p h after) (sym none) tt
     append_pending (inr some) = subst (λ (p : Option WalRef). HasPending p h after) (sym some) (e, (λ image now. (both_after image now).1), next)
 
+    pub append_own : (pending ≡ None) ⊎ (pending ≡ Some at) → (x : Entry) → IsPending pending after x → x ≡ e
+    unfolding Both
+    append_own (inl none) x is = absurd (subst (λ (p : Option WalRef). IsPending p after x) none is)
+    append_own (inr some) x is =
+        let image = reads_of after in
+        let now = now_reads after in
+        one_read (image (file_in at)) at x e (subst (λ (p : Option WalRef). IsPending p after x) some is image now) (both_after image now).1
+
     pub append_pushed : EachNow after (AreSpelled (refs ++ at ∷ []) (h ++ e ∷ []))
     unfolding Both
     append_pushed image now = spelled_push at e image (both_after image now).1 refs h (both_after image now).0
@@ -110,7 +119,7 @@ module _ (refs : List WalRef) (h : List Entry) (at : WalRef) (e : Entry) (bytes 
 pub put_failed : {T U E F : Type 0} (refs : List WalRef) (at : WalRef) (bytes : List ℕ) (fault : E) (answer : F) (before after : Disk) → Puts {T = T} {E = E} (Err fault) at bytes before after → Enters {T = U} {E = F} (Err answer) refs at bytes None before after
 put_failed {T} {U} {E} {F} refs at bytes fault answer before after puts = record {
   any_moment = λ h e ready. put_holds refs h at e bytes (Err fault) before after puts ready;
-  behind = λ h e ready. (put_knows refs h at e bytes (Err fault) before after puts ready, put_spelled refs h at e bytes (Err fault) before after puts ready, tt);
+  behind = λ h e ready. (put_knows refs h at e bytes (Err fault) before after puts ready, put_spelled refs h at e bytes (Err fault) before after puts ready, tt, λ x none. absurd none);
   elsewhere = segment_among at (length bytes) before after puts.touches;
 }
 
@@ -142,6 +151,7 @@ module _ {T E U F : Type 0} (refs : List WalRef) (at : WalRef) (bytes : List ℕ
       appends.behind (knows_mid (Err fault) pending appends h e ready),
       append_spelled refs h at e bytes (Err fault) pending mid after appends ready.lawful ready.next (knows_mid (Err fault) pending appends h e ready) (spelled_mid (Err fault) pending appends h e ready) (entry_mid (Err fault) pending appends h e ready),
       append_pending refs h at e bytes (Err fault) pending mid after appends ready.lawful ready.next (knows_mid (Err fault) pending appends h e ready) (spelled_mid (Err fault) pending appends h e ready) (entry_mid (Err fault) pending appends h e ready) which,
+      append_own refs h at e bytes (Err fault) pending mid after appends ready.lawful ready.next (knows_mid (Err fault) pending appends h e ready) (spelled_mid (Err fault) pending appends h e ready) (entry_mid (Err fault) pending appends h e ready) which,
     );
     elsewhere = both_elsewhere (Err fault) pending appends;
   }

@@ -6,4 +6,3 @@ pub mod WriterLemmas
 pub mod SequenceLemmas
 pub mod CommitLemmas
 pub mod ReadLemmas
-pub mod TestLemmas

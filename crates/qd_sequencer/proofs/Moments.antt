@@ -1,7 +1,12 @@
 -- Facts of the images of a call, joined.
 use Rattle.std.proofs.Common.{◌⊎◌, inl, inr}
-use Rattle.qd_volume.specs.Disk.{Disk, Image, images_since}
+use Rattle.qd_volume.specs.Disk.{Disk, Image, file_of, images_now, images_since, reads_of}
+use Rattle.qd_volume.proofs.Sound.{image_of_reads, sound_file}
 use Rattle.qd_durable.specs.Moments.{EachNow, LeavesOnly}
+
+-- what a volume reads is one of its images
+pub now_reads : (disk : Disk) → images_now disk (reads_of disk)
+now_reads disk file = image_of_reads (file_of disk file) (sound_file disk file)
 
 module _ (P Q : Image → Type 0) where
   -- two facts at once

@@ -74,7 +74,7 @@ lawful_drop (suc n) schemas [] p = tt
 lawful_drop (suc n) schemas (e ∷ h) p = lawful_drop n (fold schemas_step schemas e.ops) h p.2
 
 -- a lawful history that is spelled doesn't break off
-no_break : (refs : List WalRef) (h : List Entry) (schemas : List Schema) (image : Image) (file place : ℕ) → AreSpelled refs h image → LawfulFrom schemas h → BreaksOff refs schemas image file place → ⊥
+pub no_break : (refs : List WalRef) (h : List Entry) (schemas : List Schema) (image : Image) (file place : ℕ) → AreSpelled refs h image → LawfulFrom schemas h → BreaksOff refs schemas image file place → ⊥
 no_break [] [] schemas image file place p q breaks = breaks
 no_break [] (e ∷ h) schemas image file place p q breaks = breaks
 no_break (r ∷ refs) [] schemas image file place p q breaks = p
@@ -105,14 +105,17 @@ module _ (refs : List WalRef) (n : ℕ) (schemas : List Schema) (h : List Entry)
 -- ---- the sequencer that takes the log over
 
 pub taken_over : (refs : List WalRef) (n : ℕ) (schemas new : List Schema) (s : Sequence) (disk : Disk) → s.refs ≡ refs → s.pending ≡ None → s.schemas ≡ new → s.writers ≡ [] → (es : List Entry) × AreRead (drop n refs) schemas new (reads_of disk) es → IsTakenOver (Ok s) refs n schemas disk
-taken_over refs n schemas new s disk same clean is none read = λ h logged. record {
-  log = subst (λ (l : List WalRef). Knows l s.pending disk) (sym same) (subst (λ (p : Option WalRef). Knows refs p disk) (sym clean) logged.log);
-  spelled = λ image now. subst (λ (l : List WalRef). AreSpelled l h image) (sym same) (logged.spelled image now);
-  lawful = logged.lawful;
-  schemas = is ∙ schemas_behind refs n schemas h disk logged new read.0 read.1;
-  pending = subst (λ (p : Option WalRef). HasPending p h disk) (sym clean) tt;
-  writers = subst (λ (ws : List WalWriter). All (λ (w : WalWriter). All (IsInFront w) s.refs) ws) (sym none) (All-nil (λ (w : WalWriter). All (IsInFront w) s.refs));
-}
+taken_over refs n schemas new s disk same clean is none read = (
+  subst (λ (l : List Schema). (es : List Entry) × AreRead (drop n refs) schemas l (reads_of disk) es) (sym is) read,
+  λ h logged. record {
+    log = subst (λ (l : List WalRef). Knows l s.pending disk) (sym same) (subst (λ (p : Option WalRef). Knows refs p disk) (sym clean) logged.log);
+    spelled = λ image now. subst (λ (l : List WalRef). AreSpelled l h image) (sym same) (logged.spelled image now);
+    lawful = logged.lawful;
+    schemas = is ∙ schemas_behind refs n schemas h disk logged new read.0 read.1;
+    pending = subst (λ (p : Option WalRef). HasPending p h disk) (sym clean) tt;
+    writers = subst (λ (ws : List WalWriter). All (λ (w : WalWriter). All (IsInFront w) s.refs) ws) (sym none) (All-nil (λ (w : WalWriter). All (IsInFront w) s.refs));
+  },
+)
 
 pub not_taken : (T : Type 0) (refs : List WalRef) (n : ℕ) (schemas new : List Schema) (cause : LogFault) (disk : Disk) → AreFollowed {T = T} (Err cause) (drop n refs) schemas new (reads_of disk) → IsTakenOver (Err cause) refs n schemas disk
 not_taken T refs n schemas new (fault.Damaged file place) disk breaks = (breaks, λ h logged. rest_holds refs n schemas h disk logged file place breaks)

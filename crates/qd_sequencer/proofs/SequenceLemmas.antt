@@ -1,9 +1,9 @@
 -- What calls on the log, and on other files, leave of a sequence.
-use Rattle.std.proofs.Common.{◌≡◌, inl, inr, nat_eq, List, [], ◌∷◌, ◌++◌, Option, None, Some, Result, Ok, Err, sym, subst, ◌∙◌, All}
+use Rattle.std.proofs.Common.{◌≡◌, inl, inr, ℕ, nat_eq, List, [], ◌∷◌, ◌++◌, Option, None, Some, Result, Ok, Err, sym, subst, ◌∙◌, All}
 use Rattle.qd_base.specs.declared.op.Entry.{Entry}
 use Rattle.qd_base.specs.declared.part.WalRef.{WalRef}
 use Rattle.qd_base.specs.Lawful.{Lawful}
-use Rattle.qd_volume.specs.Disk.{Disk, Image}
+use Rattle.qd_volume.specs.Disk.{Disk, Image, reads_of}
 use Rattle.qd_durable.specs.Moments.{EachNow, LeavesOnly, Moves, SameBut}
 use Rattle.qd_durable.proofs.Moved.{leaves_weaker, moments_have, now_has}
 use Rattle.qd_seq.specs.States.{GivesKnown, Knows}
@@ -13,11 +13,12 @@ use Rattle.qd_seq.proofs.Steps.{others_leave}
 use Rattle.qd_wal.specs.declared.writer.WalWriter.{WalWriter}
 use Rattle.qd_wal.specs.Reading.{SpellsAt}
 use Rattle.qd_wal.specs.Segments.{file_in}
+use Rattle.qd_wal.proofs.LawLemmas.{one_read}
 use Rattle.qd_sequencer.specs.Histories.{AreSpelled, HasPending, IsPending, MayHold}
 use Rattle.qd_sequencer.specs.Sequences.{IsAsBefore, IsInFront, IsSequence, Sequence}
-use Rattle.qd_sequencer.specs.Calls.{Settles}
+use Rattle.qd_sequencer.specs.Calls.{PendsAsBefore, Settles}
 use Rattle.qd_sequencer.specs.Laws.{OtherFilesLeaveTheSequence, WhatASequenceHolds}
-use Rattle.qd_sequencer.proofs.Moments.{leaves_and}
+use Rattle.qd_sequencer.proofs.Moments.{leaves_and, now_reads}
 use Rattle.qd_sequencer.proofs.Held.{SameSegments, all_kept, has_kept, log_alone, log_among, one_kept, same_segments, spelled_push}
 
 -- An image that gives what is known, with the transactions spelled, holds the history, or that with the one that is pending.
@@ -58,6 +59,21 @@ module _ (refs : List WalRef) (h : List Entry) (lawful : Lawful h) where
 pub spelled_after : (refs : List WalRef) (h : List Entry) (R : Image → Image → Type 0) (before after : Disk) → Moves R before after → ((earlier image : Image) → R earlier image → SameSegments earlier image) → EachNow before (AreSpelled refs h) → EachNow after (AreSpelled refs h)
 spelled_after refs h R before after moves same spelled = now_has R (AreSpelled refs h) (AreSpelled refs h) before after moves spelled (λ earlier image s r. all_kept refs h earlier image (same earlier image r) s)
 
+-- what is pending behind a call that leaves the segments was so before it
+pub pends_as_before : (pending : Option WalRef) (h : List Entry) (R : Image → Image → Type 0) (before after : Disk) → Moves R before after → ((earlier image : Image) → R earlier image → SameSegments earlier image)
+    → HasPending pending h before → PendsAsBefore pending pending before after
+pends_as_before None h R before after moves same has e none = absurd none
+pends_as_before (Some ref) h R before after moves same has e is =
+    let image = reads_of after in
+    let now = now_reads after in
+    let from = moves.now image now in
+    let spells : SpellsAt (from.0 (file_in ref)) ref e = subst (λ (bytes : List ℕ). SpellsAt bytes ref e) (same from.0 image from.2 ref) (is image now) in
+    subst (λ (x : Entry). IsPending (Some ref) before x) (one_read (from.0 (file_in ref)) ref has.0 e (has.1 from.0 from.1) spells) has.1
+
+-- where nothing is pending, it is no transaction
+pub none_pends : (pending : Option WalRef) (disk : Disk) (e : Entry) → pending ≡ None → IsPending pending disk e → ⊥
+none_pends pending disk e clean is = subst (λ (p : Option WalRef). IsPending p disk e) clean is
+
 -- ---- the laws
 
 pub sequence_holds : WhatASequenceHolds
@@ -76,6 +92,7 @@ others_leave_it touched s h before after elsewhere moves is =
         pending = has_kept s.pending h (SameBut touched) before after moves same is.pending;
         writers = is.writers;
       },
+      pends_as_before s.pending h (SameBut touched) before after moves same is.pending,
     )
 
 -- ---- a sequence that stays
@@ -115,6 +132,7 @@ module _ (old new : Sequence) (before after : Disk) (same : IsAsBefore old new) 
         (subst (λ (p : Option WalRef). Knows old.refs p after) (sym clean) (repairs.behind is.log).1)
         (settle_spelled {T = T} {E = E} (Ok done) repairs h is)
         (subst (λ (p : Option WalRef). HasPending p h after) (sym clean) tt);
+    pending = λ h is e p. absurd (none_pends new.pending after e clean p);
     elsewhere = log_among before after repairs.elsewhere;
   }
 
@@ -126,5 +144,8 @@ module _ (old new : Sequence) (before after : Disk) (same : IsAsBefore old new) 
         (subst (λ (p : Option WalRef). Knows old.refs p after) (sym stays) (repairs.behind is.log))
         (settle_spelled {T = T} {E = E} (Err fault) repairs h is)
         (subst (λ (p : Option WalRef). HasPending p h after) (sym stays) (settle_pending {T = T} {E = E} (Err fault) repairs h is));
+    pending = λ h is.
+        subst (λ (p : Option WalRef). PendsAsBefore old.pending p before after) (sym stays)
+        (pends_as_before old.pending h (SameBut (nat_eq 1)) before after repairs.elsewhere log_alone is.pending);
     elsewhere = log_among before after repairs.elsewhere;
   }

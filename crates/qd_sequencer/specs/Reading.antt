@@ -64,9 +64,9 @@ pub record IsLogged (refs : List WalRef) (n : ℕ) (schemas : List Schema) (h : 
   pub lawful : Lawful h
   pub version : schemas ≡ schemas_from [] (take n h)
 
--- The sequencer stands behind each such history; where the transactions break off there is none.
+-- The transactions behind the first n are read, and the sequencer stands behind each such history; where they break off there is none.
 abbrev pub IsTakenOver : Result Sequence LogFault → List WalRef → ℕ → List Schema → Disk → Type 0
-IsTakenOver (Ok s) refs n schemas disk = (h : List Entry) → IsLogged refs n schemas h disk → IsSequence s h disk
+IsTakenOver (Ok s) refs n schemas disk = ((es : List Entry) × AreRead (drop n refs) schemas s.schemas (reads_of disk) es) × ((h : List Entry) → IsLogged refs n schemas h disk → IsSequence s h disk)
 IsTakenOver (Err (fault.Damaged file place)) refs n schemas disk = BreaksOff (drop n refs) schemas (reads_of disk) file place × ((h : List Entry) → IsLogged refs n schemas h disk → ⊥)
 IsTakenOver (Err fault.Vol) refs n schemas disk = Unit {0}
 IsTakenOver (Err fault.Memory) refs n schemas disk = Unit {0}

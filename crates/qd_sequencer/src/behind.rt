@@ -2,13 +2,14 @@
 ghost use Rattle.qd_durable.specs.Faults.{CountsVol};
 ghost use Rattle.qd_volume.specs.Disk.{reads_of};
 ghost use Rattle.qd_base.specs.Lawful.{AreSchemas};
+ghost use Rattle.qd_seq.specs.Layout.{AreInSegments};
 ghost use Rattle.qd_wal.specs.Segments.{file_in};
 ghost use Rattle.qd_sequencer.specs.Reading.{AreFollowed, IsNextRead};
-ghost use Rattle.std.specs.Prelude.{◌≡◌, IfSome, OnOk};
+ghost use Rattle.std.specs.Prelude.{◌≡◌, ◌^◌, ◌<◌, IfSome, OnOk};
 
 use qd_base::{Schemas, WalRef};
 use qd_durable::LogFault;
-use qd_lawful::follow;
+use qd_validate::follow;
 use qd_volume::Volume;
 use qd_wal::{read_entry, segment_file};
 use std::alloc::Global;
@@ -20,6 +21,7 @@ pub(crate) fn follow_all<V: Volume>(
     refs: &[WalRef],
     schemas: &mut Schemas,
 ) -> Result<(), LogFault>
+    requires segments { AreInSegments refs.now }
     requires sound { AreSchemas schemas.old }
     ensures sound { OnOk result (AreSchemas schemas.new) }
     ensures told { IfSome (V.storage volume.old).disk (λ disk. AreFollowed result refs.now schemas.old schemas.new (reads_of disk)) }
@@ -39,6 +41,7 @@ fn follow_next<V: Volume>(
     at: WalRef,
     schemas: &mut Schemas,
 ) -> Result<(), LogFault>
+    requires segment { at.segment < 2 ^ 24 }
     requires sound { AreSchemas schemas.old }
     ensures sound { OnOk result (AreSchemas schemas.new) }
     ensures told { IfSome (V.storage volume.old).disk (λ disk. IsNextRead result at schemas.old schemas.new (reads_of disk (file_in at))) }

@@ -1,4 +1,5 @@
 //! An entry put into the write-ahead log, and its place into the log of references.
+ghost use Rattle.qd_base.specs.declared.limits.TheConstants.{MAX_TXNS};
 ghost use Rattle.qd_durable.specs.Moments.{Told};
 ghost use Rattle.qd_io.specs.Ends.{Counts};
 ghost use Rattle.qd_wal.specs.Segments.{ref_for};
@@ -22,7 +23,7 @@ pub(crate) fn enter<V: Volume>(
 ) -> Result<WalRef, IoFault>
     requires room { 0 < log.old.spare }
     requires clean { log.old.pending ≡ None }
-    requires few { length log.old.refs < 4194304 }
+    requires few { length log.old.refs < MAX_TXNS }
     requires wal { writer.wal ≤ length log.old.refs }
     requires segment { writer.segment ≤ length log.old.refs }
     requires size { seg_bytes ≤ 2 ^ 62 }

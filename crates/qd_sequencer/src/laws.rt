@@ -6,7 +6,7 @@ pub fn what_a_sequence_holds()
     ensures { WhatASequenceHolds }
 {}
 
-/// A call that changes other files alone leaves the sequence, and at every moment what it holds.
+/// A call that changes other files alone leaves the sequence, at every moment what it holds, and what is pending.
 pub fn other_files_leave_the_sequence()
     ensures { OtherFilesLeaveTheSequence }
 {}

@@ -11,8 +11,6 @@ mod entering;
 mod fault;
 mod laws;
 mod sequencer;
-#[cfg(test)]
-mod tests;
 mod writers;
 
 pub use fault::{CommitFault, Committed};

@@ -1,12 +1,14 @@
 //! The sequencer: its making, its repair, and commits.
+ghost use Rattle.qd_base.specs.declared.limits.TheConstants.{MAX_TXNS};
 ghost use Rattle.qd_base.specs.Lawful.{AreSchemas};
 ghost use Rattle.qd_base.specs.Schemas.{schemas_step};
 ghost use Rattle.qd_base.specs.declared.op.Entry.{Entry};
 ghost use Rattle.qd_durable.specs.Faults.{CountsVol};
 ghost use Rattle.qd_durable.specs.Moments.{Told};
-ghost use Rattle.qd_entry.specs.Spelling.{SpellsEntry};
+ghost use Rattle.qd_wal_entry.specs.Spelling.{SpellsEntry};
 ghost use Rattle.qd_io.specs.Ends.{Counts};
 ghost use Rattle.qd_volume.specs.Disk.{Disk};
+ghost use Rattle.qd_seq.specs.Layout.{AreInSegments};
 ghost use Rattle.qd_wal.specs.Segments.{behind, ref_for};
 ghost use Rattle.qd_sequencer.specs.Calls.{Accepts, Makes, Settles};
 ghost use Rattle.qd_sequencer.specs.Faults.{CountsFault, IsOfVolume, IsUnrefused};
@@ -106,9 +108,10 @@ impl Sequencer {
         })
     }
 
-    /// The places of all transactions, in commit order, in constant time.
+    /// The places of all transactions, in commit order, in constant time. Each is in a segment that is its log's own.
     pub fn refs(&self) -> &[WalRef]
         ensures list { result.now ≡ self.now.refs }
+        ensures segments { AreInSegments result.now }
     {
         self.log.refs()
     }
@@ -187,7 +190,7 @@ impl Sequencer {
         bytes: &[u8],
         after: Option<Schemas>,
     ) -> Result<Committed, CommitFault>
-        requires most { limits.now.max_txns ≤ 4194304 }
+        requires most { limits.now.max_txns ≤ MAX_TXNS }
         requires size { limits.now.seg_bytes ≤ 2 ^ 62 }
         requires sound { IfSome after AreSchemas }
         ensures count { IfOk result (λ done. done.n ≡ length self.new.refs) }
@@ -224,7 +227,7 @@ impl Sequencer {
         after: Option<Schemas>,
     ) -> Result<Committed, CommitFault>
         requires clean { self.old.pending ≡ None }
-        requires few { length self.old.refs < 4194304 }
+        requires few { length self.old.refs < MAX_TXNS }
         requires size { seg_bytes ≤ 2 ^ 62 }
         requires sound { IfSome after AreSchemas }
         ensures count { IfOk result (λ done. done.n ≡ length self.new.refs) }

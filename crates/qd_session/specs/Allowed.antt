@@ -14,7 +14,7 @@ use Rattle.qd_base.specs.Database.{Database, schemas_of}
 use Rattle.qd_base.specs.Replay.{first}
 use Rattle.qd_ilp.specs.Transaction.{Says, start}
 use Rattle.qd_ilp.specs.Whole.{IsReading, Reading}
-use Rattle.qd_trees.specs.declared.tree.Stmt.{Stmt}
+use Rattle.qd_sql_ast.specs.declared.tree.Stmt.{Stmt}
 use Rattle.qd_sql.specs.declared.stmt.SqlFault.TheVariants as fault
 use Rattle.qd_meaning.specs.declared.refusal.Refusal.{Refusal}
 use Rattle.qd_meaning.specs.Answer.{answer}
@@ -22,6 +22,7 @@ use Rattle.qd_meaning.specs.Write.{write}
 use Rattle.qd_session.specs.Asking.{asks_for, IsQuestion, IsWrite}
 use Rattle.qd_session.specs.Looks.{Look}
 use Rattle.qd_session.specs.Timing.{LacksTime}
+use Rattle.qd_base.specs.declared.limits.TheConstants.{MAX_TXNS}
 
 -- What the lines of a batch say over the schemas of the tables that are there, with the time of those without a stamp: their
 -- transaction, or a code and the number of the line that has it.
@@ -59,15 +60,11 @@ IsRefusedBatch None sequenced time text number place = IsLineCode number
 IsRefusedBatch (Some h) sequenced time text number place =
     (c : Code) × (number ≡ number_of c) × SaysBatch (schemas_of (first h sequenced)) time text (Err (c, place))
 
--- how many transactions a store holds at most; `Limits::usual` of qd_base says the same
-abbrev pub most_transactions : ℕ
-most_transactions = 4194304
-
 -- A batch that has no refusal of its own is refused where there are as many transactions as a store may hold: its lines say
 -- a transaction over the schemas of the first transactions.
 abbrev pub IsFullBatch : Option (List Entry) → (sequenced time : ℕ) → List ℕ → ℕ → ℕ → Type 0
 IsFullBatch history sequenced time text number place =
-    (number ≡ number_of code.Full) × (place ≡ 0) × (most_transactions ≤ sequenced)
+    (number ≡ number_of code.Full) × (place ≡ 0) × (MAX_TXNS ≤ sequenced)
     × IfSome history (λ h. (entry : Entry) × SaysBatch (schemas_of (first h sequenced)) time text (Ok entry))
 
 -- A statement that writes is refused over some schemas: by the code and the place of that refusal of all which goes first.
@@ -83,7 +80,7 @@ IsRefusedWrite (Some h) sequenced s number place = IsRefusalOver (schemas_of (fi
 -- transaction over the schemas of the first ones.
 abbrev pub IsFullWrite : Option (List Entry) → (sequenced : ℕ) → Stmt → ℕ → ℕ → Type 0
 IsFullWrite history sequenced s number place =
-    (number ≡ number_of code.Full) × (place ≡ 0) × (most_transactions ≤ sequenced)
+    (number ≡ number_of code.Full) × (place ≡ 0) × (MAX_TXNS ≤ sequenced)
     × IfSome history (λ h. (entry : Entry) × (write (schemas_of (first h sequenced)) s ≡ Ok entry))
 
 -- A statement that asks is refused over a database: by the code and the place of that refusal of all which goes first.

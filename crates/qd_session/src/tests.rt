@@ -12,14 +12,13 @@ use std::marker::Model;
 use std::process::Abort;
 use std::test::Fail;
 
-/// A backend that tells no transaction. Its volume fails from its third batch on. It adds up the times that it is given.
-/// It refuses texts, and finds no memory for statements.
+/// A backend that tells no transaction. Its volume fails from its third batch on. It refuses
+/// texts, and finds no memory for statements.
 #[derive(Drop)]
 struct SilentBack {
     sequenced: u64,
     known: u64,
     faults: u64,
-    times: u64,
     ghost within: { known ≤ sequenced },
 }
 
@@ -31,8 +30,7 @@ impl Backend for SilentBack {
 
     ghost rule = { Allowed };
 
-    fn lines(&mut self, _alloc: Global, _batch: &Batch, now: u64) -> Result<Reply, Memory> {
-        self.times = self.times.saturating_add(now);
+    fn lines(&mut self, _alloc: Global, _batch: &Batch, _now: u64) -> Result<Reply, Memory> {
         if self.sequenced >= 2 {
             self.faults = self.faults.saturating_add(1);
             return Ok(Reply::Refused {
@@ -177,7 +175,6 @@ fn silent() -> SilentBack {
         sequenced: 0,
         known: 0,
         faults: 0,
-        times: 0,
     }
 }
 
@@ -197,22 +194,6 @@ fn a_backend_may_know_a_statement_of_its_own(rt: HostRuntime) -> Result<(), Fail
     let input = b"Q 4\npingQ 1\ntA\nW 0\n";
     let answer = b"A 0\nE 61 0\nE 61 0\nE 61 0\n";
     serves(&rt, &mut front, &mut PingBack, &mut clock, input, answer)
-}
-
-#[test]
-fn the_clock_is_read_for_batches_that_lack_a_time(rt: HostRuntime) -> Result<(), Fail> {
-    let mut front = FrameFront::new(rt.alloc());
-    let mut back = silent();
-    let mut clock = MemClock::new(rt.alloc(), &[5, 6, 7], &[2])?;
-    let stamped = b"W 8\nt v=1i 9";
-    let faulty = b"W 9\nt v=1i\nt,";
-    let lacking = b"W 6\nt v=1iW 10\n# c\nt v=1iW 6\nt v=1iW 6\nt v=1i";
-    let answer = b"E 52 0\nE 52 0\nE 42 0\nE 52 0\n";
-    serves(&rt, &mut front, &mut back, &mut clock, stamped, b"K 1\n")?;
-    serves(&rt, &mut front, &mut back, &mut clock, faulty, b"K 2\n")?;
-    serves(&rt, &mut front, &mut back, &mut clock, lacking, answer)?;
-    assert_eq!(rt; back.times, 18);
-    Ok(())
 }
 
 /// A front that has no bytes yet.

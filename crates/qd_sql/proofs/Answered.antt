@@ -2,11 +2,11 @@
 use Rattle.std.proofs.Common.{◌≡◌, ℕ, Bool, true, false, List, [], ◌∷◌, length, Option, Some, None, unwrap_or, Result, Ok, Err, refl, sym, ap, ◌∙◌, subst, inl, inr, ◌⊎◌, if◌then◌else◌}
 use Rattle.qd_base.specs.declared.code.Code.{Code}
 use Rattle.qd_base.specs.declared.code.Code.TheVariants as code
-use Rattle.qd_tokens.specs.declared.token.Kind.TheVariants as kind
-use Rattle.qd_tokens.specs.Tokens.{Lexeme, tokens}
-use Rattle.qd_trees.specs.declared.stop.Stop.TheVariants as stop
-use Rattle.qd_trees.specs.declared.tree.Stmt.{Stmt}
-use Rattle.qd_trees.specs.Steps.{Read, ◌>>=◌, if_taken, end, sign}
+use Rattle.qd_sql_lexer.specs.declared.token.Kind.TheVariants as kind
+use Rattle.qd_sql_lexer.specs.Tokens.{Lexeme, tokens}
+use Rattle.qd_sql_ast.specs.declared.stop.Stop.TheVariants as stop
+use Rattle.qd_sql_ast.specs.declared.tree.Stmt.{Stmt}
+use Rattle.qd_sql_ast.specs.Steps.{Read, ◌>>=◌, if_taken, end, sign}
 use Rattle.qd_sql.specs.declared.stmt.SqlFault.{SqlFault}
 use Rattle.qd_sql.specs.declared.stmt.SqlFault.TheVariants as fault
 use Rattle.qd_sql.specs.Statement.{statement, ended, whole_text, is_unbuilt, far_number, in_range, judged, statement_of, ReadsSql, IsStatement, IsRefused, IsTooDeep}

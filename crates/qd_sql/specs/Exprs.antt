@@ -1,32 +1,32 @@
 -- The rules of expressions.
 use Rattle.std.specs.Prelude.{ℕ, zero, suc, if◌then◌else◌, List, codes, Option, Some, None, Ok, Err}
-use Rattle.qd_tokens.specs.declared.token.Kind.TheVariants as kind
-use Rattle.qd_trees.specs.declared.stop.Stop.TheVariants as stop
-use Rattle.qd_trees.specs.declared.tree.AddOp.{AddOp}
-use Rattle.qd_trees.specs.declared.tree.AddOp.TheVariants as add
-use Rattle.qd_trees.specs.declared.tree.MulOp.{MulOp}
-use Rattle.qd_trees.specs.declared.tree.MulOp.TheVariants as mul
-use Rattle.qd_trees.specs.declared.tree.Cmp.{Cmp}
-use Rattle.qd_trees.specs.declared.tree.Cmp.TheVariants as compare
-use Rattle.qd_trees.specs.declared.tree.Column.{Column}
-use Rattle.qd_trees.specs.declared.tree.Expr.{Expr, roll-Expr}
-use Rattle.qd_trees.specs.declared.tree.OrConj.{OrConj, roll-OrConj}
-use Rattle.qd_trees.specs.declared.tree.Conj.{Conj, roll-Conj}
-use Rattle.qd_trees.specs.declared.tree.AndNeg.{AndNeg, roll-AndNeg}
-use Rattle.qd_trees.specs.declared.tree.Neg.{Neg, roll-Neg}
-use Rattle.qd_trees.specs.declared.tree.Test.{Test, roll-Test}
-use Rattle.qd_trees.specs.declared.tree.Check.{Check}
-use Rattle.qd_trees.specs.declared.tree.Check.TheVariants as asks
-use Rattle.qd_trees.specs.declared.tree.Plus.{Plus, roll-Plus}
-use Rattle.qd_trees.specs.declared.tree.AddTerm.{AddTerm, roll-AddTerm}
-use Rattle.qd_trees.specs.declared.tree.Term.{Term, roll-Term}
-use Rattle.qd_trees.specs.declared.tree.MulSigned.{MulSigned, roll-MulSigned}
-use Rattle.qd_trees.specs.declared.tree.Signed.{Signed, roll-Signed}
-use Rattle.qd_trees.specs.declared.tree.Prime.{Prime}
-use Rattle.qd_trees.specs.declared.tree.Prime.TheVariants as is
-use Rattle.qd_tokens.specs.Tokens.{Lexeme}
-use Rattle.qd_trees.specs.Steps.{Read, ◌>>=◌, if_taken, links, offsets, sees, sign, word, want, want_word, name, number, text}
-use Rattle.qd_trees.specs.Writes.{lits}
+use Rattle.qd_sql_lexer.specs.declared.token.Kind.TheVariants as kind
+use Rattle.qd_sql_ast.specs.declared.stop.Stop.TheVariants as stop
+use Rattle.qd_sql_ast.specs.declared.tree.AddOp.{AddOp}
+use Rattle.qd_sql_ast.specs.declared.tree.AddOp.TheVariants as add
+use Rattle.qd_sql_ast.specs.declared.tree.MulOp.{MulOp}
+use Rattle.qd_sql_ast.specs.declared.tree.MulOp.TheVariants as mul
+use Rattle.qd_sql_ast.specs.declared.tree.Cmp.{Cmp}
+use Rattle.qd_sql_ast.specs.declared.tree.Cmp.TheVariants as compare
+use Rattle.qd_sql_ast.specs.declared.tree.Column.{Column}
+use Rattle.qd_sql_ast.specs.declared.tree.Expr.{Expr, roll-Expr}
+use Rattle.qd_sql_ast.specs.declared.tree.OrConj.{OrConj, roll-OrConj}
+use Rattle.qd_sql_ast.specs.declared.tree.Conj.{Conj, roll-Conj}
+use Rattle.qd_sql_ast.specs.declared.tree.AndNeg.{AndNeg, roll-AndNeg}
+use Rattle.qd_sql_ast.specs.declared.tree.Neg.{Neg, roll-Neg}
+use Rattle.qd_sql_ast.specs.declared.tree.Test.{Test, roll-Test}
+use Rattle.qd_sql_ast.specs.declared.tree.Check.{Check}
+use Rattle.qd_sql_ast.specs.declared.tree.Check.TheVariants as asks
+use Rattle.qd_sql_ast.specs.declared.tree.Plus.{Plus, roll-Plus}
+use Rattle.qd_sql_ast.specs.declared.tree.AddTerm.{AddTerm, roll-AddTerm}
+use Rattle.qd_sql_ast.specs.declared.tree.Term.{Term, roll-Term}
+use Rattle.qd_sql_ast.specs.declared.tree.MulSigned.{MulSigned, roll-MulSigned}
+use Rattle.qd_sql_ast.specs.declared.tree.Signed.{Signed, roll-Signed}
+use Rattle.qd_sql_ast.specs.declared.tree.Prime.{Prime}
+use Rattle.qd_sql_ast.specs.declared.tree.Prime.TheVariants as is
+use Rattle.qd_sql_lexer.specs.Tokens.{Lexeme}
+use Rattle.qd_sql_ast.specs.Steps.{Read, ◌>>=◌, if_taken, links, offsets, sees, sign, word, want, want_word, name, number, text}
+use Rattle.qd_sql_ast.specs.Writes.{lits}
 
 -- name ["." name]
 unfoldable pub column : List Lexeme → Read Column
@@ -141,8 +141,8 @@ check inner ts =
     (Ok (asks.Nothing, ts))))
 
 -- plus check
-unfoldable pub test : (List Lexeme → Read Expr) → List Lexeme → Read Test
-test inner ts = do
+unfoldable pub one_test : (List Lexeme → Read Expr) → List Lexeme → Read Test
+one_test inner ts = do
   left ← plus inner ts
   found ← check inner left.1
   Ok (roll-Test (record { left = left.0; check = found.0 }), found.1)
@@ -151,7 +151,7 @@ test inner ts = do
 unfoldable pub neg : (List Lexeme → Read Expr) → List Lexeme → Read Neg
 neg inner ts = do
   before ← nots ts
-  found ← test inner before.1
+  found ← one_test inner before.1
   Ok (roll-Neg (record { nots = before.0; test = found.0 }), found.1)
 
 -- "AND" neg

@@ -2,9 +2,9 @@
 use Rattle.std.specs.Prelude.{◌≡◌, ℕ, ◌⊎◌, ◌↔◌, true, false, List, length, Option, Some, None, unwrap_or, Err}
 use Rattle.qd_base.specs.declared.code.Code.{Code}
 use Rattle.qd_base.specs.declared.code.Code.TheVariants as code
-use Rattle.qd_trees.specs.declared.stop.Stop.TheVariants as stop
-use Rattle.qd_trees.specs.declared.tree.Stmt.{Stmt}
-use Rattle.qd_tokens.specs.Tokens.{tokens}
+use Rattle.qd_sql_ast.specs.declared.stop.Stop.TheVariants as stop
+use Rattle.qd_sql_ast.specs.declared.tree.Stmt.{Stmt}
+use Rattle.qd_sql_lexer.specs.Tokens.{tokens}
 use Rattle.qd_sql.specs.Statement.{ReadsSql, IsStatement, IsRefused, IsTooDeep, is_unbuilt, far_number, whole_text}
 
 -- one answer, and no more

@@ -2,10 +2,10 @@
 use Rattle.std.specs.Prelude.{ℕ, List, Result}
 use Rattle.std.specs.declared.alloc.Global.{Global}
 use denote.Ref.{MutBor}
-use Rattle.qd_trees.specs.declared.tree.Expr.{Expr}
-use Rattle.qd_trees.specs.declared.stop.Stop.{Stop}
-use Rattle.qd_tokens.specs.Tokens.{Lexeme}
-use Rattle.qd_trees.specs.Steps.{Reads}
+use Rattle.qd_sql_ast.specs.declared.tree.Expr.{Expr}
+use Rattle.qd_sql_ast.specs.declared.stop.Stop.{Stop}
+use Rattle.qd_sql_lexer.specs.Tokens.{Lexeme}
+use Rattle.qd_sql_ast.specs.Steps.{Reads}
 use Rattle.qd_sql.specs.Exprs.{expr}
 
 pub record Nests (depth : ℕ) (pre : Global → MutBor (List Lexeme) → ℕ → Type 0)

@@ -1,37 +1,37 @@
 -- The rules of queries.
 use Rattle.std.specs.Prelude.{ℕ, ◌+◌, true, false, if◌then◌else◌, List, codes, Option, Some, None, Ok}
-use Rattle.qd_tokens.specs.declared.token.Kind.TheVariants as kind
+use Rattle.qd_sql_lexer.specs.declared.token.Kind.TheVariants as kind
 use Rattle.qd_base.specs.declared.limits.TheConstants.{MAX_NESTING}
-use Rattle.qd_trees.specs.declared.tree.AggOf.{AggOf}
-use Rattle.qd_trees.specs.declared.tree.AggOf.TheVariants as agg
-use Rattle.qd_trees.specs.declared.tree.AlignTo.{AlignTo}
-use Rattle.qd_trees.specs.declared.tree.AlignTo.TheVariants as to
-use Rattle.qd_trees.specs.declared.tree.Column.{Column}
-use Rattle.qd_trees.specs.declared.tree.Expr.{Expr}
-use Rattle.qd_trees.specs.declared.tree.FillWith.{FillWith}
-use Rattle.qd_trees.specs.declared.tree.FillWith.TheVariants as with
-use Rattle.qd_trees.specs.declared.tree.Fills.{Fills}
-use Rattle.qd_trees.specs.declared.tree.Filter.{Filter}
-use Rattle.qd_trees.specs.declared.tree.Item.{Item}
-use Rattle.qd_trees.specs.declared.tree.Join.{Join}
-use Rattle.qd_trees.specs.declared.tree.JoinOf.{JoinOf}
-use Rattle.qd_trees.specs.declared.tree.JoinOf.TheVariants as side
-use Rattle.qd_trees.specs.declared.tree.Latest.{Latest}
-use Rattle.qd_trees.specs.declared.tree.Limit.{Limit}
-use Rattle.qd_trees.specs.declared.tree.Limit.TheVariants as rows
-use Rattle.qd_trees.specs.declared.tree.Name.{Name}
-use Rattle.qd_trees.specs.declared.tree.OrderKey.{OrderKey}
-use Rattle.qd_trees.specs.declared.tree.Query.{Query}
-use Rattle.qd_trees.specs.declared.tree.Sampled.{Sampled}
-use Rattle.qd_trees.specs.declared.tree.Selected.{Selected}
-use Rattle.qd_trees.specs.declared.tree.Selected.TheVariants as select
-use Rattle.qd_trees.specs.declared.tree.Shown.{Shown}
-use Rattle.qd_trees.specs.declared.tree.Shown.TheVariants as shows
-use Rattle.qd_trees.specs.declared.tree.Source.{Source}
-use Rattle.qd_trees.specs.declared.tree.Text.{Text}
-use Rattle.qd_tokens.specs.Tokens.{Lexeme}
-use Rattle.qd_trees.specs.Steps.{Read, ◌>>=◌, if_taken, list, call, may, sees_name, sign, word, want, want_word, name, number, stride, text}
-use Rattle.qd_trees.specs.Writes.{names_to_bracket}
+use Rattle.qd_sql_ast.specs.declared.tree.AggOf.{AggOf}
+use Rattle.qd_sql_ast.specs.declared.tree.AggOf.TheVariants as agg
+use Rattle.qd_sql_ast.specs.declared.tree.AlignTo.{AlignTo}
+use Rattle.qd_sql_ast.specs.declared.tree.AlignTo.TheVariants as to
+use Rattle.qd_sql_ast.specs.declared.tree.Column.{Column}
+use Rattle.qd_sql_ast.specs.declared.tree.Expr.{Expr}
+use Rattle.qd_sql_ast.specs.declared.tree.FillWith.{FillWith}
+use Rattle.qd_sql_ast.specs.declared.tree.FillWith.TheVariants as with
+use Rattle.qd_sql_ast.specs.declared.tree.Fills.{Fills}
+use Rattle.qd_sql_ast.specs.declared.tree.Filter.{Filter}
+use Rattle.qd_sql_ast.specs.declared.tree.Item.{Item}
+use Rattle.qd_sql_ast.specs.declared.tree.Join.{Join}
+use Rattle.qd_sql_ast.specs.declared.tree.JoinOf.{JoinOf}
+use Rattle.qd_sql_ast.specs.declared.tree.JoinOf.TheVariants as side
+use Rattle.qd_sql_ast.specs.declared.tree.Latest.{Latest}
+use Rattle.qd_sql_ast.specs.declared.tree.Limit.{Limit}
+use Rattle.qd_sql_ast.specs.declared.tree.Limit.TheVariants as rows
+use Rattle.qd_sql_ast.specs.declared.tree.Name.{Name}
+use Rattle.qd_sql_ast.specs.declared.tree.OrderKey.{OrderKey}
+use Rattle.qd_sql_ast.specs.declared.tree.Query.{Query}
+use Rattle.qd_sql_ast.specs.declared.tree.Sampled.{Sampled}
+use Rattle.qd_sql_ast.specs.declared.tree.Selected.{Selected}
+use Rattle.qd_sql_ast.specs.declared.tree.Selected.TheVariants as select
+use Rattle.qd_sql_ast.specs.declared.tree.Shown.{Shown}
+use Rattle.qd_sql_ast.specs.declared.tree.Shown.TheVariants as shows
+use Rattle.qd_sql_ast.specs.declared.tree.Source.{Source}
+use Rattle.qd_sql_ast.specs.declared.tree.Text.{Text}
+use Rattle.qd_sql_lexer.specs.Tokens.{Lexeme}
+use Rattle.qd_sql_ast.specs.Steps.{Read, ◌>>=◌, if_taken, list, call, may, sees_name, sign, word, want, want_word, name, number, stride, text}
+use Rattle.qd_sql_ast.specs.Writes.{names_to_bracket}
 use Rattle.qd_sql.specs.Exprs.{column, expr}
 
 -- an expression: one level, and each bracket in it one more

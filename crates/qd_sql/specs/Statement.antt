@@ -2,16 +2,16 @@
 use Rattle.std.specs.Prelude.{◌≡◌, ℕ, Bool, false, not, ◌&&◌, ◌||◌, ◌==◌, nat_lt, if◌then◌else◌, List, [], ◌∷◌, length, codes, Option, Some, None, unwrap_or, Result, Ok, Err}
 use Rattle.qd_base.specs.declared.code.Code.{Code}
 use Rattle.qd_base.specs.declared.code.Code.TheVariants as code
-use Rattle.qd_tokens.specs.declared.token.Kind.TheVariants as kind
-use Rattle.qd_trees.specs.declared.stop.Stop.TheVariants as stop
+use Rattle.qd_sql_lexer.specs.declared.token.Kind.TheVariants as kind
+use Rattle.qd_sql_ast.specs.declared.stop.Stop.TheVariants as stop
 use Rattle.qd_sql.specs.declared.stmt.SqlFault.{SqlFault}
 use Rattle.qd_sql.specs.declared.stmt.SqlFault.TheVariants as fault
 use Rattle.qd_base.specs.declared.limits.TheConstants.{MAX_NUMBER, MAX_STRIDE}
-use Rattle.qd_trees.specs.declared.tree.Stmt.{Stmt}
-use Rattle.qd_trees.specs.declared.tree.Stmt.TheVariants as is
-use Rattle.qd_tokens.specs.Tokens.{Lexeme, tokens}
-use Rattle.qd_trees.specs.Steps.{Read, ◌>>=◌, if_taken, is_word, same_kind, number_of, stride_count, end, sign, word}
-use Rattle.qd_trees.specs.Writes.{create, insert, show}
+use Rattle.qd_sql_ast.specs.declared.tree.Stmt.{Stmt}
+use Rattle.qd_sql_ast.specs.declared.tree.Stmt.TheVariants as is
+use Rattle.qd_sql_lexer.specs.Tokens.{Lexeme, tokens}
+use Rattle.qd_sql_ast.specs.Steps.{Read, ◌>>=◌, if_taken, is_word, same_kind, number_of, stride_count, end, sign, word}
+use Rattle.qd_sql_ast.specs.Writes.{create, insert, show}
 use Rattle.qd_sql.specs.Queries.{query}
 
 -- query | "CREATE" create | "INSERT" insert | "SHOW" show

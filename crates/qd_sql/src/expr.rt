@@ -3,14 +3,14 @@
 ghost use Rattle.std.specs.Prelude.{◌≡◌};
 ghost use Rattle.qd_sql.specs.Exprs as spec;
 ghost use Rattle.qd_sql.specs.Nests.{Nests};
-ghost use Rattle.qd_trees.specs.Steps.{Reads, Takes};
+ghost use Rattle.qd_sql_ast.specs.Steps.{Reads, Takes};
 
 use qd_base::Seq;
-use qd_tokens::Kind;
-use qd_trees::{
+use qd_sql_ast::{
     AddOp, AddTerm, AndNeg, Check, Cmp, Column, Conj, Cursor, Expr, MulOp, MulSigned, Neg, OrConj,
     Plus, Prime, Signed, Stop, Term, Test, lits, offsets,
 };
+use qd_sql_lexer::Kind;
 use sqlite_items::{Boxed, Items};
 use std::alloc::Global;
 
@@ -103,10 +103,10 @@ impl<F: Fn(Global, &mut Cursor<'_, '_>, usize) -> Result<Expr, Stop>> Rules<F> {
     }
 
     /// plus [check]
-    #[tactic(auto, unfolding(crate::specs::Exprs::test))]
+    #[tactic(auto, unfolding(crate::specs::Exprs::one_test))]
     fn test(&self, tokens: &mut Cursor<'_, '_>) -> Result<Test, Stop>
         requires { Nests self.now.depth (F.pre self.now.inner) (F.post self.now.inner) }
-        ensures { Reads (spec.test (spec.expr self.now.depth) tokens.old) result tokens.new }
+        ensures { Reads (spec.one_test (spec.expr self.now.depth) tokens.old) result tokens.new }
     {
         let left = self.plus(tokens)?;
         let check = self.check(tokens)?;

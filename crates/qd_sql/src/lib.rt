@@ -5,11 +5,9 @@ mod expr;
 mod laws;
 mod query;
 mod stmt;
-#[cfg(test)]
-mod tests;
 
 pub use laws::{refusals_have_causes, statements_stand, texts_are_answered};
-pub use qd_trees::{
+pub use qd_sql_ast::{
     AddOp, AddTerm, AggOf, AlignTo, AndNeg, Boxed, Check, Cmp, Column, ColumnDef, Conj, Create,
     Dedup, Expr, FillWith, Fills, Filter, Insert, Item, Items, Join, JoinOf, Latest, Limit, Lit,
     Magnitude, MulOp, MulSigned, Name, Neg, Number, OrConj, OrderKey, Plus, Prime, Query, Sampled,

@@ -1,16 +1,16 @@
 //! The rules of queries.
 ghost use Rattle.std.specs.Prelude.{◌≡◌};
 ghost use Rattle.qd_sql.specs.Queries as spec;
-ghost use Rattle.qd_trees.specs.Steps.{Reads, Takes};
+ghost use Rattle.qd_sql_ast.specs.Steps.{Reads, Takes};
 
 use crate::expr::{column, expr};
 use qd_base::{MAX_NESTING, Seq};
-use qd_tokens::Kind;
-use qd_trees::{
+use qd_sql_ast::{
     AggOf, AlignTo, Column, Cursor, Expr, FillWith, Fills, Filter, Item, Join, JoinOf, Latest,
     Limit, Name, OrderKey, Query, Sampled, Selected, Shown, Source, Stop, Text, list,
     names_to_bracket,
 };
+use qd_sql_lexer::Kind;
 use std::alloc::Global;
 
 /// An expression of a query. It is one level, and each bracket in it one more.

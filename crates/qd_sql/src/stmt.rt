@@ -2,14 +2,14 @@
 ghost use Rattle.std.specs.Prelude.{◌≡◌, length};
 ghost use Rattle.qd_sql.specs.Statement as spec;
 ghost use Rattle.qd_sql.specs.Statement.{Answers};
-ghost use Rattle.qd_trees.specs.Steps.{Reads, lexemes, seen};
+ghost use Rattle.qd_sql_ast.specs.Steps.{Reads, lexemes, seen};
 
 use crate::query::query;
 use qd_base::{Code, MAX_NUMBER, MAX_STRIDE, Memory};
-use qd_tokens::{Kind, Token, tokens};
-use qd_trees::{
+use qd_sql_ast::{
     Cursor, Stmt, Stop, create, insert, is_word, number_of, same_kind, show, stride_count,
 };
+use qd_sql_lexer::{Kind, Token, tokens};
 use std::alloc::Global;
 
 /// Why a text gives no statement.

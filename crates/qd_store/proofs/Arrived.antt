@@ -12,10 +12,9 @@ use Rattle.qd_base.specs.Schemas.{schemas_from}
 use Rattle.qd_base.proofs.Tables.{schemas_of-replay}
 use Rattle.qd_catalog.specs.declared.version.Version.{Version}
 use Rattle.qd_catalog.specs.Versions.{Versions, n_of, version_at}
-use Rattle.qd_draft.specs.Arrivals.{arrivals, without_rows}
-use Rattle.qd_draft.specs.Drafts.{Drafting}
-use Rattle.qd_draft.specs.Laws.{RowsAreFew}
-use Rattle.qd_draft.proofs.ArrivalLemmas.{schemas_without}
+use Rattle.qd_apply.specs.Arrivals.{arrivals, without_rows}
+use Rattle.qd_apply.specs.Drafts.{Drafting}
+use Rattle.qd_apply.proofs.ArrivalLemmas.{schemas_without}
 use Rattle.qd_durable.specs.declared.fault.LogFault.{LogFault}
 use Rattle.qd_durable.specs.declared.fault.LogFault.TheVariants as fault
 use Rattle.qd_manifest.specs.declared.shape.TableParts.{TableParts}
@@ -26,13 +25,12 @@ use Rattle.qd_txnfile.specs.Versions as root
 use Rattle.qd_volume.specs.Disk.{Disk, Image, reads_of, file_of}
 use Rattle.qd_volume.proofs.Sound.{image_of_reads, sound_file}
 use Rattle.qd_wal.specs.Laws.{OneEntryIsRead}
-use Rattle.qd_store.specs.Damage.{IsDamagedOver, IsDraftDamage, MayHaveBlocks}
+use Rattle.qd_store.specs.Damage.{IsDamagedOver}
 use Rattle.qd_store.specs.Drafting.{AreArrived, AreSomeTaken, AreTaken, HasArrived, HasTaken, IsArrived, IsArrivedFrom}
 use Rattle.qd_store.specs.Drafts.{between}
 use Rattle.qd_store.specs.Prefixes.{IsShown}
 use Rattle.qd_store.specs.Stores.{IsStore, Store}
 use Rattle.qd_store.proofs.Between.{lawful_between, no_break, spelled_between, spelled_one}
-use Rattle.qd_store.proofs.Plausible.{plausible, rows_few}
 
 -- a draft over a version, in which nothing has arrived
 abbrev pub begun : ℕ → Version → Drafting
@@ -55,10 +53,6 @@ has_arrived next x es count upto draft d is reaches has =
 module _ (s : Store) (h : List Entry) (next : root.Version) (disk : Disk) (is : IsStore s h next disk) (x : Version) (at : version_at s.versions.versions s.versions.versions.current ≡ Some x) where
   pub shown_now : IsShown h x.n x.shape disk
   shown_now = is.versions.live s.versions.versions.current x at
-
-  -- the current version may show what it shows
-  pub may_show : RowsAreFew → MayHaveBlocks x.n x.shape
-  may_show law = plausible shown_now.blocks x.n x.shape _ shown_now.stands (rows_few law h x.n is.sequence.lawful shown_now.few)
 
   schemas_now : schemas_in x.shape ≡ schemas_from [] (take x.n h)
   schemas_now = shown_now.stands.schemas ∙ schemas_of-replay [] (take x.n h)
@@ -101,25 +95,6 @@ module _ (v : Versions) (row : ℕ) (current : row ≡ v.current) (x : Version) 
   tables_here tables of = of x (ap (λ (r : ℕ). version_at v r) current ∙ at)
 
 module _ (x : Version) (n : ℕ) (shape : List TableParts) (number : n ≡ x.n) (tables : shape ≡ x.shape) where
-  may_now : MayHaveBlocks n shape → MayHaveBlocks x.n x.shape
-  may_now may = subst (λ (k : ℕ). MayHaveBlocks k x.shape) number (subst (λ (l : List TableParts). MayHaveBlocks n l) tables may)
-
-  may_here : MayHaveBlocks x.n x.shape → MayHaveBlocks n shape
-  may_here may = subst (λ (l : List TableParts). MayHaveBlocks n l) (sym tables) (subst (λ (k : ℕ). MayHaveBlocks k x.shape) (sym number) may)
-
-  -- the current version of a told store is never refused
-  pub never_refused : (s : Store) → version_at s.versions.versions s.versions.versions.current ≡ Some x → RowsAreFew → (MayHaveBlocks n shape → ⊥)
-      → (o : Option Disk) → IfSome o (λ disk. (h : List Entry) (next : root.Version) → IsStore s h next disk → ⊥)
-  never_refused s at law refused None = tt
-  never_refused s at law refused (Some disk) = λ h next is.
-      refused (may_here (may_show s h next disk is x at law))
-
-  -- where a version is refused, it is damaged
-  pub refused_read : (s : Store) (upto : ℕ) → version_at s.versions.versions s.versions.versions.current ≡ Some x → (MayHaveBlocks n shape → ⊥)
-      → (o : Option Disk) → IfSome o (λ disk. IsDraftDamage s upto (reads_of disk) 2 1)
-  refused_read s upto at refused None = tt
-  refused_read s upto at refused (Some disk) = (x, at, IsDamagedOver.InVersion (λ may. refused (may_here may)))
-
   module _ (next from : ℕ) (draft : Drafting) (numbered : from ≡ next)
       (is : draft ≡ record { base = n; upto = n; next_block = from; shape = shape; tables = without_rows (schemas_in shape) }) where
     begins : draft ≡ begun next x
@@ -136,15 +111,14 @@ module _ (x : Version) (n : ℕ) (shape : List TableParts) (number : n ≡ x.n) 
       reaches : x.n + length (slice_range list n upto) ≡ upto
       reaches = omega (arith, ap length are, length-between refs x.n upto few, more)
 
-      pub arrived_over : (v : Versions) → v.next_block ≡ next → version_at v v.current ≡ Some x → MayHaveBlocks n shape
+      pub arrived_over : (v : Versions) → v.next_block ≡ next → version_at v v.current ≡ Some x
           → IfOk result (λ d. AreSomeTaken (length (slice_range list n upto)) draft d) → IfOk result (λ d. IsArrived v upto d)
-      arrived_over v block at may taken =
+      arrived_over v block at taken =
           IfOk-weaker result (λ d. AreSomeTaken (length (slice_range list n upto)) draft d) (λ d. IsArrived v upto d)
           (λ d some. (
             x,
             some.0,
             at,
-            may_now may,
             subst (λ (k : ℕ). HasArrived k x some.0 upto d) (sym block) (has_arrived next x some.0 (length (slice_range list n upto)) upto draft d begins reaches some.1),
           )) taken
 
@@ -158,8 +132,7 @@ module _ (x : Version) (n : ℕ) (shape : List TableParts) (number : n ≡ x.n) 
           (are ∙ ap (λ (l : List WalRef). slice_range l x.n upto) (sym refs_same)) (omega (arith, few, ap length refs_same)) taken
 
       -- whatever the files hold
-      module _ (s : Store) (block : s.versions.versions.next_block ≡ next) (refs_same : s.sequence.refs ≡ refs) (at : version_at s.versions.versions s.versions.versions.current ≡ Some x)
-          (may : MayHaveBlocks n shape) where
+      module _ (s : Store) (block : s.versions.versions.next_block ≡ next) (refs_same : s.sequence.refs ≡ refs) (at : version_at s.versions.versions s.versions.versions.current ≡ Some x) where
         places : slice_range list n upto ≡ slice_range s.sequence.refs x.n upto
         places = are ∙ ap (λ (l : List WalRef). slice_range l x.n upto) (sym refs_same)
 
@@ -171,14 +144,13 @@ module _ (x : Version) (n : ℕ) (shape : List TableParts) (number : n ≡ x.n) 
           x,
           es,
           at,
-          may_now may,
           subst (λ (l : List WalRef). AreSpelled l es image) places spelled,
           subst (λ (k : ℕ). HasArrived k x es upto d) (sym block) (has_arrived next x es (length (slice_range list n upto)) upto draft d begins reaches has),
         )
         read_here image (Err (fault.Damaged file place)) breaks = (
           x,
           at,
-          IsDamagedOver.InEntries file place (may_now may)
+          IsDamagedOver.InEntries file place
               (subst (λ (l : List WalRef). BreaksOff l (schemas_in x.shape) image file place) places
               (subst (λ (l : List Schema). BreaksOff (slice_range list n upto) l image file place) schemas_here breaks)),
         )

@@ -10,9 +10,9 @@ use Rattle.qd_base.specs.Replay.{first}
 use Rattle.qd_block.specs.Blocks.{Block}
 use Rattle.qd_catalog.specs.declared.version.Version as catalog
 use Rattle.qd_catalog.specs.Versions.{version_at}
-use Rattle.qd_draft.specs.declared.plans.Touched.{Touched}
-use Rattle.qd_draft.specs.Plans.{all_touched, read_in}
-use Rattle.qd_draft.specs.Stands.{StandsFor}
+use Rattle.qd_apply.specs.declared.plans.Touched.{Touched}
+use Rattle.qd_apply.specs.Plans.{all_touched, read_in}
+use Rattle.qd_apply.specs.Stands.{StandsFor}
 use Rattle.qd_durable.specs.declared.fault.LogFault.{LogFault}
 use Rattle.qd_durable.specs.declared.fault.LogFault.TheVariants as fault
 use Rattle.qd_manifest.specs.declared.shape.TableParts.{TableParts}

@@ -6,6 +6,7 @@ use Rattle.qd_catalog.specs.Versions.{version_at}
 use Rattle.qd_sequencer.specs.Sequences.{IsAsBefore}
 use Rattle.qd_versions.specs.Stores as versions
 use Rattle.qd_store.specs.Stores.{AreLimits, IsBook, Store}
+use Rattle.qd_base.specs.declared.limits.TheConstants.{MAX_TXNS}
 
 module _ (old new : Store) (book : IsBook old) (limits : new.limits ≡ old.limits) where
   -- as many transactions as before, and no more versions
@@ -13,7 +14,7 @@ module _ (old new : Store) (book : IsBook old) (limits : new.limits ≡ old.limi
       → ((row : ℕ) (x : catalog.Version) → version_at new.versions.versions row ≡ Some x → version_at old.versions.versions row ≡ Some x) → IsBook new
   book_same refs rows = record {
     limits = subst AreLimits (sym limits) book.limits;
-    few = subst (λ (l : List WalRef). length l ≤ 4194304) (sym refs) book.few;
+    few = subst (λ (l : List WalRef). length l ≤ MAX_TXNS) (sym refs) book.few;
     shown = λ row x at. subst (λ (l : List WalRef). x.n ≤ length l) (sym refs) (book.shown row x (rows row x at));
   }
 

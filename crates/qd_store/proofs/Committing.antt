@@ -1,5 +1,5 @@
 -- What a commit makes of a store, from what the sequencer makes of its logs.
-use Rattle.std.proofs.Common.{◌≡◌, ◌⊎◌, inr, ℕ, ◌^◌, ◌<◌, nat_eq, nat_le, true, false, ◌||◌, List, [], ◌∷◌, All, Option, Some, None, is_some, Result, Ok, Err, refl, sym, subst, arith}
+use Rattle.std.proofs.Common.{◌≡◌, ◌⊎◌, inl, inr, ℕ, ◌^◌, ◌<◌, nat_eq, nat_le, true, false, ◌||◌, List, [], ◌∷◌, All, Option, Some, None, is_some, Result, Ok, Err, refl, sym, subst, arith}
 use Rattle.std.proofs.lemmas.Bool.Decides.{nat_tests}
 use Rattle.std.proofs.lemmas.List.Elements.{All-weaker}
 use Rattle.qd_base.specs.declared.op.Entry.{Entry}
@@ -7,7 +7,7 @@ use Rattle.qd_catalog.specs.declared.version.Version as catalog
 use Rattle.qd_catalog.specs.Versions.{version_at}
 use Rattle.qd_durable.specs.Moments.{LeavesOnly}
 use Rattle.qd_durable.proofs.Moved.{leaves_weaker}
-use Rattle.qd_files.proofs.FileLemmas.{own_files}
+use Rattle.qd_column_files.proofs.FileLemmas.{own_files}
 use Rattle.qd_manifest.specs.declared.shape.TableParts.{TableParts}
 use Rattle.qd_manifest.specs.Spelling.{blocks_of}
 use Rattle.qd_sequencer.specs.Calls.{Accepts, Settles}
@@ -69,6 +69,7 @@ module _ {T E : Type 0} (result : Result T E) (old new : Store) (Own : Entry →
   committed = record {
     any_moment = at_each_moment;
     behind = λ h next is. by result accepts h next is;
+    pending = λ h next is. accepts.pending h is.sequence;
   }
     where
       by : (r : Result T E) → Accepts r old.sequence new.sequence Own before after → (h : List Entry) (next : Version) → IsStore old h next before → IsCommitted r new h next Own after
@@ -88,5 +89,6 @@ module _ {T E : Type 0} (Own : Entry → Type 0) where
         (λ image holds. may_hold old.refs h (histories.IsPending old.pending before) (λ e. Own e ⊎ histories.IsPending old.pending before e) image (λ e p. inr p) holds)
         (settles.any_moment h is);
     behind = λ h is. settles.behind h is;
+    pending = λ h is. inl (settles.pending h is);
     elsewhere = settles.elsewhere;
   }

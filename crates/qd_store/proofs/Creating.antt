@@ -8,7 +8,7 @@ use Rattle.qd_block.specs.Blocks.{Block}
 use Rattle.qd_catalog.specs.declared.version.Version as catalog
 use Rattle.qd_catalog.specs.Versions as rows
 use Rattle.qd_catalog.specs.Versions.{version_at}
-use Rattle.qd_draft.specs.Stands.{StandsFor}
+use Rattle.qd_apply.specs.Stands.{StandsFor}
 use Rattle.qd_durable.specs.Moments.{EachNow, LeavesOnly, Moves, SameBut, SameOutside}
 use Rattle.qd_durable.specs.Places.{StandsAt}
 use Rattle.qd_durable.proofs.Moved.{leaves_both, moments_have, moves_weaker, now_has, outside_but}

@@ -13,10 +13,10 @@ use Rattle.qd_base.specs.Replay.{first}
 use Rattle.qd_block.specs.Blocks.{Block}
 use Rattle.qd_catalog.specs.declared.version.Version.{Version}
 use Rattle.qd_catalog.specs.Versions.{current_n, n_of, version_at}
-use Rattle.qd_draft.specs.Drafts.{Drafting}
-use Rattle.qd_draft.specs.Laws.{RowsAreFew}
-use Rattle.qd_draft.specs.Plans.{all_touched, read_in, with_batch}
-use Rattle.qd_draft.specs.Stands.{StandsFor}
+use Rattle.qd_apply.specs.Drafts.{Drafting}
+use Rattle.qd_apply.specs.Laws.{RowsAreFew}
+use Rattle.qd_apply.specs.Plans.{all_touched, read_in, with_batch}
+use Rattle.qd_apply.specs.Stands.{StandsFor}
 use Rattle.qd_durable.specs.declared.fault.LogFault.{LogFault}
 use Rattle.qd_durable.specs.declared.fault.LogFault.TheVariants as fault
 use Rattle.qd_manifest.specs.declared.shape.TheConstants.{BLOCKS_PER_TRANSACTION}
@@ -32,7 +32,7 @@ use Rattle.qd_store.proofs.Arrived.{shown_now}
 use Rattle.qd_store.proofs.Between.{replay_between}
 use Rattle.qd_store.proofs.BlocksRead.{same_cause}
 use Rattle.qd_store.proofs.Fills.{drafted}
-use Rattle.qd_store.proofs.Plausible.{rows_few}
+use Rattle.qd_store.proofs.FewRows.{rows_few}
 
 -- the plan of what has arrived
 planned : (next : ℕ) (x : Version) (es : List Entry) (upto : ℕ) (arrived plan : Drafting) → HasArrived next x es upto arrived
@@ -52,12 +52,12 @@ module _ (v : versions.Store) (law : versions.IsStore v) (upto : ℕ) (arrived :
         let x = is.0 in
         let es = is.1 in
         let next = v.versions.next_block in
-        let counted : x.n + length es ≡ upto = is.4.counted in
+        let counted : x.n + length es ≡ upto = is.3.counted in
         let room : x.n + length es ≤ 2 ^ 30 = omega (arith, counted, few) in
-        let so : plan ≡ plan_of next x es = planned next x es upto arrived plan is.4 plan_is in
+        let so : plan ≡ plan_of next x es = planned next x es upto arrived plan is.3 plan_is in
         let some : 0 < length es = omega (arith, counted, more x.n (ap n_of is.2)) in
         let same : AreRead x.shape (plan_of next x es).tables blocks = subst (λ (p : Drafting). AreRead p.shape p.tables blocks) so read in
-        (x, is.2, drafted next x es (record { plan = plan; blocks = blocks }) (law.current x is.2).sound is.3 is.4.lawful some room so same)
+        (x, is.2, drafted next x es (record { plan = plan; blocks = blocks }) (law.current x is.2).sound is.3.lawful some room so same)
 
 -- ---- of a history
 
@@ -146,10 +146,10 @@ module _ {T : Type 0} (result : Result T LogFault) (cause : LogFault) (failed : 
   -- behind that
   module _ {B : Type 0} (blocks : Result B LogFault) (lost : blocks ≡ Err cause) (arrived plan : Drafting) (plan_is : plan ≡ record arrived { tables = map with_batch arrived.tables }) where
     in_blocks : (image : Image) (file at : ℕ) → AreArrived (Ok arrived) s upto image → LosesBlock (all_touched 0 plan.shape plan.tables) plan.shape image file at → IsDraftDamage s upto image file at
-    in_blocks image file at (x, es, current, may, spelled, has) loses = (
+    in_blocks image file at (x, es, current, spelled, has) loses = (
       x,
       current,
-      IsDamagedOver.InBlocks es file at may spelled has.lawful
+      IsDamagedOver.InBlocks es file at spelled has.lawful
           (subst (λ (p : Drafting). LosesBlock (all_touched 0 p.shape p.tables) p.shape image file at) (planned s.versions.versions.next_block x es upto arrived plan has plan_is) loses),
     )
 

@@ -17,16 +17,15 @@ use Rattle.qd_block.specs.Blocks.{Block}
 use Rattle.qd_catalog.specs.declared.version.Version.{Version}
 use Rattle.qd_manifest.specs.declared.shape.TableParts.{TableParts}
 use Rattle.qd_manifest.specs.declared.shape.TheConstants.{BLOCKS_PER_TRANSACTION}
-use Rattle.qd_manifest.specs.Spelling.{schemas_in, AreParts, IsManifest}
+use Rattle.qd_manifest.specs.Spelling.{rows_shown, schemas_in, AreParts, IsManifest}
 use Rattle.qd_merge.proofs.Wide.{map-map}
 use Rattle.qd_rows.specs.Sets.{absent}
 use Rattle.qd_scan.specs.Sources.{table_rows}
-use Rattle.qd_draft.specs.declared.plans.Touched.{Touched}
-use Rattle.qd_draft.specs.Plans.{all_touched, read_in}
-use Rattle.qd_draft.specs.Stands.{rows_in_parts, StandsFor}
-use Rattle.qd_draft.proofs.ShapeLemmas.{shown}
+use Rattle.qd_apply.specs.declared.plans.Touched.{Touched}
+use Rattle.qd_apply.specs.Plans.{all_touched, read_in}
+use Rattle.qd_apply.specs.Stands.{rows_in_parts, StandsFor}
+use Rattle.qd_apply.proofs.ShapeLemmas.{shown}
 use Rattle.qd_versions.specs.Stores.{manifest_in}
-use Rattle.qd_store.specs.Damage.{rows_shown, HasItsTimes, MayHaveBlocks}
 use Rattle.qd_store.specs.Drafting.{AreRead, IsReadOf}
 use Rattle.qd_store.specs.Drafts.{plan_of, Drafted, IsDraftInto}
 use Rattle.qd_store.proofs.Fillers.{Fits, filler, filler_fits}
@@ -100,21 +99,21 @@ shown_few most contents (t ∷ ts) few have =
 -- ---- a version has fillers
 
 have_fillers : (shape : List TableParts) → AreSchemas (schemas_in shape) → All (λ (t : TableParts). AreParts t.schema t.parts) shape
-    → All (λ (t : TableParts). All HasItsTimes t.parts) shape → HaveFillers (placed shape)
-have_fillers shape schemas parts timed =
+    → HaveFillers (placed shape)
+have_fillers shape schemas parts =
     let sound : All (λ (t : TableParts). IsSchema t.schema) shape =
     All-from_recursion (λ (t : TableParts). IsSchema t.schema) shape (each-from_map (λ (t : TableParts). t.schema) IsSchema shape (recursion_from_All IsSchema (schemas_in shape) schemas.each)) in
     each_placed (λ (x : Placed). Fits x.schema x.part (filler x.schema x.part)) shape
-    (λ k d lt i e within. filler_fits (get_or shape k d).schema (get_or (get_or shape k d).parts i e) (sound k d lt) ((parts k d lt).each i e within) (timed k d lt i e within))
+    (λ k d lt i e within. filler_fits (get_or shape k d).schema (get_or (get_or shape k d).parts i e) (sound k d lt) ((parts k d lt).each i e within) ((parts k d lt).each i e within).one_time)
 
--- A version whose manifest is sound, and that may have blocks, has them: those of the parts that a merge reads are the
--- ones at hand. The database that it then stands for has room for the transactions.
+-- A version whose manifest is sound may have blocks: those of the parts that a merge reads are the ones at hand. The database that it
+-- then stands for has room for the transactions.
 pub filled : (next : ℕ) (x : Version) (es : List Entry) (blocks : List Block)
-    → IsManifest x.n (manifest_in next x.shape) → MayHaveBlocks x.n x.shape → LawfulFrom (schemas_in x.shape) es
+    → IsManifest x.n (manifest_in next x.shape) → LawfulFrom (schemas_in x.shape) es
     → x.n + length es ≤ 2 ^ 30
     → AreRead x.shape (plan_of next x es).tables blocks
     → (contents : ℕ → Block) × (db : Database) × StandsFor contents x.shape db × (schemas_of db ≡ schemas_in x.shape) × (blocks ≡ read_in contents x.shape (plan_of next x es).tables) × All (λ (t : StoredTable). length t.rows < 2 ^ 64) (replay db es)
-filled next x es blocks manifest may lawful room read =
+filled next x es blocks manifest lawful room read =
     let shape : List TableParts = x.shape in
     let list : List Placed = placed shape in
     let ts : List StoredTable = (plan_of next x es).tables in
@@ -122,7 +121,7 @@ filled next x es blocks manifest may lawful room read =
     let contents : ℕ → Block = chosen ns blocks (fillers list) in
     let db : Database = shown contents shape in
     let apart : IsDistinct nat_eq (map number list) = subst (IsDistinct nat_eq) (sym (numbers_are shape)) manifest.distinct in
-    let fill = have_fillers shape manifest.schemas manifest.parts may.timed in
+    let fill = have_fillers shape manifest.schemas manifest.parts in
     let zip : AllZip (Serves list) ns blocks = reads_serve shape apart ts blocks read in
     let serve : (n : ℕ) → Serves list n (contents n) = chosen_serve list ns blocks (fillers list) zip (λ n. fillers_serve list n apart fill) in
     let have : HaveBlocks contents shape = of_each (λ (y : Placed). Fits y.schema y.part (contents (number y))) shape (own_fits contents list serve) in
@@ -130,7 +129,7 @@ filled next x es blocks manifest may lawful room read =
     let same : schemas_of db ≡ schemas_in shape = sym stands.schemas in
     let are : map contents ns ≡ blocks = chosen_are (Serves list) ns blocks (fillers list) (numbers_apart shape ts manifest.distinct) zip in
     let most : ℕ = x.n * BLOCKS_PER_TRANSACTION in
-    let few = shown_few most contents shape may.few have in
+    let few = shown_few most contents shape manifest.few have in
     let grown = replay_few most db es (subst AreSchemas (sym same) manifest.schemas) (subst (λ (l : List Schema). LawfulFrom l es) (sym same) lawful) few in (
       contents,
       db,
@@ -142,12 +141,12 @@ filled next x es blocks manifest may lawful room read =
 
 -- So transactions that come behind such a version, planned, with the blocks that their merge reads, are a draft into it.
 pub drafted : (next : ℕ) (x : Version) (es : List Entry) (d : Drafted)
-    → IsManifest x.n (manifest_in next x.shape) → MayHaveBlocks x.n x.shape → LawfulFrom (schemas_in x.shape) es
+    → IsManifest x.n (manifest_in next x.shape) → LawfulFrom (schemas_in x.shape) es
     → 0 < length es → x.n + length es ≤ 2 ^ 30
     → d.plan ≡ plan_of next x es → AreRead x.shape (plan_of next x es).tables d.blocks
     → IsDraftInto next x d
-drafted next x es d manifest may lawful some room plan read =
-    let found = filled next x es d.blocks manifest may lawful room read in (
+drafted next x es d manifest lawful some room plan read =
+    let found = filled next x es d.blocks manifest lawful room read in (
       es,
       found.0,
       found.1,

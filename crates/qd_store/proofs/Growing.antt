@@ -20,7 +20,7 @@ use Rattle.qd_base.proofs.Lawful.{AreSchemas-ops, AreSchemas-step, get-below, Ha
 use Rattle.qd_base.proofs.Tables.{each-at_name, schemas_of-commit, schemas_of-step}
 use Rattle.qd_manifest.specs.declared.shape.TheConstants.{BLOCKS_PER_TRANSACTION}
 use Rattle.qd_merge.proofs.Batches.{put-moves}
-use Rattle.qd_draft.proofs.EachLemmas.{each_append, each_then}
+use Rattle.qd_apply.proofs.EachLemmas.{each_append, each_then}
 
 -- ---- rows that are put
 

@@ -4,10 +4,10 @@ use Rattle.qd_base.specs.declared.op.Entry.{Entry}
 use Rattle.qd_base.specs.Database.{StoredTable}
 use Rattle.qd_manifest.specs.declared.shape.TableParts.{TableParts}
 use Rattle.qd_manifest.specs.Spelling.{schemas_in}
-use Rattle.qd_draft.specs.Arrivals.{arrivals, rest, without_rows}
-use Rattle.qd_draft.specs.Plans.{with_batch}
-use Rattle.qd_draft.proofs.ShapeLemmas.{AreGrown, FirstGrows}
-use Rattle.qd_draft.proofs.VersionLemmas.{grown_entries, none_grown}
+use Rattle.qd_apply.specs.Arrivals.{arrivals, rest, without_rows}
+use Rattle.qd_apply.specs.Plans.{with_batch}
+use Rattle.qd_apply.proofs.ShapeLemmas.{AreGrown, FirstGrows}
+use Rattle.qd_apply.proofs.VersionLemmas.{grown_entries, none_grown}
 
 -- the same tables with their batches in place of the rows that wait
 grown_batches : (shape : List TableParts) (ts : List StoredTable) → AreGrown shape ts → AreGrown shape (map with_batch ts)

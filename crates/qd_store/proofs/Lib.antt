@@ -27,7 +27,7 @@ pub mod Fills
 pub mod BlocksRead
 pub mod Between
 pub mod Taking
-pub mod Plausible
+pub mod FewRows
 pub mod Arrived
 pub mod Drafted
 pub mod NewNumbers
@@ -40,4 +40,4 @@ pub mod PublishedMerged
 pub mod Books
 pub mod Settled
 pub mod Rounds
-pub mod Shown
+pub mod GoingOn

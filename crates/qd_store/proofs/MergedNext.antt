@@ -5,11 +5,11 @@ use Rattle.qd_base.specs.declared.op.Entry.{Entry}
 use Rattle.qd_base.specs.Database.{Database}
 use Rattle.qd_block.specs.Blocks.{Block}
 use Rattle.qd_catalog.specs.declared.version.Version.{Version}
-use Rattle.qd_draft.specs.Arrivals.{arrivals}
-use Rattle.qd_draft.specs.Drafts.{Drafting}
-use Rattle.qd_draft.specs.Next.{all_made, made_after, shape_after}
-use Rattle.qd_draft.specs.Plans.{read_in}
-use Rattle.qd_draft.proofs.ServeLemmas.{made_again, shape_again}
+use Rattle.qd_apply.specs.Arrivals.{arrivals}
+use Rattle.qd_apply.specs.Drafts.{Drafting}
+use Rattle.qd_apply.specs.Next.{all_made, made_after, shape_after}
+use Rattle.qd_apply.specs.Plans.{read_in}
+use Rattle.qd_apply.proofs.ServeLemmas.{made_again, shape_again}
 use Rattle.qd_manifest.specs.Spelling.{schemas_in}
 use Rattle.qd_versions.specs.declared.published.NewBlock.{NewBlock}
 use Rattle.qd_versions.specs.Publishing.{AreNumbered}

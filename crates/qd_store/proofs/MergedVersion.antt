@@ -9,10 +9,10 @@ use Rattle.qd_base.specs.Replay.{replay}
 use Rattle.qd_block.specs.Blocks.{Block}
 use Rattle.qd_catalog.specs.declared.version.Version as catalog
 use Rattle.qd_catalog.specs.Versions.{Versions, lists, n_of, version_at}
-use Rattle.qd_draft.specs.Arrivals.{arrivals}
-use Rattle.qd_draft.specs.Laws.{Merges, MergingStands}
-use Rattle.qd_draft.specs.Next.{made_after, versions_blocks}
-use Rattle.qd_draft.specs.Stands.{StandsFor}
+use Rattle.qd_apply.specs.Arrivals.{arrivals}
+use Rattle.qd_apply.specs.Laws.{Merges, MergingStands}
+use Rattle.qd_apply.specs.Next.{made_after, versions_blocks}
+use Rattle.qd_apply.specs.Stands.{StandsFor}
 use Rattle.qd_manifest.specs.declared.shape.TableParts.{TableParts}
 use Rattle.qd_manifest.specs.Spelling.{IsManifest, blocks_of, schemas_in}
 use Rattle.qd_rows.specs.Sets.{no_block}

@@ -14,10 +14,10 @@ use Rattle.qd_merge.specs.declared.plan.Act.{Act}
 use Rattle.qd_merge.specs.declared.plan.Act.TheVariants as act
 use Rattle.qd_merge.proofs.Wide.{map-map}
 use Rattle.qd_rows.specs.Sets.{no_block}
-use Rattle.qd_draft.specs.Arrivals.{rest}
-use Rattle.qd_draft.specs.Next.{acts_of, all_made, batch_of, blocks_after, blocks_made, first_parts, no_piece, pieces_after, pieces_in, shape_after, table_after, table_made, Piece}
-use Rattle.qd_draft.proofs.EachLemmas.{each_then}
-use Rattle.qd_draft.proofs.ShapeLemmas.{shape_numbers}
+use Rattle.qd_apply.specs.Arrivals.{rest}
+use Rattle.qd_apply.specs.Next.{acts_of, all_made, batch_of, blocks_after, blocks_made, first_parts, no_piece, pieces_after, pieces_in, shape_after, table_after, table_made, Piece}
+use Rattle.qd_apply.proofs.EachLemmas.{each_then}
+use Rattle.qd_apply.proofs.ShapeLemmas.{shape_numbers}
 use Rattle.qd_versions.proofs.Blocks.{in_listed}
 
 -- ---- lists of numbers

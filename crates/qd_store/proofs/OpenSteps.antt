@@ -31,6 +31,7 @@ use Rattle.qd_store.specs.Stores.{AreLimits, IsBook, Store}
 use Rattle.qd_store.proofs.OpenedStore.{one_of_it, row_of_it}
 use Rattle.qd_store.proofs.OpenTold as told
 use Rattle.qd_store.proofs.OpenTold.{HasLog, HasRoot, HasSynced, synced_none, synced_one}
+use Rattle.qd_base.specs.declared.limits.TheConstants.{MAX_TXNS}
 
 -- a call that leaves a volume, and says a fact of it
 told_with : (P : Disk → Disk → Type 0) (Q : Disk → Type 0) (R : Disk → Disk → Type 0) (before now later : Option Disk) → Told before now P → later ≡ now → IfSome now Q → ((a b : Disk) → P a b → Q b → R a b) → Told before later R
@@ -104,12 +105,12 @@ module _ (lists : OneListIsGiven) (roots : OneVersionIsGiven) (manifests : OneMa
       (subst (λ (k : ℕ). IfSome between (IsTakenOver (Err e) refs k schemas)) number over)
       (λ a b root over. told.entries_failed lists roots manifests refs v m sound opened schemas schemas_are a b root e over)
 
-  pub store_opened : (s : Store) → s.versions ≡ v → s.sequence.refs ≡ refs → IfSome between (IsTakenOver (Ok s.sequence) refs n schemas) → Told old now (Opens (Ok s))
-  store_opened s versions_are refs_same over = told_with (HasRoot refs v) (IsTakenOver (Ok s.sequence) refs v.root.n schemas) (Opens (Ok s)) old between now has same
+  pub store_opened : DamagedGivesNone → DamagedGivesNoStore → v.root.n ≤ length refs → (s : Store) → s.versions ≡ v → s.sequence.refs ≡ refs → IfSome between (IsTakenOver (Ok s.sequence) refs n schemas) → Told old now (Opens (Ok s))
+  store_opened log_none none few s versions_are refs_same over = told_with (HasRoot refs v) (IsTakenOver (Ok s.sequence) refs v.root.n schemas) (Opens (Ok s)) old between now has same
       (subst (λ (k : ℕ). IfSome between (IsTakenOver (Ok s.sequence) refs k schemas)) number over)
-      (λ a b root over. told.store_opened lists roots manifests refs v m sound opened schemas schemas_are a b root s versions_are refs_same over)
+      (λ a b root over. told.store_opened lists roots manifests refs v m sound opened schemas schemas_are a b root log_none none few s versions_are refs_same over)
 
-pub book_of_one : (s : Store) (m : Manifest) → AreLimits s.limits → length s.sequence.refs ≤ 4194304 → rows.IsOpened s.versions.versions s.versions.root.n m.next_block m.shape → s.versions.root.n ≤ length s.sequence.refs → IsBook s
+pub book_of_one : (s : Store) (m : Manifest) → AreLimits s.limits → length s.sequence.refs ≤ MAX_TXNS → rows.IsOpened s.versions.versions s.versions.root.n m.next_block m.shape → s.versions.root.n ≤ length s.sequence.refs → IsBook s
 book_of_one s m limits few opened all = record {
   limits = limits;
   few = few;

@@ -1,5 +1,6 @@
 -- What an opening makes of a told volume, step by step.
 use Rattle.std.proofs.Common.{◌≡◌, inl, inr, ℕ, ◌≤◌, false, List, [], ◌∷◌, length, drop, None, Ok, Err, refl, sym, ◌∙◌, ap, subst, arith}
+use Rattle.qd_base.specs.declared.op.Entry.{Entry}
 use Rattle.qd_base.specs.declared.part.WalRef.{WalRef}
 use Rattle.qd_base.specs.declared.schema.Schema.{Schema}
 use Rattle.qd_base.specs.Schemas.{schemas_step}
@@ -22,15 +23,16 @@ use Rattle.qd_seq.specs.Layout.{GivesList, SpellsLog}
 use Rattle.qd_seq.specs.Damage.{IsDamaged as LogDamaged}
 use Rattle.qd_seq.specs.Opening as log
 use Rattle.qd_seq.specs.States.{Knows, Log}
-use Rattle.qd_sequencer.specs.Reading.{BreaksOff, IsBroken, IsGood, IsLogged, IsTakenOver}
+use Rattle.qd_sequencer.specs.Reading.{AreRead, BreaksOff, IsBroken, IsGood, IsLogged, IsTakenOver}
 use Rattle.qd_sequencer.proofs.Held.{spelled_long}
+use Rattle.qd_sequencer.proofs.ReadLemmas.{no_break}
 use Rattle.qd_txnfile.specs.Laws.{OneVersionIsGiven}
 use Rattle.qd_txnfile.specs.Versions.{GivesVersion, Version}
 use Rattle.qd_versions.proofs.Kept.{files_same, gives_kept}
 use Rattle.qd_versions.specs.Laws.{DamagedGivesNoStore}
 use Rattle.qd_versions.specs.Opening as versions
 use Rattle.qd_versions.specs.Stores as stores
-use Rattle.qd_versions.specs.Stores.{IsRooted, current_version}
+use Rattle.qd_versions.specs.Stores.{IsRooted, current_version, stored}
 use Rattle.qd_volume.specs.Disk.{Disk, Image, changed, file_of, images_now, reads_of}
 use Rattle.qd_volume.specs.Files.{Synced}
 use Rattle.qd_volume.proofs.Sound.{image_of_reads, sound_file}
@@ -38,9 +40,9 @@ use Rattle.qd_store.specs.declared.fault.OpenFault.TheVariants as fault
 use Rattle.qd_store.specs.Faults.{open_damage, open_fault}
 use Rattle.qd_store.specs.Marks.{IsMade}
 use Rattle.qd_store.specs.Found.{Finds, Found, IsWhole, version_of}
-use Rattle.qd_store.specs.Opening.{IsDamaged, IsOpened, Opens}
+use Rattle.qd_store.specs.Opening.{InEntries, InLog, InVersions, IsDamaged, IsOpened, IsUndamaged, Opens}
 use Rattle.qd_store.specs.Stores.{HasVersions, Store}
-use Rattle.qd_store.proofs.Opened.{logged_there, made_there, refs_are, shown_there, version_is}
+use Rattle.qd_store.proofs.Opened.{logged_there, made_there, refs_are, same_found, shown_there, version_is}
 use Rattle.qd_store.proofs.OpenedStore.{number_is, opened_versions, shape_is, version_of_it}
 
 -- files were synced, and read as they did
@@ -215,8 +217,50 @@ module _ (lists : OneListIsGiven) (roots : OneVersionIsGiven) (manifests : OneMa
     images = has.log.synced.images;
   }
 
-  pub store_opened : (s : Store) → s.versions ≡ v → s.sequence.refs ≡ refs → IsTakenOver (Ok s.sequence) refs v.root.n schemas after → Opens (Ok s) before after
-  store_opened s versions_are refs_same over = record {
+  -- where the transactions behind the version were read, no place is damaged
+  module _ (log_none : DamagedGivesNone) (none : DamagedGivesNoStore) (few : v.root.n ≤ length refs) (new : List Schema) (es : List Entry)
+      (read : AreRead (drop v.root.n refs) schemas new (reads_of after) es) where
+    version_read : GivesVersion (stored v.root.n m.next_block m.shape) (reads_of before)
+    version_read = subst (λ (w : Version). GivesVersion w (reads_of before)) (version_of_it v.versions v.root.n m.next_block m.shape opened) has.read
+
+    -- two manifests that the files give are one
+    one_found : (n : ℕ) (k : Manifest) → IsManifest n k → GivesVersion (stored n k.next_block k.shape) (reads_of before) → (n ≡ v.root.n) × (k ≡ m)
+    one_found n k other gives =
+        same_found manifests (record { refs = []; history = []; n = n; manifest = k }) (record { refs = []; history = []; n = v.root.n; manifest = m }) other sound
+        (roots (reads_of before) (stored n k.next_block k.shape) (stored v.root.n m.next_block m.shape) gives version_read)
+
+    entries_read : (n : ℕ) (k : Manifest) (file at : ℕ) → n ≡ v.root.n → k ≡ m → BreaksOff (drop n refs) (schemas_in k.shape) (reads_of before) file at → ⊥
+    entries_read n k file at n_is k_is breaks =
+        let here : BreaksOff (drop v.root.n refs) (schemas_in m.shape) (reads_of before) file at =
+        subst (λ (i : ℕ). BreaksOff (drop i refs) (schemas_in m.shape) (reads_of before) file at) n_is
+        (subst (λ (x : Manifest). BreaksOff (drop n refs) (schemas_in x.shape) (reads_of before) file at) k_is breaks) in
+        no_break (drop v.root.n refs) es schemas (reads_of after) file at read.spelled read.lawful
+        (breaks_respects (drop v.root.n refs) schemas (reads_of before) (reads_of after) has.log.synced.reads file at
+        (subst (λ (l : List Schema). BreaksOff (drop v.root.n refs) l (reads_of before) file at) (sym schemas_are) here))
+
+    -- the log of these references
+    module _ (others : List WalRef) (gives : GivesList others (reads_of before)) where
+      one_list : others ≡ refs
+      one_list = lists (reads_of before 1) others refs gives has.log.read
+
+      pub versions_whole : (file at : ℕ) → versions.IsDamaged (length others) (reads_of before) file at → ⊥
+      versions_whole file at damaged =
+          none (length refs) (reads_of before) (stored v.root.n m.next_block m.shape) m file at
+          (subst (λ (l : List WalRef). versions.IsDamaged (length l) (reads_of before) file at) one_list damaged) version_read few
+          (record { sound = sound; whole = refl })
+
+      pub entries_whole : (n : ℕ) (k : Manifest) (file at : ℕ) → IsManifest n k → GivesVersion (stored n k.next_block k.shape) (reads_of before) → BreaksOff (drop n others) (schemas_in k.shape) (reads_of before) file at → ⊥
+      entries_whole n k file at other given breaks =
+          let one = one_found n k other given in
+          entries_read n k file at one.0 one.1 (subst (λ (l : List WalRef). BreaksOff (drop n l) (schemas_in k.shape) (reads_of before) file at) one_list breaks)
+
+    pub undamaged : IsUndamaged (reads_of before)
+    undamaged file at (InLog place damaged) = log_none (reads_of before 1) refs place damaged has.log.read
+    undamaged file at (InVersions others place byte gives damaged) = versions_whole others gives place byte damaged
+    undamaged file at (InEntries others n k place byte gives other given breaks) = entries_whole others gives n k place byte other given breaks
+
+  pub store_opened : DamagedGivesNone → DamagedGivesNoStore → v.root.n ≤ length refs → (s : Store) → s.versions ≡ v → s.sequence.refs ≡ refs → IsTakenOver (Ok s.sequence) refs v.root.n schemas after → Opens (Ok s) before after
+  store_opened log_none none few s versions_are refs_same over = record {
     found = (
       has.log.made,
       λ whole g finds.
@@ -225,7 +269,7 @@ module _ (lists : OneListIsGiven) (roots : OneVersionIsGiven) (manifests : OneMa
             refs = refs_same ∙ refs_are lists roots manifests before after whole g finds (reads_now before) has.log.synced.images.now refs has.log.read has.log.now (current_version v.versions) has.read has.now;
             shown = ap (λ (x : stores.Store). x.root.n) versions_are ∙ number_is manifests v m sound opened g finds.manifest is;
             stands = λ next. record {
-              sequence = over g.history (found_here whole g finds);
+              sequence = over.1 g.history (found_here whole g finds);
               versions = subst (λ (x : stores.Store). HasVersions x g.history next after) (sym versions_are)
                   (opened_versions manifests v m sound opened g finds.manifest is after next
                   (made_there lists roots manifests before after whole g finds (reads_now before) has.log.synced.images.now refs has.log.read has.log.now (current_version v.versions) has.read has.now)
@@ -233,6 +277,7 @@ module _ (lists : OneListIsGiven) (roots : OneVersionIsGiven) (manifests : OneMa
                   (shown_there lists roots manifests before after whole g finds (reads_now before) has.log.synced.images.now refs has.log.read has.log.now (current_version v.versions) has.read has.now));
             };
           },
+      undamaged log_none none few s.sequence.schemas over.0.0 over.0.1,
     );
     reads = has.log.synced.reads;
     images = has.log.synced.images;

@@ -9,7 +9,7 @@ use Rattle.qd_base.specs.Replay.{first}
 use Rattle.qd_base.proofs.Tables.{schemas_of-replay}
 use Rattle.qd_durable.specs.Moments.{ComesFrom, EachNow, SameBut}
 use Rattle.qd_durable.specs.Places.{StandsAt}
-use Rattle.qd_files.specs.Files.{HoldsBlock}
+use Rattle.qd_column_files.specs.Files.{HoldsBlock}
 use Rattle.qd_manifest.specs.declared.shape.Manifest.{Manifest}
 use Rattle.qd_manifest.specs.declared.shape.TableParts.{TableParts}
 use Rattle.qd_manifest.specs.Laws.{OneManifestIsSpelled}
@@ -28,11 +28,12 @@ use Rattle.qd_versions.proofs.Kept.{files_same, gives_kept}
 use Rattle.qd_volume.specs.Disk.{Disk, Image, images_now, reads_of}
 use Rattle.qd_wal.specs.Reading.{SpellsAt}
 use Rattle.qd_wal.specs.Segments.{file_in, part_at}
-use Rattle.qd_entry.specs.Spelling.{SpellsEntry}
+use Rattle.qd_wal_entry.specs.Spelling.{SpellsEntry}
 use Rattle.qd_store.specs.Marks.{IsMade}
 use Rattle.qd_store.specs.Prefixes.{HoldsBlocks, IsShown}
 use Rattle.qd_store.specs.Found.{Agree, Finds, Found, IsWhole, version_of}
 use Rattle.qd_store.proofs.Sides.{blocks_kept, blocks_each}
+use Rattle.qd_base.specs.declared.limits.TheConstants.{MAX_TXNS}
 
 -- ---- lists
 
@@ -97,7 +98,7 @@ same_found one f g sound other same =
       one f.n g.n (manifest_bytes f.manifest) f.manifest g.manifest (record { sound = sound; whole = refl }) (record { sound = other; whole = bytes }),
     )
 
-low_block : (n next b : ℕ) → b < next → next ≤ n * BLOCKS_PER_TRANSACTION → n ≤ 4194304 → b < 2 ^ 52
+low_block : (n next b : ℕ) → b < next → next ≤ n * BLOCKS_PER_TRANSACTION → n ≤ MAX_TXNS → b < 2 ^ 52
 low_block n next b low most few = omega (arith, low, most, few)
 
 -- ---- a whole volume, of which each file reads as it did
@@ -163,7 +164,7 @@ module _ (lists : OneListIsGiven) (roots : OneVersionIsGiven) (manifests : OneMa
   history_long : length f.history ≡ length f.refs
   history_long = sym (spelled_long f.refs f.history (reads_of before) finds.history.spelled)
 
-  pub few_shown : f.n ≤ 4194304
+  pub few_shown : f.n ≤ MAX_TXNS
   few_shown = omega (arith, finds.few, history_long, finds.history.gives.records.few)
 
   pub blocks_small : All (λ b. b < 2 ^ 52) (blocks_of f.manifest.shape)

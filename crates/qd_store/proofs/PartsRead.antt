@@ -10,13 +10,13 @@ use Rattle.qd_base.specs.Database.{Database, StoredTable}
 use Rattle.qd_base.specs.Replay.{first}
 use Rattle.qd_base.specs.Rows.{Row, time_of}
 use Rattle.qd_block.specs.Blocks.{Block, IsWhole}
-use Rattle.qd_draft.specs.Stands.{StandsFor, rows_in_parts}
+use Rattle.qd_apply.specs.Stands.{StandsFor, rows_in_parts}
 use Rattle.qd_durable.specs.declared.fault.LogFault.{LogFault}
 use Rattle.qd_durable.specs.declared.fault.LogFault.TheVariants as fault
-use Rattle.qd_files.specs.Files.{HoldsBlock}
-use Rattle.qd_files.specs.Laws.{OneBlockIsHeld}
-use Rattle.qd_files.specs.Reading.{IsBlockRead}
-use Rattle.qd_files.proofs.Below.{reads_left}
+use Rattle.qd_column_files.specs.Files.{HoldsBlock}
+use Rattle.qd_column_files.specs.Laws.{OneBlockIsHeld}
+use Rattle.qd_column_files.specs.Reading.{IsBlockRead}
+use Rattle.qd_column_files.proofs.Below.{reads_left}
 use Rattle.qd_manifest.specs.declared.shape.TableParts.{TableParts}
 use Rattle.qd_manifest.specs.Spelling.{blocks_of, no_part, AreParts, IsPart}
 use Rattle.qd_scan.specs.Sources.{rows_at, rows_between, rows_in_part, table_rows, IsBlockOf}

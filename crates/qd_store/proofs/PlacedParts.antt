@@ -10,7 +10,7 @@ use Rattle.qd_base.proofs.Lists.{each-from_map}
 use Rattle.qd_manifest.specs.declared.shape.TableParts.{TableParts}
 use Rattle.qd_manifest.specs.Spelling.{blocks_of}
 use Rattle.qd_merge.proofs.Wide.{map-map}
-use Rattle.qd_draft.proofs.EachLemmas.{each_append, each_back, each_front, each_map}
+use Rattle.qd_apply.proofs.EachLemmas.{each_append, each_back, each_front, each_map}
 
 pub record Placed : Type 0 where
   pub schema : Schema

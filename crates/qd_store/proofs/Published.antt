@@ -6,17 +6,20 @@ use Rattle.qd_catalog.specs.Versions.{Adds, SameVersions}
 use Rattle.qd_durable.specs.Moments.{Told}
 use Rattle.qd_durable.proofs.Writes.{told_map}
 use Rattle.qd_manifest.specs.declared.shape.TableParts.{TableParts}
+use Rattle.qd_sequencer.specs.Calls.{PendsAsBefore}
 use Rattle.qd_sequencer.specs.Laws.{OtherFilesLeaveTheSequence}
+use Rattle.qd_sequencer.specs.Sequences.{Sequence}
 use Rattle.qd_txnfile.specs.Versions.{Version}
 use Rattle.qd_versions.specs.declared.published.NewBlock.{NewBlock}
 use Rattle.qd_versions.specs.Calls as roots
-use Rattle.qd_versions.specs.Publishing.{MayPublish}
+use Rattle.qd_versions.specs.Publishing.{MayPublish, is_published_file}
 use Rattle.qd_versions.specs.Stores as versions
 use Rattle.qd_versions.specs.Stores.{IsRooted, stored}
 use Rattle.qd_volume.specs.Disk.{Disk}
 use Rattle.qd_store.specs.Calls.{IsPublished, Publishes, StandsNext}
 use Rattle.qd_store.specs.Stores.{AreLimits, IsBook, IsStore, Store}
-use Rattle.qd_store.proofs.Publishing.{failed_at_gate, failed_clean, failed_in_repair, is_published, publish_moments, set_some}
+use Rattle.qd_store.proofs.Publishing.{failed_at_gate, failed_clean, failed_in_repair, is_published, publish_elsewhere, publish_moments, set_some}
+use Rattle.qd_base.specs.declared.limits.TheConstants.{MAX_TXNS}
 
 module _ {E : Type 0} (result : Result ℕ E) (old new : Store) (n : ℕ) (shape : List TableParts) (blocks : List NewBlock) (v : Version) (before after : Disk) (law : versions.IsStore old.versions) (logs : OtherFilesLeaveTheSequence)
     (v_is : v ≡ stored n (old.versions.versions.next_block + length blocks) shape) (may : MayPublish old.versions.versions n shape (length blocks))
@@ -27,6 +30,9 @@ module _ {E : Type 0} (result : Result ℕ E) (old new : Store) (n : ℕ) (shape
   publishes = record {
     any_moment = λ h last is next. publish_moments old n shape blocks v before after law logs v_is may numbered p.elsewhere h last is next (p.any_moment last is.versions.rooted);
     behind = λ h last is next. by h last is next result added same (p.behind last is.versions.rooted);
+    pending = λ h last is.
+        subst (λ (q : Sequence). PendsAsBefore old.sequence.pending q.pending before after) (sym logs_same)
+        (logs (is_published_file old.versions.versions.next_block) old.sequence h before after (publish_elsewhere old.versions.versions.next_block) p.elsewhere is.sequence).2;
   }
     where
       by : (h : List Entry) (last : Version) → IsStore old h last before → StandsNext old h n shape blocks → (r : Result ℕ E) → IfOk r (λ row. Adds old.versions.versions new.versions.versions n shape row) → OnErr r (SameVersions old.versions.versions new.versions.versions)
@@ -49,13 +55,13 @@ published_told result old inside new n shape blocks before after is law logs may
 -- no version shows more transactions than there are, behind the call
 module _ (inside new : Store) (n : ℕ) (shape : List TableParts) (book : IsBook inside) (few : n ≤ length inside.sequence.refs) (logs_same : new.sequence ≡ inside.sequence) (limits_same : new.limits ≡ inside.limits) where
   in_rows : (row : ℕ) (x : catalog.Version) → x.n ≤ length inside.sequence.refs → x.n ≤ length new.sequence.refs
-  in_rows row x low = subst (λ (s : Rattle.qd_sequencer.specs.Sequences.Sequence). x.n ≤ length s.refs) (sym logs_same) low
+  in_rows row x low = subst (λ (s : Sequence). x.n ≤ length s.refs) (sym logs_same) low
 
   limits_now : AreLimits new.limits
   limits_now = subst AreLimits (sym limits_same) book.limits
 
-  few_now : length new.sequence.refs ≤ 4194304
-  few_now = subst (λ (s : Rattle.qd_sequencer.specs.Sequences.Sequence). length s.refs ≤ 4194304) (sym logs_same) book.few
+  few_now : length new.sequence.refs ≤ MAX_TXNS
+  few_now = subst (λ (s : Sequence). length s.refs ≤ MAX_TXNS) (sym logs_same) book.few
 
   pub book_of : {E : Type 0} (result : Result ℕ E) → IfOk result (λ row. Adds inside.versions.versions new.versions.versions n shape row) → OnErr result (SameVersions inside.versions.versions new.versions.versions) → IsBook new
   book_of (Ok row) adds other = record {

@@ -10,9 +10,9 @@ use Rattle.qd_base.specs.Replay.{commit, first, replay}
 use Rattle.qd_block.specs.Blocks.{Block}
 use Rattle.qd_catalog.specs.declared.version.Version as catalog
 use Rattle.qd_catalog.specs.Versions.{Versions, current_n, lists, n_of, version_at}
-use Rattle.qd_draft.specs.Laws.{MergingStands}
-use Rattle.qd_draft.specs.Next.{versions_blocks}
-use Rattle.qd_draft.specs.Stands.{StandsFor}
+use Rattle.qd_apply.specs.Laws.{MergingStands}
+use Rattle.qd_apply.specs.Next.{versions_blocks}
+use Rattle.qd_apply.specs.Stands.{StandsFor}
 use Rattle.qd_durable.specs.Moments.{Told}
 use Rattle.qd_durable.proofs.Writes.{told_map}
 use Rattle.qd_txnfile.specs.Versions.{Version}
@@ -77,6 +77,7 @@ module _ {T E F : Type 0} (law : MergingStands) (result : Result T E) (answer : 
   publishes_merged p = record {
     any_moment = λ h last is next. p.any_moment h last is (stands_next law old h m next);
     behind = λ h last is next. behind h last (next_version old m) (p.behind h last is (stands_next law old h m next));
+    pending = λ h last is. p.pending h last is;
   }
 
 module _ (T E F : Type 0) (law : MergingStands) (old new : Store) (m : Merging) (before after : Option Disk) where

@@ -11,7 +11,7 @@ use Rattle.qd_catalog.specs.declared.version.Version as catalog
 use Rattle.qd_catalog.specs.Versions.{Adds, SameVersions, lists, version_at}
 use Rattle.qd_durable.specs.Moments.{EachNow, LeavesOnly, Moves, SameBut}
 use Rattle.qd_durable.proofs.Moved.{leaves_weaker, moments_have, now_has}
-use Rattle.qd_files.specs.Files.{HoldsBlock, column_file, is_file_of}
+use Rattle.qd_column_files.specs.Files.{HoldsBlock, column_file, is_file_of}
 use Rattle.qd_manifest.specs.declared.shape.TableParts.{TableParts}
 use Rattle.qd_manifest.specs.Spelling.{IsManifest, blocks_of}
 use Rattle.qd_sequencer.specs.Histories as histories

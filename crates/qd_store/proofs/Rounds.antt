@@ -5,7 +5,7 @@ use Rattle.qd_base.specs.Database.{Database}
 use Rattle.qd_block.specs.Blocks.{Block}
 use Rattle.qd_catalog.specs.declared.version.Version.{Version}
 use Rattle.qd_catalog.specs.Versions.{Versions}
-use Rattle.qd_draft.specs.Drafts.{Drafting}
+use Rattle.qd_apply.specs.Drafts.{Drafting}
 use Rattle.qd_store.specs.Drafts.{Drafted, IsDraft, IsDraftOver, IsMerged, IsMergedOver, Merging}
 
 -- what the merge of a draft says

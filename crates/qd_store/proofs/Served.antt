@@ -18,17 +18,17 @@ use Rattle.qd_merge.specs.declared.plan.Act.{Act}
 use Rattle.qd_merge.specs.declared.plan.Act.TheVariants as act
 use Rattle.qd_scan.specs.Sources.{IsBlockOf}
 use Rattle.qd_versions.specs.Stores.{manifest_in}
-use Rattle.qd_draft.specs.Arrivals.{arrivals, rest}
-use Rattle.qd_draft.specs.Drafts.{Drafting}
-use Rattle.qd_draft.specs.Given.{reads, touched, writes, IsEarlier, IsMergeAct}
-use Rattle.qd_draft.specs.Laws.{Merges, MergingStands}
-use Rattle.qd_draft.specs.Next.{acts_of, all_made, batch_of, blocks_made, first_parts, made_after, no_piece, pieces_in, table_made, Piece}
-use Rattle.qd_draft.specs.Plans.{block_at, read_in, written_in, AreBlocksFor}
-use Rattle.qd_draft.proofs.PieceLemmas.{IsPiece}
-use Rattle.qd_draft.proofs.PlanLemmas.{merge_acts, touched_count}
-use Rattle.qd_draft.proofs.ServeLemmas.{made_again}
-use Rattle.qd_draft.proofs.ShapeLemmas.{first_pieces, AreGrown, IsOld}
-use Rattle.qd_draft.proofs.VersionLemmas.{all_old}
+use Rattle.qd_apply.specs.Arrivals.{arrivals, rest}
+use Rattle.qd_apply.specs.Drafts.{Drafting}
+use Rattle.qd_apply.specs.Given.{reads, touched, writes, IsEarlier, IsMergeAct}
+use Rattle.qd_apply.specs.Laws.{Merges, MergingStands}
+use Rattle.qd_apply.specs.Next.{acts_of, all_made, batch_of, blocks_made, first_parts, made_after, no_piece, pieces_in, table_made, Piece}
+use Rattle.qd_apply.specs.Plans.{block_at, read_in, written_in, AreBlocksFor}
+use Rattle.qd_apply.proofs.PieceLemmas.{IsPiece}
+use Rattle.qd_apply.proofs.PlanLemmas.{merge_acts, touched_count}
+use Rattle.qd_apply.proofs.ServeLemmas.{made_again}
+use Rattle.qd_apply.proofs.ShapeLemmas.{first_pieces, AreGrown, IsOld}
+use Rattle.qd_apply.proofs.VersionLemmas.{all_old}
 use Rattle.qd_store.specs.Drafts.{plan_of, Drafted, IsDraft, IsSomeDraft, MayFollow}
 use Rattle.qd_store.proofs.GrownTables.{batches_grown}
 

@@ -7,7 +7,7 @@ use Rattle.qd_base.specs.Schemas.{schemas_step}
 use Rattle.qd_durable.specs.Moments.{Told}
 use Rattle.qd_durable.proofs.Moved.{leaves_both, leaves_still, leaves_weaker}
 use Rattle.qd_durable.proofs.Writes.{told_both, told_map}
-use Rattle.qd_entry.specs.Spelling.{SpellsEntry}
+use Rattle.qd_wal_entry.specs.Spelling.{SpellsEntry}
 use Rattle.qd_io.specs.declared.fault.IoFault.{IoFault}
 use Rattle.qd_io.specs.declared.fault.IoFault.TheVariants as io
 use Rattle.qd_lines.specs.declared.fault.LineFault.{LineFault}
@@ -16,7 +16,7 @@ use Rattle.qd_prepare.specs.declared.prepare.Prepared.{Prepared}
 use Rattle.qd_prepare.specs.Prepared.{IsPrepared}
 use Rattle.qd_sequencer.specs.declared.fault.CommitFault.{CommitFault}
 use Rattle.qd_sequencer.specs.declared.fault.CommitFault.TheVariants as commit
-use Rattle.qd_sequencer.specs.Calls.{Settles}
+use Rattle.qd_sequencer.specs.Calls.{PendsAsBefore, PendsOwn, Settles}
 use Rattle.qd_sequencer.specs.Faults.{fault_of, IsUnrefused}
 use Rattle.qd_sequencer.specs.Histories as histories
 use Rattle.qd_sequencer.specs.Histories.{IsLawfulOver}
@@ -79,12 +79,17 @@ settles old new before after law same repaired = record {
   any_moment = λ h next is.
       leaves_weaker (MayLeaveOwn (λ e. ⊥) old before h next) (MayLeave old before h next) before after (without_own old before h next) (failed.any_moment h next is);
   behind = λ h next is. failed.behind h next is;
+  pending = λ h next is. by (failed.pending h next is);
 }
   where
     failed : Commits {T = Unit {0}} {E = Unit {0}} (Err tt) old new (λ e. ⊥) before after
     failed =
         committed (Err tt) old new (λ e. ⊥) before after law same
         (settled_alone {T = Unit {0}} {E = Unit {0}} (λ e. ⊥) tt old.sequence new.sequence before after repaired)
+
+    by : PendsOwn old.sequence.pending new.sequence.pending (λ e. ⊥) before after → PendsAsBefore old.sequence.pending new.sequence.pending before after
+    by (inl as_before) = as_before
+    by (inr none) = λ e p. absurd (none e p)
 
 pub settles_told : (old inside new : Store) (before after : Option Disk) → old ≡ inside → versions.IsStore inside.versions → new.versions ≡ inside.versions
     → Told before after (Settles inside.sequence new.sequence) → Told before after (Stands old new)
@@ -102,6 +107,7 @@ idle_told law s sound (Some disk) = (
   record {
     any_moment = λ h next is. leaves_still (MayLeave s disk h next) disk (law.shows s h next disk sound is);
     behind = λ h next is. is;
+    pending = λ h next is e p. p;
   },
 )
 
@@ -137,6 +143,7 @@ module _ (T E : Type 0) (Own : Entry → Type 0) (fault : E) (old new : Store) w
     any_moment = λ h next is.
         leaves_weaker (MayLeave old before h next) (MayLeaveOwn Own old before h next) before after (with_own Own old before h next) (stands.any_moment h next is);
     behind = λ h next is. stands.behind h next is;
+    pending = λ h next is. inl (stands.pending h next is);
   }
 
   pub alone_told : (before after : Option Disk) → Told before after (Stands old new) → Told before after (Commits {T = T} {E = E} (Err fault) old new Own)
@@ -164,6 +171,11 @@ module _ {T E : Type 0} (result : Result T E) (P Q : Entry → Type 0) (weaker :
       one_of_weaker h (λ e. P e ⊎ histories.IsPending mid.sequence.pending b e) (λ e. Q e ⊎ histories.IsPending old.sequence.pending a e)
       (MayShow mid next) (MayShow old next) (own_more a b) (shows_too next) image shows
 
+  -- nothing was pending before it: what is left behind it is its own
+  own_left : (b c : Disk) → PendsOwn mid.sequence.pending new.sequence.pending P b c → (e : Entry) → histories.IsPending new.sequence.pending c e → Q e
+  own_left b c (inl as_before) e p = absurd (subst (λ (o : Option WalRef). histories.IsPending o b e) clean (as_before e p))
+  own_left b c (inr own) e p = weaker e (own e p)
+
   stands_first : (a b c : Disk) → Stands old mid a b → Commits result mid new P b c → Commits result old new Q a c
   stands_first a b c stands commits = record {
     any_moment = λ h next is.
@@ -171,6 +183,7 @@ module _ {T E : Type 0} (result : Result T E) (P Q : Entry → Type 0) (weaker :
         (leaves_weaker (MayLeave old a h next) (MayLeaveOwn Q old a h next) a b (with_own Q old a h next) (stands.any_moment h next is))
         (leaves_weaker (MayLeaveOwn P mid b h next) (MayLeaveOwn Q old a h next) b c (left_too a b h next) (commits.any_moment h next (stands.behind h next is)));
     behind = λ h next is. committed_weaker result new h next P Q c weaker (commits.behind h next (stands.behind h next is));
+    pending = λ h next is. inr (own_left b c (commits.pending h next (stands.behind h next is)));
   }
 
   first_told : (before between after : Option Disk) → Told before between (Stands old mid) → Told between after (Commits result mid new P)

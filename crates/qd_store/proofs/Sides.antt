@@ -10,11 +10,11 @@ use Rattle.qd_base.specs.Replay.{after, first}
 use Rattle.qd_block.specs.Blocks.{Block, IsWhole}
 use Rattle.qd_catalog.specs.declared.version.Version as catalog
 use Rattle.qd_catalog.specs.Versions.{version_at}
-use Rattle.qd_draft.specs.Stands.{StandsFor}
+use Rattle.qd_apply.specs.Stands.{StandsFor}
 use Rattle.qd_durable.specs.Moments.{ComesFrom, EachNow, LeavesOnly, Moves, SameBut}
 use Rattle.qd_durable.specs.Places.{StandsAt}
 use Rattle.qd_durable.proofs.Moved.{leaves_weaker, moments_have, now_has}
-use Rattle.qd_files.specs.Files.{is_file_of}
+use Rattle.qd_column_files.specs.Files.{is_file_of}
 use Rattle.qd_manifest.specs.declared.shape.TableParts.{TableParts}
 use Rattle.qd_manifest.specs.Spelling.{blocks_in, blocks_of}
 use Rattle.qd_txnfile.specs.declared.half.Other.{Other}

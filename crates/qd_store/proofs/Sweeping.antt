@@ -4,8 +4,8 @@ use Rattle.std.proofs.lemmas.List.Elements.{All-contains_itself, All-weaker}
 use Rattle.qd_base.specs.declared.op.Entry.{Entry}
 use Rattle.qd_catalog.specs.declared.version.Version as catalog
 use Rattle.qd_catalog.specs.Versions.{IsListed, lists, version_at}
-use Rattle.qd_files.specs.Files.{is_file_of}
-use Rattle.qd_files.proofs.FileLemmas.{own_files}
+use Rattle.qd_column_files.specs.Files.{is_file_of}
+use Rattle.qd_column_files.proofs.FileLemmas.{own_files}
 use Rattle.qd_manifest.specs.declared.shape.TableParts.{TableParts}
 use Rattle.qd_manifest.specs.Spelling.{blocks_of}
 use Rattle.qd_txnfile.specs.States.{GivesKnown, IsDirty}

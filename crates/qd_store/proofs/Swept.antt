@@ -8,6 +8,7 @@ use Rattle.qd_durable.specs.Moments.{LeavesOnly, Moves, SameBut}
 use Rattle.qd_manifest.specs.declared.shape.TableParts.{TableParts}
 use Rattle.qd_manifest.specs.Spelling.{blocks_of}
 use Rattle.qd_txnfile.specs.States.{GivesKnown, IsDirty}
+use Rattle.qd_sequencer.specs.Calls.{PendsAsBefore}
 use Rattle.qd_sequencer.specs.Histories as histories
 use Rattle.qd_sequencer.specs.Histories.{MayHold}
 use Rattle.qd_sequencer.specs.Laws.{IsElsewhere, OtherFilesLeaveTheSequence}
@@ -104,6 +105,9 @@ module _ {E : Type 0} (result : Result Bool E) (old new : Store) (before after :
   with_files touched moves elsewhere zero spared = record {
     any_moment = λ h next is. let s = spared h next is in moments touched old new h next before after is law sequence elsewhere zero moves s.0 s.1 (known next is.versions.rooted);
     behind = λ h next is. let s = spared h next is in let r = root_of next is.versions.rooted in still touched old new h next before after is law sequence elsewhere zero moves s.0 s.1 same rows_same r.0 r.1;
+    pending = λ h next is.
+        subst (λ (q : Sequence). PendsAsBefore old.sequence.pending q.pending before after) (sym same)
+        (sequence touched old.sequence h before after elsewhere moves is.sequence).2;
   }
 
   by_queue : (queue : List ℕ) → old.versions.versions.retired ≡ queue → Stands old new before after

@@ -9,9 +9,9 @@ use Rattle.qd_base.specs.declared.schema.Schema.{Schema}
 use Rattle.qd_base.specs.Database.{schemas_of}
 use Rattle.qd_base.specs.Lawful.{AreLawful, LawfulFrom, cells_of}
 use Rattle.qd_base.specs.Schemas.{schemas_step}
-use Rattle.qd_draft.specs.Arrivals.{arrivals_from, arrives}
-use Rattle.qd_draft.specs.Drafts.{Drafting}
-use Rattle.qd_draft.proofs.ArrivalLemmas.{schemas_ops}
+use Rattle.qd_apply.specs.Arrivals.{arrivals_from, arrives}
+use Rattle.qd_apply.specs.Drafts.{Drafting}
+use Rattle.qd_apply.proofs.ArrivalLemmas.{schemas_ops}
 use Rattle.qd_durable.specs.declared.fault.LogFault.{LogFault}
 use Rattle.qd_durable.specs.declared.fault.LogFault.TheVariants as fault
 use Rattle.qd_sequencer.specs.Reading.{BreaksOff}

@@ -11,17 +11,17 @@ use Rattle.qd_base.specs.Rows.{time_of}
 use Rattle.qd_block.specs.Blocks.{Block, IsWhole}
 use Rattle.qd_catalog.specs.declared.version.Version as catalog
 use Rattle.qd_catalog.specs.Versions.{version_at}
-use Rattle.qd_draft.specs.declared.plans.Touched.{Touched}
-use Rattle.qd_draft.specs.Arrivals.{rest}
-use Rattle.qd_draft.specs.Given.{touched, IsMergeAct}
-use Rattle.qd_draft.specs.Next.{acts_of, batch_of, first_parts}
-use Rattle.qd_draft.specs.Plans.{all_touched, block_at, read_in, touch}
-use Rattle.qd_draft.specs.Stands.{StandsFor}
-use Rattle.qd_draft.proofs.PlanLemmas.{merge_acts}
+use Rattle.qd_apply.specs.declared.plans.Touched.{Touched}
+use Rattle.qd_apply.specs.Arrivals.{rest}
+use Rattle.qd_apply.specs.Given.{touched, IsMergeAct}
+use Rattle.qd_apply.specs.Next.{acts_of, batch_of, first_parts}
+use Rattle.qd_apply.specs.Plans.{all_touched, block_at, read_in, touch}
+use Rattle.qd_apply.specs.Stands.{StandsFor}
+use Rattle.qd_apply.proofs.PlanLemmas.{merge_acts}
 use Rattle.qd_durable.specs.declared.fault.LogFault.{LogFault}
 use Rattle.qd_durable.specs.declared.fault.LogFault.TheVariants as fault
-use Rattle.qd_files.specs.Laws.{OneBlockIsHeld}
-use Rattle.qd_files.specs.Reading.{IsBlockRead}
+use Rattle.qd_column_files.specs.Laws.{OneBlockIsHeld}
+use Rattle.qd_column_files.specs.Reading.{IsBlockRead}
 use Rattle.qd_manifest.specs.declared.shape.TableParts.{TableParts}
 use Rattle.qd_manifest.specs.Spelling.{blocks_of, no_part}
 use Rattle.qd_merge.specs.declared.plan.Act.{Act}

@@ -18,12 +18,12 @@ use Rattle.qd_merge.specs.declared.plan.Act.TheVariants as act
 use Rattle.qd_merge.specs.Acts.{acts_from, before, between, new_part, on_part, part_end, partitions}
 use Rattle.qd_merge.proofs.Wide.{map-map}
 use Rattle.qd_scan.specs.Sources.{no_schema}
-use Rattle.qd_draft.specs.declared.plans.Touched.{Touched}
-use Rattle.qd_draft.specs.Arrivals.{rest}
-use Rattle.qd_draft.specs.Given.{touched}
-use Rattle.qd_draft.specs.Next.{acts_of, batch_of, first_parts}
-use Rattle.qd_draft.specs.Plans.{all_touched, read_in, touch}
-use Rattle.qd_draft.proofs.EachLemmas.{each_append, each_back, each_front, each_then}
+use Rattle.qd_apply.specs.declared.plans.Touched.{Touched}
+use Rattle.qd_apply.specs.Arrivals.{rest}
+use Rattle.qd_apply.specs.Given.{touched}
+use Rattle.qd_apply.specs.Next.{acts_of, batch_of, first_parts}
+use Rattle.qd_apply.specs.Plans.{all_touched, read_in, touch}
+use Rattle.qd_apply.proofs.EachLemmas.{each_append, each_back, each_front, each_then}
 
 -- ---- acts read parts upwards
 

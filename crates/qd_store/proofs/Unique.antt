@@ -9,7 +9,7 @@ use Rattle.qd_base.specs.declared.schema.Schema.{Schema}
 use Rattle.qd_base.specs.Database.{Database}
 use Rattle.qd_base.specs.Rows.{Row}
 use Rattle.qd_block.specs.Blocks.{Block}
-use Rattle.qd_draft.specs.Stands.{StandsFor, rows_in_parts}
+use Rattle.qd_apply.specs.Stands.{StandsFor, rows_in_parts}
 use Rattle.qd_manifest.specs.declared.shape.TableParts.{TableParts}
 use Rattle.qd_manifest.specs.Spelling.{blocks_of}
 use Rattle.qd_rows.specs.Sets.{absent}

@@ -12,9 +12,9 @@ use Rattle.qd_catalog.specs.declared.version.Version as catalog
 use Rattle.qd_catalog.specs.Versions.{version_at}
 use Rattle.qd_durable.specs.Moments.{EachNow, SameBut}
 use Rattle.qd_durable.specs.Places.{StandsAt}
-use Rattle.qd_entry.specs.Laws.{OneSpelling}
-use Rattle.qd_files.specs.Files.{HoldsBlock, column_file}
-use Rattle.qd_files.specs.Laws.{OneBlockIsHeld}
+use Rattle.qd_wal_entry.specs.Laws.{OneSpelling}
+use Rattle.qd_column_files.specs.Files.{HoldsBlock, column_file}
+use Rattle.qd_column_files.specs.Laws.{OneBlockIsHeld}
 use Rattle.qd_manifest.specs.declared.shape.Manifest.{Manifest}
 use Rattle.qd_manifest.specs.declared.shape.TableParts.{TableParts}
 use Rattle.qd_manifest.specs.Laws.{OneManifestIsSpelled}
@@ -27,7 +27,7 @@ use Rattle.qd_seq.proofs.Steps.{known_given as log_given}
 use Rattle.qd_sequencer.specs.Histories as histories
 use Rattle.qd_sequencer.specs.Histories.{AreSpelled, HasPending, HoldsHistory}
 use Rattle.qd_sequencer.specs.Laws.{WhatASequenceHolds}
-use Rattle.qd_stored.specs.Spelling.{SpellsColumn}
+use Rattle.qd_column_format.specs.Spelling.{SpellsColumn}
 use Rattle.qd_txnfile.specs.declared.half.Other.{Other}
 use Rattle.qd_txnfile.specs.declared.half.Other.TheVariants as other
 use Rattle.qd_txnfile.specs.Laws.{OneVersionIsGiven}

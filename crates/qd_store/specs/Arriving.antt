@@ -1,5 +1,5 @@
 -- The transactions of batches and of statements, as commits take them.
-use Rattle.std.specs.Prelude.{◌≡◌, ℕ, List, [], ◌∷◌, ◌++◌, Option, fold, Ok}
+use Rattle.std.specs.Prelude.{◌≡◌, ℕ, ◌==◌, Bool, List, [], ◌∷◌, ◌++◌, Option, find, fold, is_some, Ok}
 use Rattle.qd_base.specs.declared.limits.Limits.{Limits}
 use Rattle.qd_base.specs.declared.op.Entry.{Entry}
 use Rattle.qd_base.specs.declared.schema.Schema.{Schema}
@@ -7,8 +7,9 @@ use Rattle.qd_base.specs.Schemas.{schemas_step}
 use Rattle.qd_ilp.specs.Whole.{Reading}
 use Rattle.qd_lines.specs.Walks.{SaysOf}
 use Rattle.qd_meaning.specs.Write.{write}
-use Rattle.qd_trees.specs.declared.tree.Stmt.{Stmt}
+use Rattle.qd_sql_ast.specs.declared.tree.Stmt.{Stmt}
 use Rattle.qd_sequencer.specs.Sequences.{Sequence, chosen, with_writer}
+use Rattle.qd_wal.specs.declared.writer.WalWriter.{WalWriter}
 use Rattle.qd_wal.specs.Segments.{behind, ref_for}
 
 -- what the lines of a batch say, where those without a stamp take the time `now`
@@ -22,6 +23,10 @@ SaysStmt schemas stmt e = write schemas stmt ≡ Ok e
 -- The schemas are behind a transaction of which a fact holds.
 abbrev pub IsBehind : List Schema → List Schema → (Entry → Type 0) → Type 0
 IsBehind old new Own = (e : Entry) × Own e × (new ≡ fold schemas_step old e.ops)
+
+-- whether a writer of a number is kept
+abbrev pub is_kept : List WalWriter → ℕ → Bool
+is_kept writers wal = is_some (find (λ (w : WalWriter). w.wal == wal) writers)
 
 -- A transaction of so many bytes was written behind those of a writer, and the writer stands behind it now.
 pub record IsPlaced (limits : Limits) (old new : Sequence) (writer : Option ℕ) : Type 0 where

@@ -6,9 +6,10 @@ use Rattle.qd_base.specs.Replay.{first}
 use Rattle.qd_block.specs.Blocks.{Block}
 use Rattle.qd_catalog.specs.declared.version.Version as catalog
 use Rattle.qd_catalog.specs.Versions.{lists, version_at}
-use Rattle.qd_draft.specs.Stands.{StandsFor}
+use Rattle.qd_apply.specs.Stands.{StandsFor}
 use Rattle.qd_durable.specs.Moments.{EachNow, LeavesOnly}
 use Rattle.qd_manifest.specs.declared.shape.TableParts.{TableParts}
+use Rattle.qd_sequencer.specs.Calls.{PendsAsBefore, PendsOwn}
 use Rattle.qd_sequencer.specs.Histories as histories
 use Rattle.qd_txnfile.specs.States.{IsDirty}
 use Rattle.qd_txnfile.specs.Versions.{Version}
@@ -58,10 +59,11 @@ IsCommitted (Ok done) new h next Own after = (e : Entry) × Own e × IsStore new
 IsCommitted (Err fault) new h next Own after = IsStore new h next after
 
 -- A transaction is committed, or none is: at each moment a crash leaves a whole store with the history, or with one transaction
--- more: the call's own, or the one that a failed commit left before it.
+-- more: the call's own, or the one that a failed commit left before it. No other may be left behind it.
 pub record Commits {T E : Type 0} (result : Result T E) (old new : Store) (Own : Entry → Type 0) (before after : Disk) : Type 0 where
   pub any_moment : (h : List Entry) (next : Version) → IsStore old h next before → LeavesOnly before after (ShowsOneOf h (λ e. Own e ⊎ histories.IsPending old.sequence.pending before e) (MayShow old next))
   pub behind : (h : List Entry) (next : Version) → IsStore old h next before → IsCommitted result new h next Own after
+  pub pending : (h : List Entry) (next : Version) → IsStore old h next before → PendsOwn old.sequence.pending new.sequence.pending Own before after
 
 -- ---- a version is published
 
@@ -85,11 +87,13 @@ pub record Publishes {T E : Type 0} (result : Result T E) (old new : Store) (n :
   pub any_moment : (h : List Entry) (last : Version) → IsStore old h last before → StandsNext old h n shape blocks
       → LeavesOnly before after (ShowsOneOf h (histories.IsPending old.sequence.pending before) (λ w. MayShow old last w ⊎ (w ≡ v)))
   pub behind : (h : List Entry) (last : Version) → IsStore old h last before → StandsNext old h n shape blocks → IsPublished result new h last v after
+  pub pending : (h : List Entry) (last : Version) → IsStore old h last before → PendsAsBefore old.sequence.pending new.sequence.pending before after
 
 -- ---- a call that changes neither the history nor what versions show
 
 -- A block is swept, or what a failed commit left is settled: at each moment a crash leaves a whole store with what it might have had
--- before, and the store stands behind the call as before it.
+-- before, and the store stands behind the call as before it. No other transaction may be left.
 pub record Stands (old new : Store) (before after : Disk) : Type 0 where
   pub any_moment : (h : List Entry) (next : Version) → IsStore old h next before → LeavesOnly before after (ShowsOneOf h (histories.IsPending old.sequence.pending before) (MayShow old next))
   pub behind : (h : List Entry) (next : Version) → IsStore old h next before → IsStore new h next after
+  pub pending : (h : List Entry) (next : Version) → IsStore old h next before → PendsAsBefore old.sequence.pending new.sequence.pending before after

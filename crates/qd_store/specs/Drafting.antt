@@ -14,12 +14,12 @@ use Rattle.qd_base.specs.Replay.{first}
 use Rattle.qd_block.specs.Blocks.{Block, IsWhole}
 use Rattle.qd_catalog.specs.declared.version.Version.{Version}
 use Rattle.qd_catalog.specs.Versions.{Versions, version_at}
-use Rattle.qd_draft.specs.declared.plans.Touched.{Touched}
-use Rattle.qd_draft.specs.Arrivals.{arrivals, arrivals_from}
-use Rattle.qd_draft.specs.Drafts.{Drafting}
-use Rattle.qd_draft.specs.Next.{first_parts}
-use Rattle.qd_draft.specs.Plans.{all_touched, block_at, read_in}
-use Rattle.qd_draft.specs.Stands.{StandsFor}
+use Rattle.qd_apply.specs.declared.plans.Touched.{Touched}
+use Rattle.qd_apply.specs.Arrivals.{arrivals, arrivals_from}
+use Rattle.qd_apply.specs.Drafts.{Drafting}
+use Rattle.qd_apply.specs.Next.{first_parts}
+use Rattle.qd_apply.specs.Plans.{all_touched, block_at, read_in}
+use Rattle.qd_apply.specs.Stands.{StandsFor}
 use Rattle.qd_durable.specs.declared.fault.LogFault.{LogFault}
 use Rattle.qd_durable.specs.declared.fault.LogFault.TheVariants as fault
 use Rattle.qd_manifest.specs.declared.shape.TableParts.{TableParts}
@@ -28,7 +28,7 @@ use Rattle.qd_scan.specs.Sources.{IsBlockOf}
 use Rattle.qd_sequencer.specs.Histories.{AreSpelled}
 use Rattle.qd_sequencer.specs.Reading.{BreaksOff}
 use Rattle.qd_volume.specs.Disk.{Image}
-use Rattle.qd_store.specs.Damage.{IsDraftDamage, IsPartRead, MayHaveBlocks}
+use Rattle.qd_store.specs.Damage.{IsDraftDamage, IsPartRead}
 use Rattle.qd_store.specs.Drafts.{between}
 use Rattle.qd_store.specs.Stores.{Store}
 
@@ -58,7 +58,7 @@ pub record HasArrived (next : ℕ) (x : Version) (es : List Entry) (upto : ℕ) 
   pub draft : d ≡ record { base = x.n; upto = upto; next_block = next; shape = x.shape; tables = arrivals (schemas_in x.shape) es }
 
 abbrev pub IsArrived : Versions → ℕ → Drafting → Type 0
-IsArrived v upto d = (x : Version) × (es : List Entry) × (version_at v v.current ≡ Some x) × MayHaveBlocks x.n x.shape × HasArrived v.next_block x es upto d
+IsArrived v upto d = (x : Version) × (es : List Entry) × (version_at v v.current ≡ Some x) × HasArrived v.next_block x es upto d
 
 -- those of a history
 abbrev pub IsArrivedFrom : Result Drafting LogFault → Store → List Entry → ℕ → Type 0
@@ -69,7 +69,7 @@ IsArrivedFrom (Err fault.Memory) s h upto = Unit {0}
 
 -- those at their places of a told volume, or where a draft finds damage before it plans
 abbrev pub AreArrived : Result Drafting LogFault → Store → ℕ → Image → Type 0
-AreArrived (Ok d) s upto image = (x : Version) × (es : List Entry) × (version_at s.versions.versions s.versions.versions.current ≡ Some x) × MayHaveBlocks x.n x.shape × AreSpelled (slice_range s.sequence.refs x.n upto) es image × HasArrived s.versions.versions.next_block x es upto d
+AreArrived (Ok d) s upto image = (x : Version) × (es : List Entry) × (version_at s.versions.versions s.versions.versions.current ≡ Some x) × AreSpelled (slice_range s.sequence.refs x.n upto) es image × HasArrived s.versions.versions.next_block x es upto d
 AreArrived (Err (fault.Damaged file at)) s upto image = IsDraftDamage s upto image file at
 AreArrived (Err fault.Vol) s upto image = Unit {0}
 AreArrived (Err fault.Memory) s upto image = Unit {0}

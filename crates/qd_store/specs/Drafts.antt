@@ -8,11 +8,11 @@ use Rattle.qd_base.specs.Replay.{first, replay}
 use Rattle.qd_block.specs.Blocks.{Block}
 use Rattle.qd_catalog.specs.declared.version.Version.{Version}
 use Rattle.qd_catalog.specs.Versions.{Versions, version_at}
-use Rattle.qd_draft.specs.Arrivals.{arrivals}
-use Rattle.qd_draft.specs.Drafts.{Drafting}
-use Rattle.qd_draft.specs.Next.{made_after, manifest_after}
-use Rattle.qd_draft.specs.Plans.{read_in, with_batch}
-use Rattle.qd_draft.specs.Stands.{StandsFor}
+use Rattle.qd_apply.specs.Arrivals.{arrivals}
+use Rattle.qd_apply.specs.Drafts.{Drafting}
+use Rattle.qd_apply.specs.Next.{made_after, manifest_after}
+use Rattle.qd_apply.specs.Plans.{read_in, with_batch}
+use Rattle.qd_apply.specs.Stands.{StandsFor}
 use Rattle.qd_durable.specs.declared.fault.LogFault.{LogFault}
 use Rattle.qd_durable.specs.declared.fault.LogFault.TheVariants as fault
 use Rattle.qd_manifest.specs.declared.shape.TableParts.{TableParts}

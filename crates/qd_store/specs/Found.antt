@@ -9,7 +9,7 @@ use Rattle.qd_base.specs.declared.part.WalRef.{WalRef}
 use Rattle.qd_base.specs.Replay.{first}
 use Rattle.qd_block.specs.Blocks.{Block}
 use Rattle.qd_durable.specs.Moments.{EachNow}
-use Rattle.qd_files.specs.Files.{HoldsBlock}
+use Rattle.qd_column_files.specs.Files.{HoldsBlock}
 use Rattle.qd_manifest.specs.declared.shape.Manifest.{Manifest}
 use Rattle.qd_manifest.specs.declared.shape.TableParts.{TableParts}
 use Rattle.qd_manifest.specs.Spelling.{blocks_of, IsManifest}

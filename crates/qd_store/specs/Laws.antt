@@ -1,14 +1,17 @@
 -- The laws of stores.
-use Rattle.std.specs.Prelude.{◌≡◌, false, List, length, Some}
+use Rattle.std.specs.Prelude.{◌≡◌, ℕ, true, false, List, length, Option, Some}
+use Rattle.qd_base.specs.declared.limits.Limits.{Limits}
 use Rattle.qd_base.specs.declared.op.Entry.{Entry}
 use Rattle.qd_base.specs.Replay.{after}
 use Rattle.qd_catalog.specs.declared.version.Version as catalog
 use Rattle.qd_catalog.specs.Versions.{version_at}
 use Rattle.qd_durable.specs.Moments.{EachNow, SameBut}
 use Rattle.qd_sequencer.specs.Histories as histories
+use Rattle.qd_sequencer.specs.Sequences.{Sequence, chosen}
 use Rattle.qd_txnfile.specs.Versions.{Version}
 use Rattle.qd_versions.specs.Stores as versions
 use Rattle.qd_volume.specs.Disk.{Disk, Image}
+use Rattle.qd_store.specs.Arriving.{IsPlaced, is_kept}
 use Rattle.qd_store.specs.Calls.{MayShow, ShowsOneOf}
 use Rattle.qd_store.specs.Prefixes.{HoldsTables}
 use Rattle.qd_store.specs.Found.{Finds, Found, IsWhole}
@@ -32,3 +35,8 @@ OneIsFound = (f g : Found) (image : Image) → Finds f image → Finds g image �
 abbrev pub AppliedIsAll : Type 0
 AppliedIsAll = (s : Store) (h : List Entry) (next : Version) (disk : Disk) (x : catalog.Version) → IsStore s h next disk → version_at s.versions.versions s.versions.versions.current ≡ Some x → x.n ≡ length s.sequence.refs
     → EachNow disk (HoldsTables x.shape (after h))
+
+-- A commit by a writer that is kept goes on in its log, and no writer comes or goes. Behind each commit its writer is kept.
+pub record WritersGoOn : Type 0 where
+  pub same : (limits : Limits) (old new : Sequence) (wal : ℕ) → is_kept old.writers wal ≡ true → IsPlaced limits old new (Some wal) → ((chosen old (Some wal)).wal ≡ wal) × (length new.writers ≡ length old.writers)
+  pub kept : (limits : Limits) (old new : Sequence) (writer : Option ℕ) → IsPlaced limits old new writer → is_kept new.writers (chosen old writer).wal ≡ true

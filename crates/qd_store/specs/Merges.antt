@@ -2,6 +2,7 @@
 use Rattle.std.specs.Prelude.{◌≡◌, ◌⊎◌, ◌+◌, List, length, Result}
 use Rattle.qd_base.specs.declared.op.Entry.{Entry}
 use Rattle.qd_durable.specs.Moments.{LeavesOnly}
+use Rattle.qd_sequencer.specs.Calls.{PendsAsBefore}
 use Rattle.qd_sequencer.specs.Histories as histories
 use Rattle.qd_txnfile.specs.Versions.{Version}
 use Rattle.qd_versions.specs.Stores.{stored}
@@ -20,3 +21,4 @@ pub record PublishesMerged {T E : Type 0} (result : Result T E) (old new : Store
   pub any_moment : (h : List Entry) (last : Version) → IsStore old h last before → IsNextOf old h m
       → LeavesOnly before after (ShowsOneOf h (histories.IsPending old.sequence.pending before) (λ w. MayShow old last w ⊎ (w ≡ next_version old m)))
   pub behind : (h : List Entry) (last : Version) → IsStore old h last before → IsNextOf old h m → IsPublished result new h last (next_version old m) after
+  pub pending : (h : List Entry) (last : Version) → IsStore old h last before → PendsAsBefore old.sequence.pending new.sequence.pending before after

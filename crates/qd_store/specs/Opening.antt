@@ -24,16 +24,20 @@ pub data IsDamaged (image : Image) : (file at : ℕ) → Type 0 where
   InVersions : (refs : List WalRef) (file at : ℕ) → GivesList refs image → versions.IsDamaged (length refs) image file at → IsDamaged image file at
   InEntries : (refs : List WalRef) (n : ℕ) (m : Manifest) (file at : ℕ) → GivesList refs image → IsManifest n m → GivesVersion (stored n m.next_block m.shape) image → BreaksOff (drop n refs) (schemas_in m.shape) image file at → IsDamaged image file at
 
+-- no place of it is damaged
+abbrev pub IsUndamaged : Image → Type 0
+IsUndamaged image = (file at : ℕ) → IsDamaged image file at → ⊥
+
 -- what was opened of a whole volume: exactly its history, and its version
 pub record Opened (s : Store) (f : Found) (after : Disk) : Type 0 where
   pub refs : s.sequence.refs ≡ f.refs
   pub shown : s.versions.root.n ≡ f.n
   pub stands : (next : Version) → IsStore s f.history next after
 
--- A whole volume is opened, and takes exactly what is found. The volume isn't made exactly where its mark isn't there; it is damaged
--- at a place only where its files are, and no whole volume is.
+-- A volume is opened only where no place of it is damaged; a whole one takes exactly what is found. It isn't made exactly where its
+-- mark isn't there, and it is damaged at a place exactly where its files are: no whole volume is.
 abbrev pub IsOpened : Result Store OpenFault → Disk → Disk → Type 0
-IsOpened (Ok s) before after = IsMade (reads_of before) × (IsWhole before → (f : Found) → Finds f (reads_of before) → Opened s f after)
+IsOpened (Ok s) before after = IsMade (reads_of before) × (IsWhole before → (f : Found) → Finds f (reads_of before) → Opened s f after) × IsUndamaged (reads_of before)
 IsOpened (Err fault.NotMade) before after = IsMade (reads_of before) → ⊥
 IsOpened (Err (fault.Damaged file at)) before after = IsMade (reads_of before) × IsDamaged (reads_of before) file at × (IsWhole before → ⊥)
 IsOpened (Err fault.Vol) before after = Unit {0}

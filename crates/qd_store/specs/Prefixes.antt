@@ -4,9 +4,9 @@ use Rattle.qd_base.specs.declared.op.Entry.{Entry}
 use Rattle.qd_base.specs.Database.{Database}
 use Rattle.qd_base.specs.Replay.{first}
 use Rattle.qd_block.specs.Blocks.{Block}
-use Rattle.qd_draft.specs.Stands.{StandsFor}
+use Rattle.qd_apply.specs.Stands.{StandsFor}
 use Rattle.qd_durable.specs.Moments.{EachNow}
-use Rattle.qd_files.specs.Files.{HoldsBlock}
+use Rattle.qd_column_files.specs.Files.{HoldsBlock}
 use Rattle.qd_manifest.specs.declared.shape.Manifest.{Manifest}
 use Rattle.qd_manifest.specs.declared.shape.TableParts.{TableParts}
 use Rattle.qd_manifest.specs.Spelling.{blocks_of, IsManifest}

@@ -14,6 +14,7 @@ use Rattle.qd_versions.specs.Stores.{IsRooted}
 use Rattle.qd_volume.specs.Disk.{Disk}
 use Rattle.qd_store.specs.Marks.{IsMade}
 use Rattle.qd_store.specs.Prefixes.{IsLeft, IsShown}
+use Rattle.qd_base.specs.declared.limits.TheConstants.{MAX_TXNS}
 
 -- what contracts see of a store, beside its volume
 pub record Store : Type 0 where
@@ -23,13 +24,13 @@ pub record Store : Type 0 where
 
 -- the limits that a store keeps to
 pub record AreLimits (l : Limits) : Type 0 where
-  pub most : l.max_txns ≤ 4194304
+  pub most : l.max_txns ≤ MAX_TXNS
   pub size : l.seg_bytes ≤ 2 ^ 62
 
 -- What holds of every store, whatever its volume tells: no version shows more transactions than there are.
 pub record IsBook (s : Store) : Type 0 where
   pub limits : AreLimits s.limits
-  pub few : length s.sequence.refs ≤ 4194304
+  pub few : length s.sequence.refs ≤ MAX_TXNS
   pub shown : (row : ℕ) (x : catalog.Version) → version_at s.versions.versions row ≡ Some x → x.n ≤ length s.sequence.refs
 
 -- The version that a failed publication may have left stands for the history too; its blocks are the current version's, or new.

@@ -19,7 +19,7 @@ use qd_ilp::Batch;
 use qd_io::IoFault;
 use qd_prepare::{Prepared, prepare_lines, prepare_stmt};
 use qd_sequencer::{CommitFault, Committed, other_files_leave_the_sequence};
-use qd_trees::Stmt;
+use qd_sql_ast::Stmt;
 use qd_volume::Volume;
 use std::alloc::Global;
 

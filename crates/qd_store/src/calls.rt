@@ -3,7 +3,7 @@ ghost use Rattle.qd_base.specs.declared.op.Entry.{Entry};
 ghost use Rattle.qd_base.specs.Lawful.{AreSchemas};
 ghost use Rattle.qd_base.specs.Schemas.{schemas_step};
 ghost use Rattle.qd_durable.specs.Moments.{Told};
-ghost use Rattle.qd_entry.specs.Spelling.{SpellsEntry};
+ghost use Rattle.qd_wal_entry.specs.Spelling.{SpellsEntry};
 ghost use Rattle.qd_sequencer.specs.Faults.{CountsFault, IsUnrefused};
 ghost use Rattle.qd_sequencer.specs.Histories.{IsLawfulOver};
 ghost use Rattle.qd_sequencer.specs.Sequences.{IsAsBefore, chosen, without_writer};

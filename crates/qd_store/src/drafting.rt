@@ -2,35 +2,31 @@
 ghost use Rattle.qd_base.specs.declared.op.Entry.{Entry};
 ghost use Rattle.qd_catalog.specs.declared.version.Version as shown;
 ghost use Rattle.qd_catalog.specs.Versions.{current_n, version_at};
-ghost use Rattle.qd_draft.specs.Plans.{all_touched};
+ghost use Rattle.qd_apply.specs.Plans.{all_touched};
 ghost use Rattle.qd_durable.specs.declared.fault.LogFault.TheVariants as damage;
 ghost use Rattle.qd_durable.specs.Faults.{CountsVol};
-ghost use Rattle.qd_store.specs.Damage.{HasItsTimes, IsDraftDamage, IsThere, LosesBlock, MayHaveBlocks, rows_shown};
+ghost use Rattle.qd_seq.specs.Layout.{AreInSegments};
+ghost use Rattle.qd_store.specs.Damage.{IsDraftDamage, IsThere, LosesBlock};
 ghost use Rattle.qd_store.specs.Drafting.{AreArrived, AreRead, AreReadFrom, AreSomeTaken, AreTaken, IsArrived, IsArrivedFrom, IsReadOf, IsTouchedFrom, IsTouchedRead};
 ghost use Rattle.qd_store.specs.Drafts.{IsDraftOver, IsDraftedFrom};
 ghost use Rattle.qd_store.specs.Stores.{IsStore};
 ghost use Rattle.qd_txnfile.specs.Versions.{Version};
 ghost use Rattle.qd_volume.specs.Disk.{reads_of};
 ghost use Rattle.std.specs.Arc.{arc_value};
-ghost use Rattle.std.specs.Prelude.{◌≡◌, ◌+◌, ◌*◌, ◌^◌, ◌<◌, ◌≤◌, ◌↔◌, [], ◌∷◌, ℕ, All, List, Some, Err, length, map, IfOk, IfSome, IsTrue};
+ghost use Rattle.std.specs.Prelude.{◌≡◌, ◌+◌, ◌^◌, ◌<◌, ◌≤◌, [], ◌∷◌, ℕ, List, Some, Err, length, map, IfOk, IfSome};
 
 use crate::book::Book;
-use qd_base::{Part, WalRef};
+use qd_apply::{Draft as Arrivals, Plan, Touched, rows_are_few};
+use qd_base::WalRef;
 use qd_block::Block;
-use qd_draft::{Draft as Arrivals, Plan, Touched, rows_are_few};
+use qd_column_files::laws::one_block_is_held;
 use qd_durable::LogFault;
-use qd_files::laws::one_block_is_held;
-use qd_manifest::{BLOCKS_PER_TRANSACTION, Shape};
 use qd_symbols::SymbolMap;
-use qd_txnfile::FIRST;
 use qd_volume::Volume;
 use qd_wal::{one_entry_is_read, read_entry, segment_file};
 use std::alloc::Global;
 use std::marker::Model;
 use std::sync::Arc;
-
-/// Where a version file says of how many transactions its version is.
-const NUMBER: u64 = 1;
 
 /// The transactions behind a version, planned to be merged into it, with the blocks of the parts that the merge reads. Its
 /// merge needs no store.
@@ -92,18 +88,11 @@ impl Book {
         ensures stays { (V.storage volume.new).disk ≡ (V.storage volume.old).disk }
         ensures counted { CountsVol (V.storage volume.old).faults (V.storage volume.new).faults result }
     {
-        rows_are_few();
         one_entry_is_read();
         self.versions.keeps_its_law();
         let row = self.versions.current();
         let n = self.versions.n_of(row).unwrap_or(0);
         let shape = self.versions.shape_of(row);
-        if !may_have_blocks(shape, n) {
-            return Err(LogFault::Damaged {
-                file: FIRST,
-                at: NUMBER,
-            });
-        }
         let draft = Arrivals::begin(alloc, n, self.versions.next_block(), shape)?;
         let refs = &self.sequencer.refs()[n as usize..upto as usize];
         take_all(alloc, volume, refs, draft)
@@ -159,6 +148,7 @@ fn take_all<V: Volume>(
     refs: &[WalRef],
     draft: Arrivals,
 ) -> Result<Arrivals, LogFault>
+    requires segments { AreInSegments refs.now }
     requires room { draft.upto + length refs.now < 2 ^ 64 }
     ensures taken { IfOk result (λ d. AreSomeTaken (length refs.now) draft d) }
     ensures told { IfSome (V.storage volume.old).disk (λ disk. AreTaken result refs.now draft (reads_of disk)) }
@@ -179,6 +169,7 @@ fn take_next<V: Volume>(
     at: WalRef,
     draft: Arrivals,
 ) -> Result<Arrivals, LogFault>
+    requires segment { at.segment < 2 ^ 24 }
     requires room { draft.upto + 1 < 2 ^ 64 }
     ensures taken { IfOk result (λ d. AreSomeTaken 1 draft d) }
     ensures told { IfSome (V.storage volume.old).disk (λ disk. AreTaken result (at ∷ []) draft (reads_of disk)) }
@@ -193,39 +184,4 @@ fn take_next<V: Volume>(
             at: at.start,
         }),
     }
-}
-
-/// Whether a version may show these tables: a row is behind a cell that a transaction inserted, and a part of one row has one
-/// time. Each version of lawful transactions may. It costs time linear in the lists of parts.
-fn may_have_blocks(shape: &Shape, n: u64) -> bool
-    requires few { n ≤ 2 ^ 30 }
-    ensures may { IsTrue result ↔ MayHaveBlocks n shape.now }
-{
-    for table in shape.as_slice() {
-        if !may_have_parts(table.parts.as_slice(), n * BLOCKS_PER_TRANSACTION) {
-            return false;
-        }
-    }
-    true
-}
-
-/// Whether a table of at most so many rows may have these parts.
-fn may_have_parts(parts: &[Part], most: u64) -> bool
-    ensures may { IsTrue result ↔ ((rows_shown parts.now ≤ most) × All HasItsTimes parts.now) }
-{
-    let mut left = most;
-    for part in parts {
-        if !may_be_part(*part, left) {
-            return false;
-        }
-        left -= part.rows;
-    }
-    true
-}
-
-/// Whether a table that has so many rows left may have this part.
-fn may_be_part(part: Part, left: u64) -> bool
-    ensures may { IsTrue result ↔ ((part.rows ≤ left) × HasItsTimes part) }
-{
-    part.rows <= left && (part.rows != 1 || part.lo == part.hi)
 }

@@ -1,14 +1,14 @@
 //! The laws of stores, each of them the contract of a function that does nothing.
-ghost use Rattle.qd_store.specs.Laws.{AppliedIsAll, CrashedIsWhole, OneIsFound, StoresAreWhole};
+ghost use Rattle.qd_store.specs.Laws.{AppliedIsAll, CrashedIsWhole, OneIsFound, StoresAreWhole, WritersGoOn};
 
-use qd_entry::laws::one_spelling;
-use qd_files::laws::one_block_is_held;
+use qd_column_files::laws::one_block_is_held;
 use qd_manifest::laws::one_manifest_is_spelled;
 use qd_seq::one_list_is_given;
 use qd_sequencer::what_a_sequence_holds;
 use qd_txnfile::one_version_is_given;
 use qd_versions::what_is_known_is_given;
 use qd_wal::one_entry_is_read;
+use qd_wal_entry::laws::one_spelling;
 
 /// Between two calls the volume of a store is whole: each image that a crash may leave has the history, or with it the transaction
 /// that a failed commit left, and the current version, or the one that a failed publication left.
@@ -42,4 +42,9 @@ pub fn one_is_found()
 /// Where the current version shows as many transactions as there are, each image holds the database after the whole history.
 pub fn applied_is_all()
     ensures law { AppliedIsAll }
+{}
+
+/// A commit by a writer that is kept goes on in its log, and no writer comes or goes. Behind each commit its writer is kept.
+pub fn writers_go_on()
+    ensures law { WritersGoOn }
 {}

@@ -18,7 +18,7 @@ mod tests;
 
 pub use drafting::Draft;
 pub use fault::{OpenFault, PublishFault};
-pub use laws::{applied_is_all, crashed_is_whole, one_is_found, stores_are_whole};
+pub use laws::{applied_is_all, crashed_is_whole, one_is_found, stores_are_whole, writers_go_on};
 pub use merging::Merged;
 pub use qd_durable::LogFault;
 pub use qd_sequencer::{CommitFault, Committed};

@@ -16,9 +16,9 @@ ghost use Rattle.std.specs.Prelude.{◌≡◌, ◌↔◌, ◌+◌, ◌^◌, ◌<
 use crate::book::Book;
 use crate::drafting::Draft;
 use crate::fault::PublishFault;
+use qd_apply::merging_stands;
 use qd_base::Memory;
 use qd_block::Block;
-use qd_draft::merging_stands;
 use qd_manifest::Shape;
 use qd_symbols::SymbolMap;
 use qd_versions::NewBlock;

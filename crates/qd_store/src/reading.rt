@@ -3,7 +3,7 @@ ghost use Rattle.qd_base.specs.declared.op.Entry.{Entry};
 ghost use Rattle.qd_base.specs.declared.part.Part.{Part};
 ghost use Rattle.qd_block.specs.Blocks.{IsWhole};
 ghost use Rattle.qd_durable.specs.Faults.{CountsVol};
-ghost use Rattle.qd_files.specs.Reading.{IsBlockRead};
+ghost use Rattle.qd_column_files.specs.Reading.{IsBlockRead};
 ghost use Rattle.qd_manifest.specs.declared.shape.TableParts.{TableParts};
 ghost use Rattle.qd_scan.specs.Sources.{IsBlockOf};
 ghost use Rattle.qd_store.specs.Reading.{IsShownPart};
@@ -15,8 +15,8 @@ ghost use Rattle.std.specs.Prelude.{◌≡◌, List, IfOk, IfSome};
 
 use crate::book::Book;
 use qd_block::Block;
+use qd_column_files::laws::one_block_is_held;
 use qd_durable::LogFault;
-use qd_files::laws::one_block_is_held;
 use qd_symbols::SymbolMap;
 use qd_volume::Volume;
 use std::alloc::Global;

@@ -9,7 +9,7 @@ ghost use Rattle.qd_catalog.specs.Versions.{Adds, IsLive, Retires, SameVersions,
 ghost use Rattle.qd_durable.specs.declared.fault.LogFault.TheVariants as damage;
 ghost use Rattle.qd_durable.specs.Faults.{CountsVol};
 ghost use Rattle.qd_durable.specs.Moments.{Told};
-ghost use Rattle.qd_files.specs.Reading.{IsBlockRead};
+ghost use Rattle.qd_column_files.specs.Reading.{IsBlockRead};
 ghost use Rattle.qd_io.specs.Ends.{Counts};
 ghost use Rattle.qd_lines.specs.declared.fault.LineFault.TheVariants as lines;
 ghost use Rattle.qd_lines.specs.Walks.{IsLineFault};
@@ -50,8 +50,8 @@ use qd_ilp::Batch;
 use qd_io::IoFault;
 use qd_manifest::Shape;
 use qd_sequencer::{CommitFault, Committed};
+use qd_sql_ast::Stmt;
 use qd_symbols::SymbolMap;
-use qd_trees::Stmt;
 use qd_volume::Volume;
 use std::alloc::Global;
 use std::marker::Model;
@@ -217,10 +217,10 @@ impl<V: Volume> Store<V> {
     /// the parts that it touches, no others. It costs two calls of the volume for each transaction and each column of a touched part,
     /// and time and memory linear in what it reads, n log n where rows are late, and in the lists of parts.
     ///
-    /// The store and what its volume holds stay as they are. [`LogFault::Damaged`] says what breaks first: byte 1 of the first version
-    /// file, where no lawful transactions leave such a version; the first of the transactions that isn't spelled, or not lawful behind
-    /// those before it; or the first block of those that are read whose files break their layout or aren't the part's. It never comes
-    /// where `IsStore` holds. Behind [`LogFault::Vol`] and [`LogFault::Memory`] the call may be made again.
+    /// The store and what its volume holds stay as they are. [`LogFault::Damaged`] says what breaks first: the first of the transactions
+    /// that isn't spelled, or not lawful behind those before it; or the first block of those that are read whose files break their layout
+    /// or aren't the part's. It comes only where that file is damaged at that byte, and never where `IsStore` holds. Behind
+    /// [`LogFault::Vol`] and [`LogFault::Memory`] the call may be made again.
     pub fn draft(&mut self, alloc: Global, upto: u64) -> Result<Draft, LogFault>
         requires more { (n : ℕ) → current_n self.old.store.versions.versions ≡ Some n → n < upto }
         requires few { upto ≤ length self.old.store.sequence.refs }

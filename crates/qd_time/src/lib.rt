@@ -13,8 +13,6 @@ mod partition;
 mod print;
 mod reading;
 mod suffix;
-#[cfg(test)]
-mod tests;
 mod units;
 
 pub use buckets::{Align, Stride, bucket_of, next_bucket};

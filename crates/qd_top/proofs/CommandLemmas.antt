@@ -1,7 +1,7 @@
 -- What a command did, from what is said of its status, and what it did where no memory was found; and the words that ask for it.
 use Rattle.std.proofs.Common.{◌≡◌, ℕ, ◌≤◌, ◌⊎◌, ◌↔◌, inl, inr, List, [], length, if◌then◌else◌, nat_eq, Option, Some, None, refl, sym, ◌∙◌, ap, subst, arith}
 use Rattle.std.proofs.lemmas.List.{append-nil, take_all}
-use Rattle.qd_back.specs.Volumes.{IsDamagedAt, IsUnopened, MayFind}
+use Rattle.qd_store_backend.specs.Volumes.{IsDamagedAt, IsUnopened, MayFind}
 use Rattle.qd_store.proofs.OpenTold.{reads_now}
 use Rattle.qd_base.specs.declared.limits.TheConstants.{LAST_OFFSET}
 use Rattle.qd_base.specs.declared.op.Entry.{Entry}
@@ -16,13 +16,13 @@ use Rattle.qd_gen.specs.Generated.{requests, input as generated}
 use Rattle.qd_host.specs.Hosts.{Supply}
 use Rattle.qd_io.specs.Ends.{HasRisen, Stream}
 use Rattle.qd_print.specs.Printed.{reply_bytes}
-use Rattle.qd_quiet.specs.Quieted.{without_done}
+use Rattle.qd_gen.specs.Quieted.{without_done}
 use Rattle.qd_session.specs.Session.{IsClean, PutTo}
 use Rattle.qd_volume.specs.Disk.{Disk, reads_of}
-use Rattle.qd_words.specs.Words.{Asks}
-use Rattle.qd_words.specs.declared.command.Command.{Command}
-use Rattle.qd_words.specs.declared.command.Command.TheVariants as command
-use Rattle.qd_words.specs.declared.command.TheConstants.{MAX_GEN_LINES}
+use Rattle.qd_args.specs.Words.{Asks}
+use Rattle.qd_args.specs.declared.command.Command.{Command}
+use Rattle.qd_args.specs.declared.command.Command.TheVariants as command
+use Rattle.qd_args.specs.declared.command.TheConstants.{MAX_GEN_LINES}
 use Rattle.qd_top.specs.Run.{Answered, AsksToRun, CommandKind, CountsReads, CountsWrites, CutShort, Damaged, Did, EndsWith, FinishedRun, FoundDamage, IsServedWell, IsWellFramed, NoneFailed, NoVolume, OutOfMemory, OverStore, Ran, RefusedRun, Served, ServedBy, StoppedRun, Traffic, Unopened, prints, reached, traffic, usage}
 use Rattle.qd_top.specs.Status.{number_of}
 use Rattle.qd_top.specs.declared.status.Status.{Status}

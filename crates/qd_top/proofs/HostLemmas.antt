@@ -1,13 +1,13 @@
 -- A command over the volume of its host, from what the store and the session over it say.
 use Rattle.std.proofs.Common.{◌≡◌, ℕ, ◌≤◌, inl, inr, true, false, List, [], ◌++◌, length, Option, Some, None, IfSome, is_some, Ok, Err, refl, sym, ◌∙◌, ap, subst, arith}
 use Rattle.std.proofs.lemmas.List.{append-nil}
-use Rattle.qd_back.specs.Backs.{BeginsWith, IsTold, current, n_in}
-use Rattle.qd_back.specs.Volumes.{HoldsTold, IsDamagedAt, IsUnopened, KeepsTold, MayFind, Starts}
-use Rattle.qd_back.proofs.Begun.{shown_within, told_over}
-use Rattle.qd_back.proofs.Handled.{extends_same}
-use Rattle.qd_back.proofs.Keeping.{keeps_told}
-use Rattle.qd_back.proofs.Told.{told_of}
-use Rattle.qd_back.proofs.ToldOf.{told_count}
+use Rattle.qd_store_backend.specs.Backs.{BeginsWith, IsTold, current, n_in}
+use Rattle.qd_store_backend.specs.Volumes.{HoldsTold, IsDamagedAt, IsUnopened, KeepsTold, MayFind, Starts}
+use Rattle.qd_store_backend.proofs.Begun.{shown_within, told_over}
+use Rattle.qd_store_backend.proofs.Handled.{extends_same}
+use Rattle.qd_store_backend.proofs.Keeping.{keeps_told}
+use Rattle.qd_store_backend.proofs.Told.{told_of}
+use Rattle.qd_store_backend.proofs.ToldOf.{told_count}
 use Rattle.qd_base.specs.declared.op.Entry.{Entry}
 use Rattle.qd_base.specs.declared.part.WalRef.{WalRef}
 use Rattle.qd_base.specs.declared.request.Reply.{Reply}

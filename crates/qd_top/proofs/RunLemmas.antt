@@ -3,7 +3,7 @@ use Rattle.std.proofs.Common.{◌≡◌, ℕ, ◌+◌, ◌<◌, ◌≤◌, ◌�
 use Rattle.std.specs.List.{range_with_len}
 use Rattle.std.proofs.lemmas.List.{append-nil, append_assoc, take-append-drop, take_all}
 use Rattle.std.proofs.Math.Seq.{take-append-add}
-use Rattle.qd_back.specs.Backs.{Back, back_shown}
+use Rattle.qd_store_backend.specs.Backs.{Back, back_shown}
 use Rattle.qd_io.specs.Clocks.{Timeline}
 use Rattle.qd_io.specs.Ends.{Stream, WritesAll}
 use Rattle.qd_io.specs.declared.fault.IoFault.{IoFault}
@@ -20,7 +20,7 @@ use Rattle.qd_session.specs.declared.ended.Ended.{Ended as EndedBy}
 use Rattle.qd_session.specs.declared.ended.Ended.TheVariants as ended
 use Rattle.qd_frames.specs.Frames.{Frames, Steps, frame, frames_protocol}
 use Rattle.qd_print.specs.Printed.{reply_bytes}
-use Rattle.qd_quiet.specs.Quieted.{quiet_ending, quiet_protocol, quiet_turn, without_done}
+use Rattle.qd_gen.specs.Quieted.{quiet_ending, quiet_protocol, quiet_turn, without_done}
 use Rattle.qd_session.specs.Allowed.{Allowed}
 use Rattle.qd_session.specs.Alone.{AllowedAlone, pends_behind}
 use Rattle.qd_session.specs.Looks.{Extends, Look}

@@ -1,7 +1,7 @@
 -- What a run of the program took and wrote, by its status.
 use Rattle.std.specs.Prelude.{◌≡◌, ℕ, ◌+◌, ◌-◌, ◌≤◌, ◌⊎◌, Bool, true, false, List, [], ◌∷◌, ◌++◌, codes, length, take, Option, Some, None, IfSome}
 use Rattle.std.specs.List.{flat_map, range_with_len}
-use Rattle.qd_back.specs.Volumes.{HoldsTold, IsDamagedAt, IsUnopened, KeepsTold, MayFind}
+use Rattle.qd_store_backend.specs.Volumes.{HoldsTold, IsDamagedAt, IsUnopened, KeepsTold, MayFind}
 use Rattle.qd_base.specs.declared.limits.TheConstants.{LAST_OFFSET}
 use Rattle.qd_base.specs.declared.op.Entry.{Entry}
 use Rattle.qd_base.specs.declared.request.Request.{Request}
@@ -15,16 +15,16 @@ use Rattle.qd_io.specs.Ends.{HasRisen, Stream, counts_together}
 use Rattle.qd_frames.specs.Frames.{Steps}
 use Rattle.qd_gen.specs.Generated.{input as generated}
 use Rattle.qd_print.specs.Printed.{reply_bytes}
-use Rattle.qd_quiet.specs.Quieted.{without_done}
+use Rattle.qd_gen.specs.Quieted.{without_done}
 use Rattle.qd_session.specs.Alone.{AllowedAlone, pends_behind}
 use Rattle.qd_session.specs.Legal.{Legal, done_numbers}
 use Rattle.qd_session.specs.Looks.{Extends, Look}
 use Rattle.qd_session.specs.Session.{IsBad, IsClean, IsWaiting, PutTo, TakenFrom, refusal}
 use Rattle.qd_top.specs.declared.status.Status.{Status}
 use Rattle.qd_top.specs.declared.status.Status.TheVariants as status
-use Rattle.qd_words.specs.declared.command.Command.{Command}
-use Rattle.qd_words.specs.declared.command.Command.TheVariants as command
-use Rattle.qd_words.specs.Words.{Asks, IsCommand}
+use Rattle.qd_args.specs.declared.command.Command.{Command}
+use Rattle.qd_args.specs.declared.command.Command.TheVariants as command
+use Rattle.qd_args.specs.Words.{Asks, IsCommand}
 
 -- the line that other words are answered with
 abbrev pub usage : List ℕ

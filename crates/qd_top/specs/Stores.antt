@@ -1,6 +1,6 @@
 -- What a session over a store begins with and leaves, and what is said where no store is opened.
 use Rattle.std.specs.Prelude.{◌≡◌, ℕ, List, [], ◌++◌, length, Option, is_some}
-use Rattle.qd_back.specs.Backs.{Back, back_shown, current, n_in}
+use Rattle.qd_store_backend.specs.Backs.{Back, back_shown, current, n_in}
 use Rattle.qd_base.specs.declared.op.Entry.{Entry}
 use Rattle.qd_base.specs.declared.request.Reply.{Reply}
 use Rattle.qd_base.specs.declared.request.Reply.TheVariants as reply

@@ -1,6 +1,6 @@
 //! The program from its arguments: the words behind its name, and what it does with them.
 ghost use Rattle.std.specs.Prelude.{◌≡◌, ◌⊎◌, [], List, Option, drop, map, IfOk};
-ghost use Rattle.qd_back.specs.Volumes.{MayFind};
+ghost use Rattle.qd_store_backend.specs.Volumes.{MayFind};
 ghost use Rattle.qd_base.specs.declared.op.Entry.{Entry};
 ghost use Rattle.std.specs.Result.{MatchResult};
 ghost use Rattle.std.specs.String.{string_bytes};

@@ -1,27 +1,26 @@
 //! The program, over whatever it is given of the outside.
 ghost use Rattle.std.specs.Prelude.{◌≡◌, ◌⊎◌, ◌≤◌, ℕ, List, [], None, Option, Some, length};
-ghost use Rattle.qd_back.specs.Volumes.{MayFind};
+ghost use Rattle.qd_store_backend.specs.Volumes.{MayFind};
 ghost use Rattle.qd_base.specs.declared.limits.TheConstants.{LAST_OFFSET};
 ghost use Rattle.qd_base.specs.declared.op.Entry.{Entry};
 ghost use Rattle.qd_gen.specs.Generated.{input as generated};
 ghost use Rattle.qd_io.specs.Ends.{HasRisen};
 ghost use Rattle.qd_print.specs.Printed.{reply_bytes};
-ghost use Rattle.qd_quiet.specs.Quieted.{without_done};
-ghost use Rattle.qd_words.specs.declared.command.Command.{Command};
-ghost use Rattle.qd_words.specs.declared.command.TheConstants.{MAX_GEN_LINES};
-ghost use Rattle.qd_words.specs.Words.{Asks, IsCommand};
+ghost use Rattle.qd_gen.specs.Quieted.{without_done};
+ghost use Rattle.qd_args.specs.declared.command.Command.{Command};
+ghost use Rattle.qd_args.specs.declared.command.TheConstants.{MAX_GEN_LINES};
+ghost use Rattle.qd_args.specs.Words.{Asks, IsCommand};
 ghost use Rattle.qd_top.specs.Run.{Answered, AsksToRun, CountsReads, CountsWrites, CutShort, Damaged, EndsWith, FinishedRun, IsServedWell, NoneFailed, NoVolume, OutOfMemory, OverStore, Ran, RefusedRun, Served, StoppedRun, WroteUsage, traffic};
 ghost use Rattle.qd_top.specs.Status.{number_of};
 
 use crate::serving::serve_host;
 use crate::status::Status;
+use qd_args::{Command, read_words};
 use qd_base::Txt;
 use qd_frames::FrameFront;
-use qd_gen::{gen_input, input_is_read_as_asked};
+use qd_gen::{Quiet, TextSource, gen_input, input_is_read_as_asked};
 use qd_host::Host;
 use qd_io::{Both, IoFault, Sink, Source, write_all};
-use qd_quiet::{Quiet, TextSource};
-use qd_words::{Command, read_words};
 use std::alloc::Global;
 
 /// Runs the program: reads its words, does what they ask for, and gives its status.

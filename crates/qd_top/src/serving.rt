@@ -1,8 +1,9 @@
 //! A wire is served over the store of the host's volume.
+ghost use Rattle.qd_base.specs.declared.limits.TheConstants.{MAX_TXNS};
 ghost use Rattle.std.specs.Prelude.{◌≡◌, ◌≤◌, ℕ, List, None, Option};
-ghost use Rattle.qd_back.specs.Backs.{BeginsWith};
-ghost use Rattle.qd_back.specs.Rounds.{IsOnlyOne};
-ghost use Rattle.qd_back.specs.Volumes.{MayFind};
+ghost use Rattle.qd_store_backend.specs.Backs.{BeginsWith};
+ghost use Rattle.qd_store_backend.specs.Rounds.{IsOnlyOne};
+ghost use Rattle.qd_store_backend.specs.Volumes.{MayFind};
 ghost use Rattle.qd_base.specs.declared.op.Entry.{Entry};
 ghost use Rattle.qd_base.specs.declared.request.Reply.{Reply};
 ghost use Rattle.qd_top.specs.Frames.{SpellsFrames};
@@ -11,12 +12,12 @@ ghost use Rattle.qd_top.specs.Stores.{RanFrom, begun_of, store_of, with_volume};
 
 use crate::opening::refuse_volume;
 use crate::status::Status;
-use qd_back::{StoreBack, open_or_create};
 use qd_base::Front;
 use qd_host::{Host, faults_come_back};
 use qd_io::{IoFault, Sink, Source};
 use qd_session::serve;
 use qd_store::{Store, stores_are_whole};
+use qd_store_backend::{StoreBack, open_or_create};
 use std::alloc::Global;
 
 /// Serves a wire by a front of frames, over the store of the volume that the host gives for a folder, or where none is named.
@@ -80,7 +81,7 @@ fn serve_store<F: Front, W: Source + Sink, H: Host>(
     host: &mut H,
 ) -> Status
     ghost found: { Option (List Entry) }
-    requires usual { store.store.limits.max_txns ≡ 4194304 }
+    requires usual { store.store.limits.max_txns ≡ MAX_TXNS }
     requires alone { IsOnlyOne store.store.versions.versions }
     requires told { BeginsWith found store }
     requires lent { (H.supply host.old).lent_faults ≤ store.storage.faults }

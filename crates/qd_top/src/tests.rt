@@ -1,12 +1,11 @@
-//! The program over memory, where the cases of `tests/cases` can't see it: an input in pieces, calls that fail, a clock, and a
-//! volume that is served again.
+//! The program over memory, where the cases of `tests/cases` can't see it: a clock, and calls of each device that fail.
 ghost use Rattle.std.specs.Prelude.{◌<◌, ◌≤◌, length};
 
 use super::top;
 use qd_base::Txt;
-use qd_host::{Host, MemHost};
+use qd_host::MemHost;
 use qd_io::{MemClock, MemSink, MemSource};
-use qd_volume::{MemVolume, Volume};
+use qd_volume::MemVolume;
 use std::alloc::{AllocError, Global};
 use std::test::Fail;
 
@@ -64,16 +63,6 @@ fn example(
     served(alloc, input, output, &[0], &[])
 }
 
-#[test]
-fn example_in_pieces(rt: HostRuntime) -> Result<(), Fail> {
-    for piece in 1..EXAMPLE.len() + 1 {
-        let (status, output) = example(rt.alloc(), piece, &[], &[])?;
-        assert_eq!(rt; status, 0);
-        assert_eq!(rt; output.bytes(), ANSWER);
-    }
-    Ok(())
-}
-
 /// The clock is read for the two batches that lack a time, and fails for the second. A line with a stamp keeps it.
 #[test]
 fn times_of_the_clock(rt: HostRuntime) -> Result<(), Fail> {
@@ -93,17 +82,6 @@ fn times_of_the_clock(rt: HostRuntime) -> Result<(), Fail> {
 }
 
 #[test]
-fn faults(rt: HostRuntime) -> Result<(), Fail> {
-    let (status, output) = example(rt.alloc(), 8, &[1], &[])?;
-    assert_eq!(rt; status, 3);
-    assert_eq!(rt; output.bytes().len(), 0);
-    let (status, output) = example(rt.alloc(), 8, &[], &[0])?;
-    assert_eq!(rt; status, 4);
-    assert_eq!(rt; output.bytes().len(), 0);
-    Ok(())
-}
-
-#[test]
 fn every_fault(rt: HostRuntime) -> Result<(), Fail> {
     for number in 0..16u64 {
         let (status, output) = example(rt.alloc(), 5, &[number], &[])?;
@@ -116,54 +94,14 @@ fn every_fault(rt: HostRuntime) -> Result<(), Fail> {
     Ok(())
 }
 
-/// A host with a volume whose calls of these numbers fail, and whose own calls of these numbers do.
-fn host_with(alloc: Global, volume: &[u64], calls: &[u64]) -> Result<MemHost, AllocError> {
-    MemHost::new(alloc, MemVolume::new(alloc, volume)?, calls)
-}
-
-#[test]
-fn a_volume_is_served_again(rt: HostRuntime) -> Result<(), Fail> {
-    let alloc = rt.alloc();
-    let mut host = host_with(alloc, &[], &[])?;
-    let (status, output) = answered(alloc, &mut host, EXAMPLE)?;
-    assert_eq!(rt; (status, output.bytes()), (0, ANSWER));
-    let (status, output) = answered(alloc, &mut host, b"Q 1\ntA\nQ 1\ntW 5\nt v=2")?;
-    assert_eq!(rt; status, 0);
-    let rows =
-        b"R 1 42\nv,timestamp\n1,2024-01-01T00:00:00.000000Z\nA 1\nR 1 42\nv,timestamp\n1,2024-01-01T00:00:00.000000Z\nE 12 1\n";
-    assert_eq!(rt; output.bytes(), rows.as_slice());
-    Ok(())
-}
-
-/// The first byte of the log is changed.
-#[test]
-fn a_damaged_log(rt: HostRuntime) -> Result<(), Fail> {
-    let alloc = rt.alloc();
-    let mut host = host_with(alloc, &[], &[])?;
-    answered(alloc, &mut host, EXAMPLE)?;
-    let mut volume = host.volume(alloc, None)?;
-    volume.write_at(1, 0, b"X")?;
-    volume.sync(1)?;
-    host.put_back(volume);
-    let (status, output) = answered(alloc, &mut host, EXAMPLE)?;
-    assert_eq!(rt; (status, output.bytes()), (6, b"D 1 0\n".as_slice()));
-    Ok(())
-}
-
-#[test]
-fn no_volume(rt: HostRuntime) -> Result<(), Fail> {
-    let alloc = rt.alloc();
-    let mut host = host_with(alloc, &[], &[0])?;
-    let (status, output) = answered(alloc, &mut host, EXAMPLE)?;
-    assert_eq!(rt; (status, output.bytes().len()), (5, 0));
-    let (status, output) = answered(alloc, &mut host, EXAMPLE)?;
-    assert_eq!(rt; (status, output.bytes()), (0, ANSWER));
-    Ok(())
+/// A host with a volume whose calls of these numbers fail.
+fn host_with(alloc: Global, fails: &[u64]) -> Result<MemHost, AllocError> {
+    MemHost::new(alloc, MemVolume::new(alloc, fails)?, &[])
 }
 
 /// How many calls of its volume the example takes.
 fn calls_of_example(alloc: Global) -> Result<u64, AllocError> {
-    let mut host = host_with(alloc, &[], &[])?;
+    let mut host = host_with(alloc, &[])?;
     answered(alloc, &mut host, EXAMPLE)?;
     match host.shelf() {
         Some(volume) => Ok(volume.calls()),
@@ -177,7 +115,7 @@ fn calls_of_example(alloc: Global) -> Result<u64, AllocError> {
 fn each_call_of_a_volume_fails(rt: HostRuntime) -> Result<(), Fail> {
     let alloc = rt.alloc();
     for number in 0..calls_of_example(alloc)? {
-        let mut host = host_with(alloc, &[number], &[])?;
+        let mut host = host_with(alloc, &[number])?;
         let (status, output) = answered(alloc, &mut host, EXAMPLE)?;
         assert_eq!(rt; status, if output.bytes().is_empty() { 5 } else { 0 });
         let (again, later) = answered(alloc, &mut host, b"A\n")?;
@@ -187,30 +125,5 @@ fn each_call_of_a_volume_fails(rt: HostRuntime) -> Result<(), Fail> {
         assert!(rt; is_there || !output.bytes().starts_with(b"K 1\n"));
         assert!(rt; !is_there || status == 0);
     }
-    Ok(())
-}
-
-#[test]
-fn generated_lines(rt: HostRuntime) -> Result<(), Fail> {
-    let alloc = rt.alloc();
-    let words = [
-        Txt::from_bytes(alloc, b"gen")?,
-        Txt::from_bytes(alloc, b"1")?,
-        Txt::from_bytes(alloc, b"1")?,
-    ];
-    let mut host = host_with(alloc, &[], &[])?;
-    let mut input = MemSource::new(alloc, b"", 64, &[])?;
-    let mut output = MemSink::new(alloc, 64, &[])?;
-    let status = top(
-        &(),
-        alloc,
-        words.as_slice(),
-        &mut input,
-        &mut output,
-        &mut host,
-    );
-    assert_eq!(rt; status, 0);
-    assert!(rt; output.bytes().starts_with(b"A "));
-    assert!(rt; output.bytes().ends_with(b"X\n"));
     Ok(())
 }

@@ -7,5 +7,6 @@ pub mod Settled
 pub mod Heads
 pub mod ReadLemmas
 pub mod FoundLemmas
+pub mod GivenLemmas
 pub mod LawLemmas
 pub mod DamageLemmas

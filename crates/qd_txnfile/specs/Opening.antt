@@ -1,12 +1,12 @@
 -- What is found when two version files are opened.
-use Rattle.std.specs.Prelude.{◌≡◌, ℕ, Result, Ok, Err}
+use Rattle.std.specs.Prelude.{◌≡◌, ℕ, List, length, Result, Ok, Err}
 use Rattle.qd_volume.specs.Disk.{Disk, reads_of}
 use Rattle.qd_durable.specs.declared.fault.LogFault.{LogFault}
 use Rattle.qd_durable.specs.declared.fault.LogFault.TheVariants as fault
 use Rattle.qd_txnfile.specs.declared.opening.Found.{Found}
 use Rattle.qd_durable.specs.Moments.{EachNow, LeavesEarlier}
 use Rattle.qd_txnfile.specs.Versions.{GivesFrom, GivesVersion, Version, file_of, limit_of, other_of}
-use Rattle.qd_txnfile.specs.Reading.{IsOtherFound}
+use Rattle.qd_txnfile.specs.Reading.{IsHeadGiven, IsOtherFound}
 use Rattle.qd_txnfile.specs.Damage.{IsDamaged}
 use Rattle.qd_txnfile.specs.States.{Knows}
 
@@ -28,6 +28,12 @@ pub record Opens (result : Result Found LogFault) (before after : Disk) : Type 0
   -- what each file reads stays
   pub reads : (file : ℕ) → reads_of after file ≡ reads_of before file
   pub images : LeavesEarlier before after
+
+-- The version was read: reads of its file gave its head and its manifest. Which bytes a read may have given is what a volume says,
+-- also one that tells nothing of what it holds.
+pub record IsGiven (gives : ℕ → ℕ → List ℕ → Type 0) (found : Found) : Type 0 where
+  pub head : IsHeadGiven gives found.file.current found.n (length found.manifest)
+  pub manifest : gives (file_of found.file.current) 17 found.manifest
 
 -- Both files are synced.
 abbrev pub AreSettled : {T E : Type 0} → Result T E → Disk → Disk → Type 0

@@ -1,5 +1,5 @@
 -- What the first bytes of version files say.
-use Rattle.std.specs.Prelude.{◌≡◌, ℕ, ◌+◌, ◌^◌, ◌<◌, ◌≤◌, List, ◌∷◌, length, take, Result, Ok, Err}
+use Rattle.std.specs.Prelude.{◌≡◌, ℕ, ◌+◌, ◌^◌, ◌<◌, ◌≤◌, List, ◌∷◌, ◌++◌, length, take, Result, Ok, Err}
 use Rattle.std.specs.Int.{to_le_bytes, w64}
 use Rattle.qd_volume.specs.Disk.{Image}
 use Rattle.qd_durable.specs.Places.{StandsAt}
@@ -64,6 +64,12 @@ abbrev pub IsNewestRead : Result Newest LogFault → Image → Type 0
 IsNewestRead (Ok newest) image = IsNewest newest image
 IsNewestRead (Err (fault.Damaged file at)) image = IsDamaged image file at
 IsNewestRead (Err _) image = Unit {0}
+
+-- a read of the start of a file gave a head with an open gate, the number of a version and the length of its manifest
+pub record IsHeadGiven (gives : ℕ → ℕ → List ℕ → Type 0) (half : Half) (n size : ℕ) : Type 0 where
+  pub head : List ℕ
+  pub given : gives (file_of half) 0 head
+  pub stands : StandsAt head 0 (1 ∷ (to_le_bytes w64 n ++ to_le_bytes w64 size))
 
 -- the manifest of a size, or the length of the file where it is cut
 abbrev pub IsManifest : Result (List ℕ) LogFault → ℕ → ℕ → List ℕ → Type 0

@@ -12,8 +12,6 @@ mod laws;
 mod opening;
 mod reading;
 mod root;
-#[cfg(test)]
-mod tests;
 
 pub use half::{FIRST, Half, Other, SECOND};
 pub use laws::{

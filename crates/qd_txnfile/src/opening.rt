@@ -2,8 +2,8 @@
 ghost use Rattle.qd_durable.specs.Faults.{CountsVol};
 ghost use Rattle.qd_durable.specs.Moments.{Told};
 ghost use Rattle.qd_io.specs.Ends.{Counts};
-ghost use Rattle.qd_txnfile.specs.Opening.{IsRead, Opens, Settles};
-ghost use Rattle.std.specs.Prelude.{◌≡◌, IfSome};
+ghost use Rattle.qd_txnfile.specs.Opening.{IsGiven, IsRead, Opens, Settles};
+ghost use Rattle.std.specs.Prelude.{◌≡◌, IfOk, IfSome};
 
 use crate::half::{FIRST, SECOND};
 use crate::reading::{read_manifest, read_newest};
@@ -32,7 +32,9 @@ impl TxnFile {
     /// At every moment, and whatever is answered, a crash leaves only what it might have left before the call, and after an `Ok`
     /// only that version. What files read stays as it was. An `Err` is [`LogFault::Damaged`] exactly where the files give no
     /// version, at the first byte of the first field that breaks the layout, or at a file's length where bytes are missing.
+    /// What is found was read: where the volume gives fewer bytes, whatever it tells, none are taken in their place.
     pub fn open_versions<V: Volume>(alloc: Global, volume: &mut V) -> Result<Found, LogFault>
+        ensures given { IfOk result (λ found. IsGiven V.gives found) }
         ensures told { Told (V.storage volume.old).disk (V.storage volume.new).disk (Opens result) }
 
         // The count of faults rises exactly where `Vol` is answered.
@@ -54,6 +56,7 @@ fn settle<V: Volume>(volume: &mut V) -> Result<(), IoFault>
 
 /// Reads the version that both files give.
 fn read_versions<V: Volume>(alloc: Global, volume: &mut V) -> Result<Found, LogFault>
+    ensures given { IfOk result (λ found. IsGiven V.gives found) }
     ensures told { IfSome (V.storage volume.old).disk (λ disk. IsRead result disk) }
     ensures stays { (V.storage volume.new).disk ≡ (V.storage volume.old).disk }
     ensures counted { CountsVol (V.storage volume.old).faults (V.storage volume.new).faults result }

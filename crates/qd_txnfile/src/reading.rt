@@ -4,7 +4,7 @@ ghost use Rattle.qd_durable.specs.Places.{StandsAt};
 ghost use Rattle.qd_durable.specs.declared.fault.LogFault.TheVariants.{Damaged as DamagedAt};
 ghost use Rattle.qd_io.specs.Ends.{Counts};
 ghost use Rattle.qd_txnfile.specs.Damage.{HasNoNumber, IsDamaged};
-ghost use Rattle.qd_txnfile.specs.Reading.{IsChosen, IsFound, IsGate, IsHeadOf, IsJudged, IsManifest, IsNewestOf, IsNewestRead};
+ghost use Rattle.qd_txnfile.specs.Reading.{IsChosen, IsFound, IsGate, IsHeadOf, IsHeadGiven, IsJudged, IsManifest, IsNewestOf, IsNewestRead};
 ghost use Rattle.qd_txnfile.specs.Versions.{IsClosed, file_of};
 ghost use Rattle.qd_volume.specs.Disk.{Image, reads_of};
 ghost use Rattle.std.specs.Int.{to_le_bytes, w64};
@@ -41,6 +41,7 @@ impl Head {
     /// Lends them.
     fn shown(&self) -> &[u8]
         ensures same { result.now ≡ self.now }
+        ensures few { length result.now ≤ 17 }
     {
         &self.bytes[..self.len]
     }
@@ -105,6 +106,7 @@ impl From<Damage> for LogFault {
 
 /// Reads the first bytes of a file.
 fn read_head<V: Volume>(volume: &mut V, file: u64) -> Result<Head, IoFault>
+    ensures given { IfOk result (λ head. V.gives file 0 head) }
     ensures told { IfOk result (λ head. IfSome (V.storage volume.old).disk (λ disk. IsHeadOf head (reads_of disk file))) }
     ensures stays { (V.storage volume.new).disk ≡ (V.storage volume.old).disk }
     ensures counted { Counts (V.storage volume.old).faults (V.storage volume.new).faults result }
@@ -247,6 +249,7 @@ fn newer_of(first: u64, second: u64) -> Choice
 
 /// The newest version by the heads of both files.
 pub(crate) fn read_newest<V: Volume>(volume: &mut V) -> Result<Newest, LogFault>
+    ensures given { IfOk result (λ newest. IsHeadGiven V.gives newest.half newest.n newest.size) }
     ensures told { IfSome (V.storage volume.old).disk (λ disk. IsNewestRead result (reads_of disk)) }
     ensures found { IfOk result (λ newest. IsFound newest.other) }
     ensures stays { (V.storage volume.new).disk ≡ (V.storage volume.old).disk }
@@ -297,6 +300,8 @@ pub(crate) fn read_manifest<V: Volume>(
     file: u64,
     size: u64,
 ) -> Result<Txt, LogFault>
+    ensures given { IfOk result (λ manifest. V.gives file 17 manifest) }
+    ensures whole { IfOk result (λ manifest. length manifest ≡ size) }
     ensures told { IfSome (V.storage volume.old).disk (λ disk. IsManifest result file size (reads_of disk file)) }
     ensures stays { (V.storage volume.new).disk ≡ (V.storage volume.old).disk }
     ensures counted { CountsVol (V.storage volume.old).faults (V.storage volume.new).faults result }

@@ -3,11 +3,11 @@ use Rattle.std.proofs.Common.{◌≡◌, ℕ, ◌+◌, ◌*◌, ◌^◌, ◌<◌
 use Rattle.std.proofs.lemmas.Bool.Decides.{nat_tests}
 use Rattle.qd_base.specs.declared.limits.TheConstants.{MAX_COLUMNS}
 use Rattle.qd_block.specs.Blocks.{Block, column_in}
-use Rattle.qd_stored.specs.Spelling.{SpellsColumn}
+use Rattle.qd_column_format.specs.Spelling.{SpellsColumn}
 use Rattle.qd_volume.specs.Disk.{Image}
 use Rattle.qd_durable.specs.Moments.{SameBut}
 use Rattle.qd_txnfile.specs.Versions.{is_version_file}
-use Rattle.qd_files.specs.Files.{HoldsBlock, column_file, is_file_of}
+use Rattle.qd_column_files.specs.Files.{HoldsBlock, column_file, is_file_of}
 use Rattle.qd_versions.specs.Publishing.{is_file_from, is_published_file}
 
 -- a file between two numbers

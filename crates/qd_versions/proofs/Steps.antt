@@ -11,8 +11,8 @@ use Rattle.qd_txnfile.specs.States.{GivesKnown, GivesOneOf, IsDirty, Knows, Root
 use Rattle.qd_txnfile.specs.declared.half.Other.TheVariants as other
 use Rattle.qd_txnfile.specs.Versions.{GivesVersion, Version, is_version_file}
 use Rattle.qd_txnfile.proofs.Steps.{elsewhere_both}
-use Rattle.qd_files.specs.Calls.{PutsBlock, RemovesBlock}
-use Rattle.qd_files.specs.Files.{HoldsBlock, is_file_of}
+use Rattle.qd_column_files.specs.Calls.{PutsBlock, RemovesBlock}
+use Rattle.qd_column_files.specs.Files.{HoldsBlock, is_file_of}
 use Rattle.qd_versions.specs.declared.published.NewBlock.{NewBlock}
 use Rattle.qd_versions.specs.Publishing.{AreNumbered, GivesBefore, GivesWhole, HoldsAll, is_file_from, is_published_file}
 use Rattle.qd_versions.specs.Writing.{Clears, IsLaid, IsTurned, LaysDown, PutsBlocks, Turns}

@@ -13,7 +13,7 @@ use Rattle.qd_base.specs.Schemas.{same_name}
 use Rattle.qd_base.specs.declared.part.Part.{Part}
 use Rattle.qd_base.specs.declared.schema.Schema.{Schema}
 use Rattle.qd_manifest.specs.declared.shape.TableParts.{TableParts}
-use Rattle.qd_manifest.specs.Spelling.{AreParts, IsManifest, IsPart, blocks_in, blocks_of, schemas_in}
+use Rattle.qd_manifest.specs.Spelling.{AreParts, IsManifest, IsPart, blocks_in, blocks_of, rows_shown, schemas_in}
 use Rattle.qd_txnfile.specs.States.{Root}
 use Rattle.qd_catalog.specs.declared.version.Version.{Version}
 use Rattle.qd_catalog.specs.Versions.{Adds, IsListed, IsLive, IsOpened, MayAdd, Retires, SameVersions, Sweeps, Versions, current_n, first_row, is_kept, lists, n_of, new_blocks, next_after, parts_of, rows_in, shown, version_at, written_of}
@@ -368,6 +368,7 @@ no_manifest = record {
   next_fits = omega arith;
   schemas = record { few = omega arith; each = All-nil IsSchema; distinct = IsDistinct-nil (λ (a : Schema) (b : Schema). same_name a.name b.name) };
   parts = All-nil (λ t. AreParts t.schema t.parts);
+  few = All-nil (λ (t : TableParts). rows_shown t.parts ≤ 0);
   below = All-nil (λ b. b < 0);
   distinct = IsDistinct-nil nat_eq;
 }

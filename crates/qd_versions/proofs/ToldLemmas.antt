@@ -9,7 +9,7 @@ use Rattle.qd_txnfile.specs.Calls.{Flips, WritesBody}
 use Rattle.qd_txnfile.specs.Calls as root
 use Rattle.qd_txnfile.specs.States.{IsDirty, Root}
 use Rattle.qd_txnfile.specs.Versions.{Version}
-use Rattle.qd_files.specs.Calls.{PutsBlock, RemovesBlock}
+use Rattle.qd_column_files.specs.Calls.{PutsBlock, RemovesBlock}
 use Rattle.qd_versions.specs.declared.published.NewBlock.{NewBlock}
 use Rattle.qd_versions.specs.Writing.{Clears, LaysDown, PutsBlocks, Turns}
 use Rattle.qd_versions.proofs.Steps.{AreAt, AreFew, HasPut, all_put, clear_not_repaired, clear_removed, lay_not_put, lay_not_repaired, lay_turned, put_failed, put_more, put_none, turn_flipped, turn_not_begun}

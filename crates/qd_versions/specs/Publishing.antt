@@ -10,7 +10,7 @@ use Rattle.qd_txnfile.specs.Versions.{GivesVersion, Version, is_version_file}
 use Rattle.qd_manifest.specs.declared.shape.TableParts.{TableParts}
 use Rattle.qd_manifest.specs.Spelling.{IsManifest, blocks_of}
 use Rattle.qd_catalog.specs.Versions.{Versions, current_n, lists, version_at}
-use Rattle.qd_files.specs.Files.{HoldsBlock, column_file}
+use Rattle.qd_column_files.specs.Files.{HoldsBlock, column_file}
 use Rattle.qd_versions.specs.declared.published.NewBlock.{NewBlock}
 use Rattle.qd_versions.specs.Stores.{manifest_in}
 

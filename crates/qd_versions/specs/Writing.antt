@@ -8,8 +8,8 @@ use Rattle.qd_durable.specs.Moments.{EachNow, LeavesOnly, Moves, SameBut}
 use Rattle.qd_txnfile.specs.Calls.{ChangesVersionFiles}
 use Rattle.qd_txnfile.specs.States.{GivesOneOf, IsDirty, Knows, Root}
 use Rattle.qd_txnfile.specs.Versions.{GivesVersion, Version, is_version_file}
-use Rattle.qd_files.specs.Calls.{IsGone}
-use Rattle.qd_files.specs.Files.{is_file_of}
+use Rattle.qd_column_files.specs.Calls.{IsGone}
+use Rattle.qd_column_files.specs.Files.{is_file_of}
 use Rattle.qd_versions.specs.declared.published.NewBlock.{NewBlock}
 use Rattle.qd_versions.specs.Publishing.{GivesBefore, GivesWhole, HoldsAll, is_file_from, is_published_file}
 

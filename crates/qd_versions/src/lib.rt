@@ -13,8 +13,6 @@ mod laws;
 mod opening;
 mod published;
 mod store;
-#[cfg(test)]
-mod tests;
 mod writing;
 
 pub use fault::PublishFault;

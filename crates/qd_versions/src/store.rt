@@ -6,7 +6,7 @@ ghost use Rattle.qd_catalog.specs.Versions.{Adds, IsListed, IsLive, Retires, Sam
 ghost use Rattle.qd_catalog.specs.Versions as catalog;
 ghost use Rattle.qd_durable.specs.Faults.{CountsVol};
 ghost use Rattle.qd_durable.specs.Moments.{Told};
-ghost use Rattle.qd_files.specs.Reading.{IsBlockRead};
+ghost use Rattle.qd_column_files.specs.Reading.{IsBlockRead};
 ghost use Rattle.qd_io.specs.Ends.{Counts};
 ghost use Rattle.qd_manifest.specs.declared.shape.Manifest.{Manifest};
 ghost use Rattle.qd_manifest.specs.declared.shape.TableParts.{TableParts};
@@ -30,8 +30,8 @@ use crate::published::NewBlock;
 use crate::writing::{clear, lay_down};
 use qd_block::Block;
 use qd_catalog::{Catalog, manifest_of};
+use qd_column_files::{read_block, remove_block};
 use qd_durable::LogFault;
-use qd_files::{read_block, remove_block};
 use qd_io::IoFault;
 use qd_manifest::Shape;
 use qd_symbols::SymbolMap;

@@ -8,7 +8,7 @@ ghost use Rattle.qd_versions.specs.Writing.{Clears, IsNarrow, LaysDown, PutsBloc
 ghost use Rattle.std.specs.Prelude.{◌≡◌, ◌+◌, ◌^◌, ◌<◌, ◌≤◌, length, All, OnErr, OnOk};
 
 use crate::published::NewBlock;
-use qd_files::{put_block, remove_block};
+use qd_column_files::{put_block, remove_block};
 use qd_io::IoFault;
 use qd_txnfile::TxnFile;
 use qd_volume::Volume;

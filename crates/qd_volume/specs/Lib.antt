@@ -5,5 +5,6 @@ pub mod Crash
 pub mod Disk
 pub mod Files
 pub mod Fuse
+pub mod Heap
 pub mod Memory
 pub mod Notes

@@ -1,7 +1,7 @@
 //! A volume that stops after a number of calls.
 ghost use Rattle.qd_io.specs.Ends.{Counts};
 ghost use Rattle.qd_volume.specs.Calls.{Cuts, Measures, ReadsAt, Syncs, WritesAt};
-ghost use Rattle.std.specs.Prelude.{◌≡◌, ◌-◌, ◌<◌, ◌≤◌, length, Err, IfOk, Ok};
+ghost use Rattle.std.specs.Prelude.{◌≡◌, ◌-◌, ◌<◌, ◌≤◌, length, take, Err, IfOk, Ok};
 
 use crate::traits::Volume;
 use qd_io::IoFault;
@@ -59,8 +59,11 @@ impl<V: Volume> Volume for FuseVolume<V> {
 
     ghost storage = { λ fuse. record { disk = (V.storage (inner_of fuse)).disk; faults = faults_of (V.storage (inner_of fuse)).faults fuse } };
 
+    ghost gives = { V.gives };
+
     fn read(&mut self, file: u64, at: u64, buf: &mut [u8]) -> Result<usize, IoFault>
         ensures within { IfOk result (λ n. n ≤ length buf.old) }
+        ensures given { IfOk result (λ n. V.gives file at (take n buf.new)) }
         ensures told { ReadsAt (V.storage (inner_of self.old)).disk file at buf.old buf.new result }
         ensures stays { (V.storage (inner_of self.new)).disk ≡ (V.storage (inner_of self.old)).disk }
         ensures counted { Counts (faults_of (V.storage (inner_of self.old)).faults self.old) (faults_of (V.storage (inner_of self.new)).faults self.new) result }

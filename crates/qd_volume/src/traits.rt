@@ -1,7 +1,7 @@
 //! A volume as a trait: files of bytes, and what a crash may leave of them.
 ghost use Rattle.qd_io.specs.Ends.{Counts};
 ghost use Rattle.qd_volume.specs.Calls.{Cuts, Measures, ReadsAt, Storage, Syncs, WritesAt};
-ghost use Rattle.std.specs.Prelude.{◌≡◌, ◌≤◌, length, IfOk};
+ghost use Rattle.std.specs.Prelude.{◌≡◌, ◌≤◌, ℕ, List, length, take, IfOk, ⊤};
 
 use qd_io::IoFault;
 
@@ -12,8 +12,13 @@ use qd_io::IoFault;
 ///
 /// Until a file is synced, a crash may leave any bytes in the ranges that were written since, and behind the least
 /// length that the file had since, and the file may end anywhere there. A removal or a cut may be done or not.
+///
+/// `gives` says which bytes a read of a file from a place on may have given, and is known of what a read gave alone: a
+/// function over any volume that promises it of some bytes has them from the volume, also where that tells nothing.
 pub trait Volume {
     ghost storage: { Self → Storage };
+
+    ghost gives: { ℕ → ℕ → List ℕ → Type 0 } = { λ file at bytes. ⊤ };
 
     /// Reads the bytes of a file from a place on into the start of `buf`, and gives their number: as many as are there,
     /// and as `buf` has room for. It is 0 from the end of the file on.
@@ -21,6 +26,7 @@ pub trait Volume {
     /// After an `Err` what `buf` holds is left open.
     fn read(&mut self, file: u64, at: u64, buf: &mut [u8]) -> Result<usize, IoFault>
         ensures within { IfOk result (λ n. n ≤ length buf.old) }
+        ensures given { IfOk result (λ n. Self.gives file at (take n buf.new)) }
         ensures told { ReadsAt (Self.storage self.old).disk file at buf.old buf.new result }
         ensures stays { (Self.storage self.new).disk ≡ (Self.storage self.old).disk }
 

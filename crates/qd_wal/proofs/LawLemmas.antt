@@ -2,7 +2,7 @@
 use Rattle.std.proofs.Common.{◌≡◌, inl, inr, ℕ, ◌+◌, min, List, length, sym, ap, ◌∙◌, arith}
 use Rattle.qd_base.specs.declared.op.Entry.{Entry}
 use Rattle.qd_base.specs.declared.part.WalRef.{WalRef}
-use Rattle.qd_entry.proofs.Entries.{damaged_spells_none, one_entry, one_place}
+use Rattle.qd_wal_entry.proofs.Entries.{damaged_spells_none, one_entry, one_place}
 use Rattle.qd_wal.specs.Segments.{part_at}
 use Rattle.qd_wal.specs.Reading.{IsDamagedIn, SpellsAt}
 

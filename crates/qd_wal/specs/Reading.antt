@@ -6,14 +6,22 @@ use Rattle.qd_base.specs.declared.part.WalRef.{WalRef}
 use Rattle.qd_durable.specs.declared.fault.LogFault.{LogFault}
 use Rattle.qd_durable.specs.declared.fault.LogFault.TheVariants as fault
 use Rattle.qd_io.specs.declared.fault.IoFault.{IoFault}
-use Rattle.qd_entry.specs.Spelling.{SpellsEntry}
-use Rattle.qd_entry.specs.Reading.{IsDamagedAt}
+use Rattle.qd_wal_entry.specs.Spelling.{SpellsEntry}
+use Rattle.qd_wal_entry.specs.Reading.{IsDamagedAt}
 use Rattle.qd_wal.specs.Segments.{file_in, part_at}
 
 -- the bytes at a place of a segment spell a transaction
 pub record SpellsAt (bytes : List ℕ) (at : WalRef) (e : Entry) : Type 0 where
   pub whole : length (part_at bytes at) ≡ at.len
   pub spelled : SpellsEntry (part_at bytes at) e
+
+-- The bytes that a read of the entry's place gave are all of its bytes, and spell the transaction. Which bytes a read may have
+-- given is what a volume says, also one that tells nothing of what it holds.
+pub record IsGiven (gives : ℕ → ℕ → List ℕ → Type 0) (at : WalRef) (e : Entry) : Type 0 where
+  pub part : List ℕ
+  pub given : gives (file_in at) at.start part
+  pub whole : length part ≡ at.len
+  pub spelled : SpellsEntry part e
 
 -- a field of the entry breaks the layout, or bytes of the entry are missing
 abbrev pub IsBroken : List ℕ → WalRef → ℕ → Type 0

@@ -1,14 +1,12 @@
 //! Write-ahead logs: entries of transactions, one behind another in the segments of a log, with what a crash leaves of them
 //! at every moment.
 //!
-//! Segment s of log w is the file 2^63 + w·2^24 + s of a volume. It holds entries alone, as `qd_entry` spells them. Where an
+//! Segment s of log w is the file 2^63 + w·2^24 + s of a volume. It holds entries alone, as `qd_wal_entry` spells them. Where an
 //! entry lies is a [`qd_base::WalRef`]; what no one refers to is of no account.
 #![tactic(auto)]
 
 mod laws;
 mod reading;
-#[cfg(test)]
-mod tests;
 mod writer;
 
 pub use laws::{

@@ -2,16 +2,17 @@
 ghost use Rattle.qd_durable.specs.Faults.{CountsVol};
 ghost use Rattle.qd_io.specs.Ends.{Counts};
 ghost use Rattle.qd_volume.specs.Disk.{reads_of};
-ghost use Rattle.qd_wal.specs.Reading.{IsEntryRead, IsPartRead};
+ghost use Rattle.qd_wal_entry.specs.Spelling.{SpellsEntry};
+ghost use Rattle.qd_wal.specs.Reading.{IsEntryRead, IsGiven, IsPartRead};
 ghost use Rattle.qd_wal.specs.Segments.{file_in, part_at};
-ghost use Rattle.std.specs.Prelude.{◌≡◌, ℕ, List, length, IfSome};
+ghost use Rattle.std.specs.Prelude.{◌≡◌, ◌≤◌, ◌<◌, ◌^◌, ℕ, List, length, IfOk, IfSome};
 
 use crate::writer::segment_file;
 use qd_base::{Entry, WalRef};
 use qd_durable::LogFault;
-use qd_entry::{EntryFault, decode_entry};
 use qd_io::IoFault;
 use qd_volume::Volume;
+use qd_wal_entry::{EntryFault, decode_entry};
 use std::alloc::Global;
 
 /// Why an entry isn't read.
@@ -23,9 +24,11 @@ pub type ReadFault = LogFault;
 /// An `Err` is [`LogFault::Damaged`] exactly where the bytes there spell no transaction: at the first byte of the first
 /// field that breaks the layout, or at the file's length where bytes are missing. What the volume holds stays as it was.
 ///
-/// The file is the one that [`segment_file`] names, whatever the segment's number is. No place that a log of references gives
-/// has one of 2^24 or more, which would name a later log's segment: such a log is damaged.
+/// What is answered was read: where the volume gives fewer bytes than the entry has, whatever it tells, none are taken in
+/// their place.
 pub fn read_entry<V: Volume>(alloc: Global, volume: &mut V, at: WalRef) -> Result<Entry, ReadFault>
+    requires segment { at.segment < 2 ^ 24 }
+    ensures given { IfOk result (λ e. IsGiven V.gives at e) }
     ensures told { IfSome (V.storage volume.old).disk (λ disk. IsEntryRead result at (reads_of disk (file_in at))) }
     ensures stays { (V.storage volume.new).disk ≡ (V.storage volume.old).disk }
 
@@ -46,6 +49,8 @@ fn read_part<V: Volume>(
     len: u64,
     at: WalRef,
 ) -> Result<Vec<u8>, IoFault>
+    ensures given { IfOk result (λ part. V.gives file at.start part.items) }
+    ensures most { IfOk result (λ part. length part.items ≤ at.len) }
     ensures told { IfSome (V.storage volume.old).disk (λ disk. IsPartRead result len at (reads_of disk file)) }
     ensures stays { (V.storage volume.new).disk ≡ (V.storage volume.old).disk }
     ensures counted { Counts (V.storage volume.old).faults (V.storage volume.new).faults result }
@@ -59,6 +64,9 @@ fn read_part<V: Volume>(
 
 /// The transaction that the bytes of an entry spell, as far as they are there, in a file of a length.
 fn judge(alloc: Global, part: &[u8], len: u64, at: WalRef) -> Result<Entry, LogFault>
+    requires segment { at.segment < 2 ^ 24 }
+    ensures whole { IfOk result (λ e. at.len ≤ length part.now) }
+    ensures spelled { IfOk result (λ e. SpellsEntry part.now e) }
     ensures read { (bytes : List ℕ) → length bytes ≡ len → part.now ≡ part_at bytes at → IsEntryRead result at bytes }
     ensures counted { (faults : ℕ) → CountsVol faults faults result }
 {

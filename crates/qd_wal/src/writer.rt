@@ -80,9 +80,10 @@ impl WalWriter {
     }
 }
 
-/// The number of the file that holds a segment of a log. Segments have numbers below 2^24: from there on it is the file of a
-/// later log's segment.
+/// The number of the file that holds a segment of a log. Segments have numbers below 2^24: from there on it would be the file
+/// of a later log's segment.
 pub fn segment_file(wal: u32, segment: u32) -> u64
+    requires segment { segment < 2 ^ 24 }
     ensures number { result ≡ segment_file wal segment }
 {
     (1 << 63) + ((wal as u64) << 24) + segment as u64

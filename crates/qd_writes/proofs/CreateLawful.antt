@@ -21,10 +21,10 @@ use Rattle.qd_base.specs.Names.{IsColumnName, IsTableName}
 use Rattle.qd_base.specs.Schemas.{same_name, table_at, column_at}
 use Rattle.qd_base.proofs.Alike.{alike, joins}
 use Rattle.qd_base.proofs.Lists.{Contains-cons, IsDistinct-cons, IsDistinct-nil, IsDistinct-map, IsDistinct-from_map, each-map, each-weaker}
-use Rattle.qd_trees.specs.declared.tree.ColumnDef.{ColumnDef}
-use Rattle.qd_trees.specs.declared.tree.Create.{Create}
-use Rattle.qd_trees.specs.declared.tree.Dedup.{Dedup}
-use Rattle.qd_trees.specs.declared.tree.Name.{Name}
+use Rattle.qd_sql_ast.specs.declared.tree.ColumnDef.{ColumnDef}
+use Rattle.qd_sql_ast.specs.declared.tree.Create.{Create}
+use Rattle.qd_sql_ast.specs.declared.tree.Dedup.{Dedup}
+use Rattle.qd_sql_ast.specs.declared.tree.Name.{Name}
 use Rattle.qd_meaning.specs.declared.refusal.Refusal.{Refusal}
 use Rattle.qd_meaning.specs.Refusals.{at, unless}
 use Rattle.qd_meaning.specs.Laws.{NamesAreJudged}

@@ -27,11 +27,11 @@ use Rattle.qd_base.proofs.Lawful.{missing-taken}
 use Rattle.qd_base.proofs.Lists.{each-both, each-fact, each-map, each-weaker}
 use Rattle.qd_base.proofs.Tables.{position-found}
 use Rattle.qd_time.specs.declared.fault.TimeFault.{TimeFault}
-use Rattle.qd_trees.specs.declared.tree.Insert.{Insert}
-use Rattle.qd_trees.specs.declared.tree.Lit.{Lit}
-use Rattle.qd_trees.specs.declared.tree.Lit.TheVariants as lit
-use Rattle.qd_trees.specs.declared.tree.Name.{Name}
-use Rattle.qd_trees.specs.declared.tree.Tuple.{Tuple}
+use Rattle.qd_sql_ast.specs.declared.tree.Insert.{Insert}
+use Rattle.qd_sql_ast.specs.declared.tree.Lit.{Lit}
+use Rattle.qd_sql_ast.specs.declared.tree.Lit.TheVariants as lit
+use Rattle.qd_sql_ast.specs.declared.tree.Name.{Name}
+use Rattle.qd_sql_ast.specs.declared.tree.Tuple.{Tuple}
 use Rattle.qd_meaning.specs.declared.refusal.Refusal.{Refusal}
 use Rattle.qd_meaning.specs.Refusals.{at, unless}
 use Rattle.qd_meaning.specs.TimeTexts.{time_of_text, time_of_number}

@@ -13,8 +13,8 @@ use Rattle.qd_base.specs.declared.code.Code.{Code}
 use Rattle.qd_base.specs.declared.schema.Col.{Col}
 use Rattle.qd_base.specs.Schemas.{same_name, column_at}
 use Rattle.qd_base.proofs.Texts.{some_place}
-use Rattle.qd_trees.specs.declared.tree.ColumnDef.{ColumnDef}
-use Rattle.qd_trees.specs.declared.tree.Name.{Name}
+use Rattle.qd_sql_ast.specs.declared.tree.ColumnDef.{ColumnDef}
+use Rattle.qd_sql_ast.specs.declared.tree.Name.{Name}
 use Rattle.qd_meaning.specs.declared.refusal.Refusal.{Refusal}
 use Rattle.qd_meaning.specs.Refusals.{at, unless}
 use Rattle.qd_meaning.specs.Creating.{again_from, col_of}

@@ -12,7 +12,7 @@ use Rattle.qd_base.specs.declared.cell.Cell.{Cell}
 use Rattle.qd_base.specs.declared.cell.Cell.TheVariants as cell
 use Rattle.qd_base.specs.declared.schema.Col.{Col}
 use Rattle.qd_base.specs.Database.{missing}
-use Rattle.qd_trees.specs.declared.tree.Lit.{Lit}
+use Rattle.qd_sql_ast.specs.declared.tree.Lit.{Lit}
 use Rattle.qd_meaning.specs.Inserting.{Target, cell_for, cell_or}
 use Rattle.qd_writes.specs.Placing.{place_of, literal_at, pair, taken_cell, cells_of, view_cell, cell_in, placed, ArePlaces}
 

@@ -16,7 +16,7 @@ use Rattle.qd_base.proofs.Tables.{find-position, not_found}
 use Rattle.qd_time.specs.declared.fault.TimeFault.{TimeFault}
 use Rattle.qd_time.specs.declared.fault.TimeFault.TheVariants as fault
 use Rattle.qd_time.specs.Spelled.{SpellsTime, SpellsEarly, IsNoTime}
-use Rattle.qd_trees.specs.declared.tree.ColumnDef.{ColumnDef}
+use Rattle.qd_sql_ast.specs.declared.tree.ColumnDef.{ColumnDef}
 use Rattle.qd_meaning.specs.Creating.{col_of}
 use Rattle.qd_meaning.specs.Inserting.{Target, targets_of}
 use Rattle.qd_meaning.specs.Laws.{TimesAreRead}

@@ -5,7 +5,7 @@ use Rattle.qd_base.specs.declared.schema.Schema.{Schema}
 use Rattle.qd_base.specs.declared.op.Op.{Op}
 use Rattle.qd_base.specs.declared.op.Op.TheVariants as op
 use Rattle.qd_base.specs.Rows.{Row}
-use Rattle.qd_trees.specs.declared.tree.Insert.{Insert}
+use Rattle.qd_sql_ast.specs.declared.tree.Insert.{Insert}
 use Rattle.qd_meaning.specs.declared.refusal.Refusal.{Refusal}
 use Rattle.qd_meaning.specs.Inserting.{inserted_rows, targets_of, tuple_faults}
 

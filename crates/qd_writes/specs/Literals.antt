@@ -5,7 +5,7 @@ use Rattle.qd_base.specs.declared.cell.Cell.TheVariants as cell
 use Rattle.qd_base.specs.declared.limits.TheConstants.{MAX_LONG, MAX_TIME, NULL_LONG}
 use Rattle.qd_base.specs.declared.schema.ColType.{ColType}
 use Rattle.qd_base.specs.declared.schema.ColType.TheVariants as kind
-use Rattle.qd_trees.specs.declared.tree.Text.{Text}
+use Rattle.qd_sql_ast.specs.declared.tree.Text.{Text}
 use Rattle.qd_meaning.specs.declared.refusal.Refusal.{Refusal}
 use Rattle.qd_meaning.specs.TimeTexts.{time_of_text, time_of_number}
 use Rattle.qd_meaning.specs.Typing.{time_cell, time_faults}

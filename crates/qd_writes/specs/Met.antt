@@ -7,8 +7,8 @@ use Rattle.std.specs.Ordering.{nat_cmp}
 use Rattle.std.specs.Str.{bytes_eq, str_to_ascii_lowercase}
 use Rattle.std.specs.declared.alloc.Global.{Global}
 use Rattle.std.specs.declared.cmp.Ordering.{Ordering}
-use Rattle.qd_trees.specs.declared.tree.Name.{Name}
-use Rattle.qd_trees.specs.declared.tree.ColumnDef.{ColumnDef}
+use Rattle.qd_sql_ast.specs.declared.tree.Name.{Name}
+use Rattle.qd_sql_ast.specs.declared.tree.ColumnDef.{ColumnDef}
 use Rattle.qd_writes.specs.declared.met.NameSet.{NameSet}
 
 -- the order of the keys: byte by byte

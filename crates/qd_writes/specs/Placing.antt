@@ -6,7 +6,7 @@ use Rattle.qd_base.specs.declared.cell.Cell.{Cell}
 use Rattle.qd_base.specs.declared.schema.Col.{Col}
 use Rattle.qd_base.specs.Database.{missing}
 use Rattle.qd_base.specs.Rows.{Row}
-use Rattle.qd_trees.specs.declared.tree.Lit.{Lit}
+use Rattle.qd_sql_ast.specs.declared.tree.Lit.{Lit}
 use Rattle.qd_meaning.specs.Inserting.{Target, cell_for, cell_or, taken_by}
 
 -- the first place of a column among those that a row gives values

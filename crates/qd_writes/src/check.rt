@@ -4,7 +4,7 @@ ghost use Rattle.std.specs.Option.{option_copied};
 ghost use Rattle.qd_base.specs.Lawful.{AreLawful, AreSchemas};
 ghost use Rattle.qd_base.specs.Schemas.{schema_of};
 ghost use Rattle.qd_base.specs.declared.schema.Schema.{Schema};
-ghost use Rattle.qd_trees.specs.declared.tree.Stmt.TheVariants as is;
+ghost use Rattle.qd_sql_ast.specs.declared.tree.Stmt.TheVariants as is;
 ghost use Rattle.qd_meaning.specs.Refusals.{judged, least};
 ghost use Rattle.qd_meaning.specs.Inserting.{insert_faults};
 ghost use Rattle.qd_meaning.specs.Write.{inserted, write};
@@ -16,7 +16,7 @@ use crate::insert::{insert_fault, table_of};
 use crate::rows::{Filled, fill};
 use qd_base::{Code, Entry, Memory, Op, OpList, RowList, Schema, Schemas};
 use qd_meaning::{Refusal, names_are_judged};
-use qd_trees::{Create, Insert, Stmt};
+use qd_sql_ast::{Create, Insert, Stmt};
 use std::alloc::Global;
 use thiserror::Error;
 

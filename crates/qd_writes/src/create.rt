@@ -4,8 +4,8 @@ ghost use Rattle.std.specs.List.{flat_map, list_any};
 ghost use Rattle.std.specs.Option.{option_copied, option_map};
 ghost use Rattle.qd_base.specs.declared.limits.TheConstants.{MAX_COLUMNS};
 ghost use Rattle.qd_base.specs.Schemas.{column_at, same_name};
-ghost use Rattle.qd_trees.specs.declared.tree.ColumnDef.{ColumnDef};
-ghost use Rattle.qd_trees.specs.declared.tree.Name.{Name};
+ghost use Rattle.qd_sql_ast.specs.declared.tree.ColumnDef.{ColumnDef};
+ghost use Rattle.qd_sql_ast.specs.declared.tree.Name.{Name};
 ghost use Rattle.qd_meaning.specs.Refusals.{least};
 ghost use Rattle.qd_meaning.specs.Creating as spec;
 ghost use Rattle.qd_writes.specs.Met.{HasMet, names_of};
@@ -18,7 +18,7 @@ use qd_base::{
     same_name,
 };
 use qd_meaning::{Refusal, soonest, unless};
-use qd_trees::{ColumnDef, Create, Dedup, Name};
+use qd_sql_ast::{ColumnDef, Create, Dedup, Name};
 use std::alloc::Global;
 
 /// Gives the refusal that is answered for a CREATE over the schemas of the tables that are there.

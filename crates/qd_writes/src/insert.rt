@@ -15,7 +15,7 @@ use crate::names::{column_name_fault, table_name_fault};
 use crate::tuple::Target;
 use qd_base::{Code, ColType, Memory, Schema, Schemas, Seq};
 use qd_meaning::{Refusal, soonest, unless};
-use qd_trees::{Insert, Name};
+use qd_sql_ast::{Insert, Name};
 use std::alloc::Global;
 
 /// Gives the refusal that is answered for an INSERT into its table, where that is there and the refusal of its rows is known.

@@ -12,8 +12,6 @@ mod literal;
 mod met;
 mod names;
 mod rows;
-#[cfg(test)]
-mod tests;
 mod tuple;
 
 pub use check::{StmtFault, check_write};

@@ -9,8 +9,8 @@ ghost use Rattle.qd_writes.specs.Literals.{lent_cell, taking, number_taken_by, t
 
 use qd_base::{Cell, Code, ColType, MAX_TIME, Memory, Txt};
 use qd_meaning::{Refusal, times_are_read};
+use qd_sql_ast::{Lit, Text};
 use qd_time::{TimeFault, parse_time};
-use qd_trees::{Lit, Text};
 use std::alloc::Global;
 
 /// A cell with a text that is lent.

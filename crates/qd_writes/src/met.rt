@@ -3,7 +3,7 @@ ghost use Rattle.std.specs.Prelude.{◌≡◌, List, [], ◌++◌, ◌∷◌, ma
 ghost use Rattle.std.specs.List.{list_any};
 ghost use Rattle.std.specs.Str.{str_to_ascii_lowercase};
 ghost use Rattle.qd_base.specs.Schemas.{same_name};
-ghost use Rattle.qd_trees.specs.declared.tree.Name.{Name};
+ghost use Rattle.qd_sql_ast.specs.declared.tree.Name.{Name};
 ghost use Rattle.qd_meaning.specs.Refusals.{least, at};
 ghost use Rattle.qd_meaning.specs.Creating.{again_from};
 ghost use Rattle.qd_writes.specs.Met.{HasMet};
@@ -11,7 +11,7 @@ ghost use Rattle.qd_writes.specs.Met.{HasMet};
 use crate::judge::both;
 use qd_base::{Code, Memory};
 use qd_meaning::{Refusal, unless};
-use qd_trees::{ColumnDef, Name};
+use qd_sql_ast::{ColumnDef, Name};
 use std::alloc::Global;
 use std::collections::BTreeSet;
 

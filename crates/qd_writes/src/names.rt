@@ -5,7 +5,7 @@ ghost use Rattle.qd_meaning.specs.Creating.{column_name_faults, table_name_fault
 
 use qd_base::{Code, column_name_ok, table_name_ok};
 use qd_meaning::{Refusal, names_are_judged, unless};
-use qd_trees::Name;
+use qd_sql_ast::Name;
 
 /// Gives the refusal of a name that no column may have. It costs time linear in the name.
 pub(crate) fn column_name_fault(name: &Name) -> Option<Refusal>

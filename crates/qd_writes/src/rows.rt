@@ -3,7 +3,7 @@ ghost use Rattle.std.specs.Prelude.{◌≡◌, ◌==◌, ℕ, Some, List, IfOk, 
 ghost use Rattle.std.specs.List.{list_any};
 ghost use Rattle.std.specs.Option.{option_copied};
 ghost use Rattle.qd_base.specs.Database as database;
-ghost use Rattle.qd_trees.specs.declared.tree.Lit.{Lit};
+ghost use Rattle.qd_sql_ast.specs.declared.tree.Lit.{Lit};
 ghost use Rattle.qd_meaning.specs.Refusals.{least};
 ghost use Rattle.qd_meaning.specs.Inserting.{Target};
 ghost use Rattle.qd_writes.specs.Filling.{filled_rows, row_faults};
@@ -16,7 +16,7 @@ use crate::literal::{Lent, missing, owned};
 use crate::tuple::{Target, judged_tuple};
 use qd_base::{Col, Memory, Row, RowList, Schema};
 use qd_meaning::Refusal;
-use qd_trees::Insert;
+use qd_sql_ast::Insert;
 use std::alloc::Global;
 
 /// What the rows of an INSERT become.

@@ -11,7 +11,7 @@ use crate::judge::both;
 use crate::literal::{Lent, Taking, taken};
 use qd_base::{Code, ColType, MAX_TEXT_BYTES, Memory};
 use qd_meaning::{Refusal, unless};
-use qd_trees::{Lit, Tuple};
+use qd_sql_ast::{Lit, Tuple};
 use std::alloc::Global;
 
 /// A column that a row gives a value: its position and its type.

@@ -1,12 +1,11 @@
 //! What is loaded: lines in order of time.
+ghost use Rattle.qd_base.specs.declared.limits.TheConstants.{MAX_TXNS};
 ghost use Rattle.std.specs.Prelude.{◌≤◌, IfSome};
 ghost use Rattle.store_load.specs.Loads.{IsFew};
 
+use qd_base::MAX_TXNS;
 use std::alloc::{AllocError, Global};
 use std::env::Args;
-
-/// The most transactions that a store takes.
-const MOST: u64 = 4_194_304;
 
 /// The most lines of a transaction.
 const LONGEST: u64 = 100_000;
@@ -58,7 +57,7 @@ fn load_of(transactions: &str, lines: &str) -> Option<Load>
 {
     let transactions = transactions.parse::<u64>().ok()?;
     let lines = lines.parse::<u64>().ok()?;
-    if transactions > MOST || lines > LONGEST {
+    if transactions > u64::from(MAX_TXNS) || lines > LONGEST {
         return None;
     }
     Some(Load {
@@ -80,7 +79,7 @@ pub fn texts_of(alloc: Global, load: Load) -> Result<Vec<String>, AllocError>
 
 /// Makes the text of a transaction.
 fn text_of(alloc: Global, i: u64, lines: u64) -> Result<String, AllocError>
-    requires transaction { i ≤ 4194304 }
+    requires transaction { i ≤ MAX_TXNS }
     requires lines { lines ≤ 100000 }
 {
     let mut text = String::new(alloc);

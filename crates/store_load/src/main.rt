@@ -11,7 +11,7 @@ mod timed;
 use lines::{Asked, Load, read_words, texts_of};
 use qd_base::Limits;
 use qd_store::{Store, Unmade};
-use qd_volume::{FolderVolume, Volume};
+use qd_volume::{FolderVolume, Refusal, Volume};
 use std::env;
 use std::process::ExitCode;
 use std::time::Instant;
@@ -23,6 +23,11 @@ fn fault<V: Volume + Drop>(unmade: Unmade<V>) -> anyhow::Error {
     anyhow::Error::from(why)
 }
 
+/// Where a folder isn't opened.
+fn refused(refusal: Refusal) -> anyhow::Error {
+    anyhow::Error::from(refusal.fault())
+}
+
 /// Makes a store in a folder, fills it, shows all of it, and opens it again. It prints what each step took.
 fn fill(rt: HostRuntime, folder: &[u8], load: Load) -> anyhow::Result<()>
     requires few { IsFew load }
@@ -31,7 +36,7 @@ fn fill(rt: HostRuntime, folder: &[u8], load: Load) -> anyhow::Result<()>
     let texts = texts_of(alloc, load)?;
     let mut times = Times::none();
     let start = Instant::now(&rt)?;
-    let volume = FolderVolume::open(rt, alloc, folder)?;
+    let volume = FolderVolume::open(rt, alloc, folder).map_err(refused)?;
     let mut store = Store::create(alloc, volume, Limits::usual()).map_err(fault)?;
     times.begun = micros(&rt, &start)?;
     commit_all(&rt, alloc, &mut store, texts.as_slice(), &mut times)?;
@@ -45,7 +50,7 @@ fn fill(rt: HostRuntime, folder: &[u8], load: Load) -> anyhow::Result<()>
 fn open(rt: HostRuntime, folder: &[u8]) -> anyhow::Result<()> {
     let alloc = rt.alloc();
     let start = Instant::now(&rt)?;
-    let volume = FolderVolume::open(rt, alloc, folder)?;
+    let volume = FolderVolume::open(rt, alloc, folder).map_err(refused)?;
     let store = Store::open_store(alloc, volume, Limits::usual()).map_err(fault)?;
     let opened = micros(&rt, &start)?;
     println!(rt; "opened {opened} transactions {}", store.hist_len())?;

@@ -1,9 +1,10 @@
-//! A folder and its lock, and one open file.
+//! A folder and its lock, and one open file. Each call that a signal interrupts is made again.
 ghost use Rattle.std.specs.Prelude.{◌≤◌, length, IfOk};
 
-use std::alloc::Global;
+use super::failure::Refusal;
 use std::fs::{File, Files, OpenOptions};
 use std::io::ErrorKind;
+use std::os::fd::AsRawFd;
 use std::os::unix::fs::FileExt;
 use std::path::Path;
 use std::{fs, io};
@@ -11,27 +12,43 @@ use std::{fs, io};
 /// The first place that no file can have: POSIX counts them by a signed number of 64 bits.
 const PAST_ANY_FILE: u64 = 1 << 63;
 
+/// The last descriptor of the three standard ends.
+const LAST_END: i32 = 2;
+
+/// Makes a call, and again where a signal interrupts it (POSIX, EINTR).
+pub fn again<T, F: FnMut() -> io::Result<T>>(mut call: F) -> io::Result<T>
+    requires { F.IsAlwaysCallable call }
+{
+    for _ in 0..u64::MAX {
+        match call() {
+            Err(error) if error.kind() == ErrorKind::Interrupted => {}
+            outcome => return outcome,
+        }
+    }
+    Err(ErrorKind::Interrupted.into())
+}
+
 /// Makes a folder that isn't there.
 pub fn make_folder<R: Files>(rt: &R, path: &str) -> io::Result<()> {
-    match fs::create_dir(rt, path) {
+    match again(|| fs::create_dir(rt, path)) {
         Err(error) if error.kind() == ErrorKind::AlreadyExists => Ok(()),
         outcome => outcome,
     }
 }
 
-/// Locks a folder, by its file `lock`. Before that file is made the folder's parent is synced, so that a folder with a lock is
-/// one that a crash keeps.
-pub fn take_lock<R: Files<File = File>>(rt: &R, alloc: Global, path: &str) -> io::Result<File> {
-    let name = format!(in alloc; "{path}/lock")?;
-    let lock = match open_file(rt, name.as_str()) {
-        Err(error) if error.kind() == ErrorKind::NotFound => {
-            File::open(rt, parent_of(path))?.sync_all()?;
-            make_file(rt, name.as_str())?
-        }
-        outcome => outcome?,
-    };
-    lock.try_lock()?;
-    Ok(lock)
+/// Opens a folder and locks it, for as long as it is open.
+pub fn lock_folder<R: Files<File = File>>(rt: &R, path: &str) -> Result<File, Refusal> {
+    let folder = beyond_ends(File::open(rt, path)?)?;
+    match folder.try_lock() {
+        Ok(()) => Ok(folder),
+        Err(fs::TryLockError::WouldBlock) => Err(Refusal::InUse),
+        Err(fs::TryLockError::Error(error)) => Err(Refusal::System(error)),
+    }
+}
+
+/// Syncs the folder in which a folder is, so that a crash keeps that one.
+pub fn sync_parent<R: Files<File = File>>(rt: &R, path: &str) -> io::Result<()> {
+    File::open(rt, parent_of(path))?.sync_all()
 }
 
 /// The folder in which a folder is.
@@ -43,18 +60,38 @@ fn parent_of(path: &str) -> &str {
     }
 }
 
+/// A file that was just opened, by a descriptor that is none of the three standard ends: where one of those is closed the
+/// system gives its number to the next file, and what is meant for that end would come into the file.
+fn beyond_ends(file: File) -> io::Result<File> {
+    if file.as_raw_fd() <= LAST_END {
+        return file.try_clone();
+    }
+    Ok(file)
+}
+
 /// Opens a file that is there.
 pub fn open_file<R: Files<File = File>>(rt: &R, path: &str) -> io::Result<File> {
-    OpenOptions::new().read(true).write(true).open(rt, path)
+    beyond_ends(OpenOptions::new().read(true).write(true).open(rt, path)?)
 }
 
 /// Opens a file, and makes it where it isn't there.
 pub fn make_file<R: Files<File = File>>(rt: &R, path: &str) -> io::Result<File> {
-    OpenOptions::new()
+    let opened = OpenOptions::new()
         .read(true)
         .write(true)
         .create(true)
-        .open(rt, path)
+        .open(rt, path)?;
+    beyond_ends(opened)
+}
+
+/// Removes a file.
+pub fn remove_file<R: Files>(rt: &R, path: &str) -> io::Result<()> {
+    again(|| fs::remove_file(rt, path))
+}
+
+/// The length of an open file.
+pub fn len_of(file: &File) -> io::Result<u64> {
+    Ok(again(|| file.metadata())?.len())
 }
 
 /// Reads from a place on until the buffer is full, or the file ends.

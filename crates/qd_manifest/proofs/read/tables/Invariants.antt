@@ -8,6 +8,6 @@ use Rattle.qd_manifest.proofs.read.tables.Given as goal
 -- what is read so far, and then what is left, is all; and the blocks of what is read are named
 abbrev pub invariant-loop : goal.invariant-loop
 invariant-loop l = record {
-  read : items (table_from l.next) (l.count - l.counter) l.tables l.rest ≡ items (table_from l.next) l.count [] l.bytes;
+  read : items (table_from l.most l.next) (l.count - l.counter) l.tables l.rest ≡ items (table_from l.most l.next) l.count [] l.bytes;
   named : keys l.named ≡ blocks_of l.tables;
 }

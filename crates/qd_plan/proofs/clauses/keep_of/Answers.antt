@@ -1,6 +1,6 @@
 use Rattle.std.proofs.Common.{◌∙◌, Bool, List, Option, Some, refl, sym, ap}
 use Rattle.qd_base.specs.declared.code.Code.TheVariants as code
-use Rattle.qd_trees.specs.declared.tree.Filter.{Filter}
+use Rattle.qd_sql_ast.specs.declared.tree.Filter.{Filter}
 use Rattle.qd_value.specs.Cells.{truth}
 use Rattle.qd_bind.specs.declared.typed.Typed as bound
 use Rattle.qd_bind.specs.Scoped.{scope}

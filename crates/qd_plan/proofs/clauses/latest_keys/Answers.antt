@@ -1,5 +1,5 @@
 use Rattle.std.proofs.Common.{◌≡◌, ◌∙◌, ◌++◌, ◌∷◌, [], ℕ, List, length, ap, arith}
-use Rattle.qd_trees.specs.declared.tree.Column.{Column}
+use Rattle.qd_sql_ast.specs.declared.tree.Column.{Column}
 use Rattle.qd_bind.specs.Scoped.{scope}
 use Rattle.qd_meaning.specs.Refusals.{sooner}
 use Rattle.qd_meaning.specs.Scopes.{Scope}

@@ -1,7 +1,7 @@
 use Rattle.std.proofs.Common.{◌∙◌, List, Option, Some, map, sym, ap}
 use Rattle.std.specs.List.{flat_map}
-use Rattle.qd_trees.specs.declared.tree.Column.{Column}
-use Rattle.qd_trees.specs.declared.tree.Latest.{Latest}
+use Rattle.qd_sql_ast.specs.declared.tree.Column.{Column}
+use Rattle.qd_sql_ast.specs.declared.tree.Latest.{Latest}
 use Rattle.qd_bind.specs.Scoped.{scope}
 use Rattle.qd_meaning.specs.declared.refusal.Refusal.{Refusal}
 use Rattle.qd_meaning.specs.Refusals.{least, sooner}

@@ -1,5 +1,5 @@
 use Rattle.std.proofs.Common.{◌∙◌, List, OnOk, Option, map, sym, ap, subst}
-use Rattle.qd_trees.specs.declared.tree.Selected.{Selected}
+use Rattle.qd_sql_ast.specs.declared.tree.Selected.{Selected}
 use Rattle.qd_bind.specs.Scoped.{scope}
 use Rattle.qd_meaning.specs.declared.refusal.Refusal.{Refusal}
 use Rattle.qd_meaning.specs.Items.{Shows, item_of, items_by}

@@ -1,5 +1,5 @@
 use Rattle.std.proofs.Common.{◌≡◌, ◌∙◌, ℕ, List, length, map, take, sym, ap, subst, arith}
-use Rattle.qd_trees.specs.declared.tree.Item.{Item}
+use Rattle.qd_sql_ast.specs.declared.tree.Item.{Item}
 use Rattle.qd_bind.specs.Scoped.{scope}
 use Rattle.qd_meaning.specs.declared.refusal.Refusal.{Refusal}
 use Rattle.qd_meaning.specs.Items.{Shows, item_of}

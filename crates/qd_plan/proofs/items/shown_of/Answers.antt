@@ -1,5 +1,5 @@
 use Rattle.std.proofs.Common.{◌∙◌, Option, sym, ap}
-use Rattle.qd_trees.specs.declared.tree.Shown.{Shown}
+use Rattle.qd_sql_ast.specs.declared.tree.Shown.{Shown}
 use Rattle.qd_bind.specs.Scoped.{scope}
 use Rattle.qd_meaning.specs.declared.refusal.Refusal.{Refusal}
 use Rattle.qd_meaning.specs.Items as meant

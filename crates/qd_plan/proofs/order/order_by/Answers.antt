@@ -3,7 +3,7 @@ use Rattle.std.specs.Prelude.{is_some}
 use Rattle.qd_base.specs.declared.code.Code.TheVariants as code
 use Rattle.qd_base.specs.declared.schema.Col.{Col}
 use Rattle.qd_base.specs.Schemas.{column_at}
-use Rattle.qd_trees.specs.declared.tree.OrderKey.{OrderKey}
+use Rattle.qd_sql_ast.specs.declared.tree.OrderKey.{OrderKey}
 use Rattle.qd_meaning.specs.Refusals.{least, sooner, unless}
 use Rattle.qd_plan.specs.Ordering.{key_faults, order_key}
 use Rattle.qd_plan.proofs.FaultLemmas.{map_more, more}

@@ -1,7 +1,7 @@
 use Rattle.std.proofs.Common.{◌∙◌, List, ap}
 use Rattle.std.specs.List.{flat_map}
 use Rattle.qd_base.specs.declared.schema.Col.{Col}
-use Rattle.qd_trees.specs.declared.tree.OrderKey.{OrderKey}
+use Rattle.qd_sql_ast.specs.declared.tree.OrderKey.{OrderKey}
 use Rattle.qd_meaning.specs.Refusals.{least, sooner}
 use Rattle.qd_plan.specs.Ordering.{key_faults}
 use Rattle.qd_plan.proofs.QueryLemmas.{on_same}

@@ -1,7 +1,7 @@
 use Rattle.std.proofs.Common.{◌∙◌, ◌++◌, ℕ, List, Option, ap, ap₂}
 use Rattle.qd_base.specs.declared.schema.Schema.{Schema}
 use Rattle.qd_base.specs.Schemas.{schema_of}
-use Rattle.qd_trees.specs.declared.tree.Query.{Query}
+use Rattle.qd_sql_ast.specs.declared.tree.Query.{Query}
 use Rattle.qd_bind.specs.Scoped as scoped
 use Rattle.qd_meaning.specs.declared.parts.JoinSpec.{JoinSpec}
 use Rattle.qd_meaning.specs.declared.refusal.Refusal.{Refusal}

@@ -1,5 +1,5 @@
 use Rattle.std.proofs.Common.{ℕ, List, Option, subst}
-use Rattle.qd_trees.specs.declared.tree.Query.{Query}
+use Rattle.qd_sql_ast.specs.declared.tree.Query.{Query}
 use Rattle.qd_bind.specs.Scoped as scoped
 use Rattle.qd_meaning.specs.declared.refusal.Refusal.{Refusal}
 use Rattle.qd_meaning.specs.Items.{Shows, items_of}

@@ -1,7 +1,7 @@
 use Rattle.std.proofs.Common.{◌∙◌, List, rules}
 use Rattle.std.specs.List.{flat_map, zip}
 use Rattle.qd_base.specs.declared.schema.ColType.{ColType}
-use Rattle.qd_trees.specs.declared.tree.FillWith.{FillWith}
+use Rattle.qd_sql_ast.specs.declared.tree.FillWith.{FillWith}
 use Rattle.qd_meaning.specs.Sampling.{none_faults}
 use Rattle.qd_plan.specs.Filling.{beside_faults}
 use Rattle.qd_plan.proofs.SampleLemmas.{several}

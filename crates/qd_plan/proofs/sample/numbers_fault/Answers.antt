@@ -4,7 +4,7 @@ use Rattle.std.proofs.lemmas.List.{get_or_default}
 use Rattle.std.proofs.lemmas.Slice.Zip.{length-zip}
 use Rattle.qd_base.specs.declared.schema.ColType.{ColType}
 use Rattle.qd_base.specs.declared.schema.ColType.TheVariants as kind
-use Rattle.qd_trees.specs.declared.tree.FillWith.{FillWith}
+use Rattle.qd_sql_ast.specs.declared.tree.FillWith.{FillWith}
 use Rattle.qd_meaning.specs.Refusals.{sooner}
 use Rattle.qd_plan.specs.Filling.{beside_faults}
 use Rattle.qd_plan.proofs.FaultLemmas.{all, more}

@@ -2,7 +2,7 @@ use Rattle.std.proofs.Common.{◌∙◌, ◌++◌, Bool, not, List, Option, leng
 use Rattle.std.specs.Prelude.{nat_le}
 use Rattle.qd_base.specs.declared.code.Code.TheVariants as code
 use Rattle.qd_base.specs.declared.schema.ColType.{ColType}
-use Rattle.qd_trees.specs.declared.tree.Sampled.{Sampled}
+use Rattle.qd_sql_ast.specs.declared.tree.Sampled.{Sampled}
 use Rattle.qd_meaning.specs.declared.refusal.Refusal.{Refusal}
 use Rattle.qd_meaning.specs.Refusals.{least, sooner, unless}
 use Rattle.qd_meaning.specs.Sampling.{align_faults, fills_faults}

@@ -1,6 +1,6 @@
 use Rattle.std.proofs.Common.{List, ℕ, sym, subst}
 use Rattle.qd_base.specs.Schemas.{table_at}
-use Rattle.qd_trees.specs.declared.tree.Stmt.{Stmt}
+use Rattle.qd_sql_ast.specs.declared.tree.Stmt.{Stmt}
 use Rattle.qd_plan.specs.Plans.{Planned, PlannedShow}
 use Rattle.qd_plan.proofs.stmt.plan.Goals as goal
 

@@ -1,7 +1,7 @@
 use Rattle.std.proofs.Common.{◌≡◌, ◌∙◌, ◌++◌, ◌∷◌, [], ℕ, List, Option, length, ap, arith}
 use Rattle.std.specs.Option.{option_copied}
 use Rattle.qd_base.specs.declared.schema.Schema.{Schema}
-use Rattle.qd_trees.specs.declared.tree.Name.{Name}
+use Rattle.qd_sql_ast.specs.declared.tree.Name.{Name}
 use Rattle.qd_meaning.specs.Planned.{cols_in, column_in}
 use Rattle.qd_plan.specs.Joining.{key_faults}
 use Rattle.qd_plan.proofs.FaultLemmas.{all, map_all, map_more, more}

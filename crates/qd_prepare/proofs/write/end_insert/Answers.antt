@@ -1,5 +1,5 @@
 use Rattle.std.proofs.lemmas.Result.{on_ok_weaker}
-use Rattle.qd_entry.specs.Written.{with_row}
+use Rattle.qd_wal_entry.specs.Written.{with_row}
 use Rattle.qd_prepare.proofs.write.end_insert.Goals as goal
 
 pub returns-clause-added : goal.returns-clause-added

@@ -1,7 +1,9 @@
 use Rattle.std.proofs.Common.{ap, length}
 use Rattle.qd_rows.specs.Sets.{ResultRows}
+use Rattle.qd_scan.specs.Asked.{IsPartBetween}
 use Rattle.qd_scan.specs.Scans.{HasRowsBetween, HasScanned}
 use Rattle.qd_scan.specs.Sources.{SourceView, parts_at}
+use Rattle.qd_scan.proofs.AskedLemmas.{asked_nothing}
 use Rattle.qd_scan.proofs.ScanLemmas.{cols_found, ok_then, scan_done, scan_nothing}
 use Rattle.qd_scan.proofs.scans.scan.Goals as goal
 
@@ -22,3 +24,9 @@ pub returns-clause-rows : goal.returns-clause-rows
 returns-clause-rows g c =
     let s : SourceView = g.P.PartSource.shown c.args.source.now in
     ok_then (HasScanned s c.args.table c.args.lo c.args.hi (length (parts_at s c.args.table))) (HasRowsBetween s c.args.table c.args.lo c.args.hi) (λ set has. scan_done s c.args.table c.args.lo c.args.hi set c.keeps_its_law.ensures.law c.requires has) c.with_parts.result c.with_parts.ensures.scanned
+
+pub returns-in_err-rows-clause-asked : goal.returns-in_err-rows-clause-asked
+returns-in_err-rows-clause-asked g c = asked_nothing (IsPartBetween (g.P.PartSource.shown c.args.source.now) c.args.table c.args.lo c.args.hi) (g.P.PartSource.asked c.args.source.now)
+
+pub returns-then-hi-lo-clause-asked : goal.returns-then-hi-lo-clause-asked
+returns-then-hi-lo-clause-asked g c = asked_nothing (IsPartBetween (g.P.PartSource.shown c.args.source.now) c.args.table c.args.lo c.args.hi) (g.P.PartSource.asked c.args.source.now)

@@ -1,10 +1,10 @@
 use Rattle.std.proofs.Common.{◌≡◌, ℕ, ◌+◌, ◌-◌, List, [], ◌∷◌, ◌++◌, length, take, drop, sym, ◌∙◌, ap, subst, arith, length-drop}
 use Rattle.std.proofs.lemmas.List.{take_rest}
 use Rattle.qd_base.specs.declared.part.WalRef.{WalRef}
-use Rattle.qd_seq.specs.Layout.{HasRecords, IsLawful, place_of}
+use Rattle.qd_seq.specs.Layout.{AreInSegments, HasRecords, IsLawful, place_of}
 use Rattle.qd_seq.specs.Reading.{IsEnd}
 use Rattle.qd_seq.proofs.ReadLemmas.{taken_end, taken_more}
-use Rattle.qd_seq.proofs.Records.{count_more, record_long}
+use Rattle.qd_seq.proofs.Records.{count_more, in_segments, record_long}
 use Rattle.qd_seq.proofs.reading.take_records.Goals as goal
 
 pub records-preserved : goal.records-preserved
@@ -21,6 +21,7 @@ records-preserved c =
       within = omega (arith, record_long rest 0 c.in-Entry.place seen.2, ap (λ (l : List ℕ). length l) rest_is, length-drop c.records.at piece);
       placed = omega (arith, more, c.records.invariant.placed);
       few = omega (arith, more, count, seen.0);
+      segments = subst (λ (l : List WalRef). AreInSegments l) (sym items) (in_segments refs c.in-Entry.place c.records.invariant.segments seen.1.segment);
       taken = λ bytes has stands. subst (λ (l : List WalRef). HasRecords l bytes) (sym items)
           (taken_more bytes piece rest (place_of (length c.args.refs.now.items)) c.records.at c.records.invariant.within rest_is refs c.records.invariant.placed c.in-Entry.place stands (c.records.invariant.taken bytes has stands)
           (omega (arith, count, seen.0)) (subst (λ k. IsLawful k c.in-Entry.place) count seen.1) seen.2);

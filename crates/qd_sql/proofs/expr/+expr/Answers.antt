@@ -1,6 +1,6 @@
 use Rattle.std.proofs.Common.{arith}
 use Rattle.qd_sql.specs.Exprs.{expr}
-use Rattle.qd_trees.proofs.Turns.{deeper}
+use Rattle.qd_sql_ast.proofs.Turns.{deeper}
 use Rattle.qd_sql.proofs.expr.+expr.Goals as goal
 
 pub returns : goal.returns

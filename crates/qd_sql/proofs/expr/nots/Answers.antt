@@ -1,5 +1,5 @@
 use Rattle.std.proofs.Common.{rules, codes}
-use Rattle.qd_trees.specs.Steps.{word}
+use Rattle.qd_sql_ast.specs.Steps.{word}
 use Rattle.qd_sql.specs.Exprs.{nots}
 use Rattle.qd_sql.proofs.expr.nots.Goals as goal
 

@@ -1,5 +1,5 @@
 use Rattle.std.proofs.Common.{◌≡◌, length}
-use Rattle.qd_trees.specs.Steps.{lexemes}
+use Rattle.qd_sql_ast.specs.Steps.{lexemes}
 use Rattle.qd_sql.specs.Statement.{far_number}
 use Rattle.qd_sql.proofs.stmt.far_number.Given as goal
 

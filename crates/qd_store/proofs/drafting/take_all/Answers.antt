@@ -1,7 +1,7 @@
 use Rattle.std.proofs.Common.{◌∙◌, Err, Result, IfSome, length, subst, sym, arith}
 use Rattle.std.proofs.lemmas.Result.{err_from_is_err_and}
 use Rattle.qd_base.specs.declared.part.WalRef.{WalRef}
-use Rattle.qd_draft.specs.Drafts.{Drafting}
+use Rattle.qd_apply.specs.Drafts.{Drafting}
 use Rattle.qd_durable.specs.declared.fault.LogFault.{LogFault}
 use Rattle.qd_volume.specs.Disk.{reads_of}
 use Rattle.qd_store.specs.Drafting.{AreTaken}
@@ -16,6 +16,9 @@ returns-in_err-draft-clause-told g c =
     subst (λ (r : Result Drafting LogFault). IfSome old (λ disk. AreTaken r c.args.refs.now c.args.draft (reads_of disk))) (sym p.1)
     (subst (λ (f : LogFault). IfSome old (λ disk. AreTaken (Err f) c.args.refs.now c.args.draft (reads_of disk))) (sym p.2)
     (taken_broken c.args.refs.now c.args.draft c.loop-at.draft c.loop-at.at-index old c.loop-at.invariant.leads none (g.V.Volume.storage c.loop-at.volume).disk c.in_err-draft.field-0.0 c.loop-at-test.true c.loop-at.invariant.stays c.in_err-draft.ensures.told))
+
+pub take_next-requires-clause-segment : goal.take_next-requires-clause-segment
+take_next-requires-clause-segment g c = c.requires.segments c.loop-at.at-index (record { wal = 0; segment = 0; start = 0; len = 0 }) c.loop-at-test.true
 
 pub loop-at-preserved : goal.loop-at-preserved
 loop-at-preserved g c =

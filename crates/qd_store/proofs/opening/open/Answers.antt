@@ -8,6 +8,7 @@ use Rattle.qd_store.specs.Stores.{Store}
 use Rattle.qd_store.proofs.OpenSteps.{book_of_one, entries_failed, log_failed, log_opened, mark_failed, no_mark, no_memory, number_here, ready, root_opened, store_opened, sync_failed, tables_here, versions_failed}
 use Rattle.qd_store.proofs.OpenedStore.{alone_of_it}
 use Rattle.qd_store.proofs.opening.open.Goals as goal
+use Rattle.qd_base.specs.declared.limits.TheConstants.{MAX_TXNS}
 
 pub returns-in_err-is_marked-clause-told : goal.returns-in_err-is_marked-clause-told
 returns-in_err-is_marked-clause-told g c =
@@ -61,7 +62,7 @@ returns-in_err-sequencer-clause-told g c =
 pub invariant_of-result : goal.invariant_of-result
 invariant_of-result g c =
     let s : Store = record { sequence = c.in_ok-sequencer.sequencer; versions = c.in_ok-versions.versions; limits = c.args.limits } in
-    let few : length s.sequence.refs ≤ 4194304 = subst (λ (l : List WalRef). length l ≤ 4194304) (sym (c.in_ok-sequencer.ensures.list.0 ∙ ap (λ (k : Log). k.refs) (sym c.log.view_is))) c.log.invariant in
+    let few : length s.sequence.refs ≤ MAX_TXNS = subst (λ (l : List WalRef). length l ≤ MAX_TXNS) (sym (c.in_ok-sequencer.ensures.list.0 ∙ ap (λ (k : Log). k.refs) (sym c.log.view_is))) c.log.invariant.0 in
     book_of_one s c.in_ok-versions.ensures.opened.0 c.requires.limits few c.in_ok-versions.ensures.opened.2 (rw c.in_ok-sequencer.ensures.list.0 (subst (λ (l : List WalRef). c.in_ok-versions.versions.root.n ≤ length l) c.refs.ensures.list c.in_ok-versions.ensures.shown))
 
 pub returns-clause-told : goal.returns-clause-told
@@ -77,7 +78,8 @@ returns-clause-told g c =
     (root_opened _ _ _ c.in_ok-log.log.refs c.other_files_leave_it.ensures v
     (log_opened _ _ _ c.in_ok-log.log (ready _ _ c.in_ok-sync.field-0 _ _ _ c.in_ok-is_marked.ensures.stays c.in_ok-is_marked.field-0 c.if-not-branch.false c.in_ok-is_marked.ensures.told c.in_ok-sync.ensures.told) c.in_ok-log.ensures.told)
     c.refs.result.now c.refs.ensures.list c.in_ok-versions.ensures.told)
-    c.in_ok-sequencer.ensures.stays s refl c.in_ok-sequencer.ensures.list.0 c.in_ok-sequencer.ensures.told
+    c.in_ok-sequencer.ensures.stays c.damaged_gives_none.ensures c.damaged_gives_no_store.ensures
+    (subst (λ (l : List WalRef). v.root.n ≤ length l) c.refs.ensures.list c.in_ok-versions.ensures.shown) s refl c.in_ok-sequencer.ensures.list.0 c.in_ok-sequencer.ensures.told
 
 pub returns-clause-alone : goal.returns-clause-alone
 returns-clause-alone g c =

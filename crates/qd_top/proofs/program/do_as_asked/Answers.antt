@@ -1,7 +1,7 @@
 use Rattle.std.proofs.Common.{◌≡◌, ap, ◌∙◌, refl, Some}
-use Rattle.qd_words.specs.Words.{Asks}
-use Rattle.qd_words.specs.declared.command.Command.{Command}
-use Rattle.qd_words.specs.declared.command.Command.TheVariants as command
+use Rattle.qd_args.specs.Words.{Asks}
+use Rattle.qd_args.specs.declared.command.Command.{Command}
+use Rattle.qd_args.specs.declared.command.Command.TheVariants as command
 use Rattle.qd_top.specs.Run.{Did}
 use Rattle.qd_top.specs.Status.{number_of}
 use Rattle.qd_top.proofs.CommandLemmas.{answered-command, answered-nothing, asks_alone, did-gen, did-run, reads-of-gen}

@@ -2,7 +2,7 @@ use Rattle.std.proofs.Common.{◌≡◌, ◌≤◌, ℕ, List, length, Some, ◌
 use Rattle.qd_base.specs.declared.limits.TheConstants.{LAST_OFFSET}
 use Rattle.qd_gen.specs.Generated.{input as generated}
 use Rattle.qd_print.specs.Printed.{reply_bytes}
-use Rattle.qd_quiet.specs.Quieted.{without_done}
+use Rattle.qd_gen.specs.Quieted.{without_done}
 use Rattle.qd_top.specs.Run.{IsWellFramed, Ran}
 use Rattle.qd_top.proofs.CommandLemmas.{ends_well-from, generated-well, nothing-done}
 use Rattle.qd_top.proofs.program.generate.Goals as goal

@@ -1,6 +1,6 @@
 use Rattle.std.proofs.Common.{◌∙◌}
 use Rattle.qd_print.specs.Printed.{reply_bytes}
-use Rattle.qd_quiet.specs.Quieted.{without_done}
+use Rattle.qd_gen.specs.Quieted.{without_done}
 use Rattle.qd_top.proofs.RunLemmas.{quiet-spell-frames}
 use Rattle.qd_top.proofs.program.serve_quietly.Goals as goal
 

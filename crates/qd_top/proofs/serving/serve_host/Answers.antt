@@ -1,5 +1,5 @@
 use Rattle.std.proofs.Common.{inr, subst, sym}
-use Rattle.qd_back.specs.Volumes.{MayFind}
+use Rattle.qd_store_backend.specs.Volumes.{MayFind}
 use Rattle.qd_top.specs.Stores.{with_volume}
 use Rattle.qd_top.proofs.HostLemmas.{not_had, ran-alike, volume_given}
 use Rattle.qd_top.proofs.serving.serve_host.Goals as goal

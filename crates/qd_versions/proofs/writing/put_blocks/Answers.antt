@@ -5,7 +5,7 @@ use Rattle.qd_base.specs.declared.limits.TheConstants.{MAX_COLUMNS}
 use Rattle.qd_block.specs.Blocks.{Block}
 use Rattle.qd_io.specs.declared.fault.IoFault.{IoFault}
 use Rattle.qd_durable.specs.Moments.{Told}
-use Rattle.qd_files.specs.Calls.{PutsBlock}
+use Rattle.qd_column_files.specs.Calls.{PutsBlock}
 use Rattle.qd_versions.specs.declared.published.NewBlock.{NewBlock}
 use Rattle.qd_versions.proofs.Steps.{AreAt, few_more, item_is, numbered_at}
 use Rattle.qd_versions.proofs.ToldLemmas.{put_failed_told, put_more_told, put_none_told}

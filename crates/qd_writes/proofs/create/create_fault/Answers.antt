@@ -1,7 +1,7 @@
 use Rattle.std.proofs.Common.{◌∙◌, ◌++◌, List, map, ap}
 use Rattle.std.specs.List.{flat_map}
-use Rattle.qd_trees.specs.declared.tree.ColumnDef.{ColumnDef}
-use Rattle.qd_trees.specs.declared.tree.Create.{Create}
+use Rattle.qd_sql_ast.specs.declared.tree.ColumnDef.{ColumnDef}
+use Rattle.qd_sql_ast.specs.declared.tree.Create.{Create}
 use Rattle.qd_meaning.specs.declared.refusal.Refusal.{Refusal}
 use Rattle.qd_meaning.specs.Refusals.{least}
 use Rattle.qd_meaning.specs.Creating.{col_of, cols_of, column_name_faults, dedup_faults, designated_faults, named_twice, table_faults}

@@ -3,7 +3,7 @@ use Rattle.std.specs.List.{flat_map, list_any}
 use Rattle.qd_base.specs.declared.code.Code.TheVariants as code
 use Rattle.qd_base.specs.declared.schema.Col.{Col}
 use Rattle.qd_base.specs.Schemas.{same_name}
-use Rattle.qd_trees.specs.declared.tree.Name.{Name}
+use Rattle.qd_sql_ast.specs.declared.tree.Name.{Name}
 use Rattle.qd_meaning.specs.declared.refusal.Refusal.{Refusal}
 use Rattle.qd_meaning.specs.Refusals.{at, least, unless}
 use Rattle.qd_meaning.specs.Creating.{again_from, cols_of, column_name_faults, unknown_column}

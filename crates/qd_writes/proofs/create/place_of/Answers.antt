@@ -1,6 +1,6 @@
 use Rattle.std.proofs.Common.{◌∙◌, List, ℕ, refl, ap, sym, arith}
 use Rattle.qd_base.specs.Schemas.{same_name}
-use Rattle.qd_trees.specs.declared.tree.ColumnDef.{ColumnDef}
+use Rattle.qd_sql_ast.specs.declared.tree.ColumnDef.{ColumnDef}
 use Rattle.qd_writes.proofs.TableLemmas.{column_found, column_missing}
 use Rattle.qd_writes.proofs.create.place_of.Goals as goal
 

@@ -1,6 +1,6 @@
 use Rattle.std.proofs.Common.{◌≡◌, ℕ, ◌<◌, false, get_or}
 use Rattle.qd_base.specs.Schemas.{same_name}
-use Rattle.qd_trees.specs.declared.tree.ColumnDef.{ColumnDef}
+use Rattle.qd_sql_ast.specs.declared.tree.ColumnDef.{ColumnDef}
 use Rattle.qd_writes.proofs.create.place_of.Given as goal
 
 -- no column so far has the name

@@ -1,7 +1,7 @@
 use Rattle.std.proofs.Common.{◌≡◌, ◌∙◌, ap, get_or, take}
 use Rattle.std.specs.List.{flat_map}
 use Rattle.qd_base.specs.declared.code.Code.TheVariants as code
-use Rattle.qd_trees.specs.declared.tree.Name.{Name}
+use Rattle.qd_sql_ast.specs.declared.tree.Name.{Name}
 use Rattle.qd_meaning.specs.Refusals.{least, unless}
 use Rattle.qd_meaning.specs.Creating.{cols_of, unknown_column}
 use Rattle.qd_writes.specs.Met.{names_of}

@@ -1,7 +1,7 @@
 use Rattle.std.proofs.Common.{◌∙◌, ◌++◌, List, ap, rules}
 use Rattle.std.specs.List.{flat_map}
 use Rattle.std.specs.Option.{option_copied}
-use Rattle.qd_trees.specs.declared.tree.Name.{Name}
+use Rattle.qd_sql_ast.specs.declared.tree.Name.{Name}
 use Rattle.qd_meaning.specs.declared.refusal.Refusal.{Refusal}
 use Rattle.qd_meaning.specs.Refusals.{least}
 use Rattle.qd_meaning.specs.Creating.{column_name_faults, named_twice, table_name_faults}

@@ -1,6 +1,6 @@
 use Rattle.std.proofs.Common.{◌≡◌, ◌∙◌, ◌++◌, ◌∷◌, [], ℕ, not, List, map, take, get_or, sym, ap, subst}
 use Rattle.std.proofs.lemmas.List.{map_more}
-use Rattle.qd_trees.specs.declared.tree.Name.{Name}
+use Rattle.qd_sql_ast.specs.declared.tree.Name.{Name}
 use Rattle.qd_meaning.specs.Refusals.{at, least, unless}
 use Rattle.qd_meaning.specs.Creating.{again_from}
 use Rattle.std.specs.List.{list_any}

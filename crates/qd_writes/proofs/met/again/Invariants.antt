@@ -1,5 +1,5 @@
 use Rattle.std.proofs.Common.{◌≡◌, [], map, take}
-use Rattle.qd_trees.specs.declared.tree.Name.{Name}
+use Rattle.qd_sql_ast.specs.declared.tree.Name.{Name}
 use Rattle.qd_meaning.specs.Refusals.{at, least}
 use Rattle.qd_meaning.specs.Creating.{again_from}
 use Rattle.qd_writes.specs.Met.{HasMet}

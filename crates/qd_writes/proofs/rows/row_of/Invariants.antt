@@ -1,5 +1,5 @@
 use Rattle.std.proofs.Common.{◌≡◌, List, length, map, take, All}
-use Rattle.qd_trees.specs.declared.tree.Lit.{Lit}
+use Rattle.qd_sql_ast.specs.declared.tree.Lit.{Lit}
 use Rattle.qd_meaning.specs.Inserting.{Target}
 use Rattle.qd_writes.specs.Literals.{lent_cell, IsFit}
 use Rattle.qd_writes.specs.Placing.{cells_of, placed, ArePlaces}

@@ -3,7 +3,7 @@ use Rattle.std.specs.List.{flat_map}
 use Rattle.std.proofs.lemmas.List.Elements.{All-append, All-cons, All-nil}
 use Rattle.qd_base.specs.declared.schema.Col.{Col}
 use Rattle.qd_base.specs.Rows.{Row}
-use Rattle.qd_trees.specs.declared.tree.Tuple.{Tuple}
+use Rattle.qd_sql_ast.specs.declared.tree.Tuple.{Tuple}
 use Rattle.qd_meaning.specs.Refusals.{least}
 use Rattle.qd_meaning.specs.Inserting.{Target, row_of, targets_of, tuple_faults}
 use Rattle.qd_writes.specs.Literals.{lent_cell, IsFit}

@@ -1,7 +1,7 @@
 use Rattle.std.proofs.Common.{◌∙◌, ◌++◌, Bool, eqb, List, length, ap}
 use Rattle.std.specs.List.{flat_map, list_any, zip}
 use Rattle.qd_base.specs.declared.code.Code.TheVariants as code
-use Rattle.qd_trees.specs.declared.tree.Lit.{Lit}
+use Rattle.qd_sql_ast.specs.declared.tree.Lit.{Lit}
 use Rattle.qd_meaning.specs.declared.refusal.Refusal.{Refusal}
 use Rattle.qd_meaning.specs.Refusals.{least, unless}
 use Rattle.qd_meaning.specs.Inserting.{Target, literal_faults}

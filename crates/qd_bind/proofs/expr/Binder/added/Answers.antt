@@ -1,6 +1,6 @@
 use Rattle.std.proofs.Common.{◌≡◌, sym, ap, ap₂, ◌∙◌}
 use Rattle.qd_value.specs.declared.bound.Arithmetic.{Arithmetic}
-use Rattle.qd_trees.specs.declared.tree.AddTerm.{out-AddTerm}
+use Rattle.qd_sql_ast.specs.declared.tree.AddTerm.{out-AddTerm}
 use Rattle.qd_bind.specs.declared.typed.Typed.{Typed}
 use Rattle.qd_bind.specs.Joined.{chain_link}
 use Rattle.qd_bind.specs.Scoped.{scope}

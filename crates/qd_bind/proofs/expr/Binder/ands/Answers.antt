@@ -1,5 +1,5 @@
 use Rattle.std.proofs.Common.{◌≡◌, sym, ap, ◌∙◌}
-use Rattle.qd_trees.specs.declared.tree.AndNeg.{out-AndNeg}
+use Rattle.qd_sql_ast.specs.declared.tree.AndNeg.{out-AndNeg}
 use Rattle.qd_bind.specs.declared.typed.Typed.{Typed}
 use Rattle.qd_bind.specs.Joined.{join_part}
 use Rattle.qd_bind.specs.Scoped.{scope}

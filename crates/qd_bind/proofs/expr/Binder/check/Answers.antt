@@ -1,7 +1,7 @@
 use Rattle.std.proofs.Common.{◌≡◌, List, sym, ap, ap₂, ◌∙◌}
-use Rattle.qd_trees.specs.declared.tree.Check.{Check}
-use Rattle.qd_trees.specs.declared.tree.Plus.{Plus}
-use Rattle.qd_trees.specs.declared.tree.Lit.{Lit}
+use Rattle.qd_sql_ast.specs.declared.tree.Check.{Check}
+use Rattle.qd_sql_ast.specs.declared.tree.Plus.{Plus}
+use Rattle.qd_sql_ast.specs.declared.tree.Lit.{Lit}
 use Rattle.qd_bind.specs.Listed as listed
 use Rattle.qd_bind.specs.Scoped.{scope}
 use Rattle.qd_bind.specs.Seen.{typed}

@@ -1,6 +1,6 @@
 use Rattle.std.proofs.Common.{◌≡◌, List, map, sym, ap, ap₂, ◌∙◌}
-use Rattle.qd_trees.specs.declared.tree.Expr.{out-Expr}
-use Rattle.qd_trees.specs.declared.tree.OrConj.{OrConj}
+use Rattle.qd_sql_ast.specs.declared.tree.Expr.{out-Expr}
+use Rattle.qd_sql_ast.specs.declared.tree.OrConj.{OrConj}
 use Rattle.qd_bind.specs.declared.typed.Typed.{Typed}
 use Rattle.qd_value.specs.declared.bound.Bound.TheVariants as bound
 use Rattle.qd_bind.specs.Joined.{joined}

@@ -1,5 +1,5 @@
 use Rattle.std.proofs.Common.{◌≡◌, sym, ap, ap₂, ◌∙◌}
-use Rattle.qd_trees.specs.declared.tree.Neg.{out-Neg}
+use Rattle.qd_sql_ast.specs.declared.tree.Neg.{out-Neg}
 use Rattle.qd_bind.specs.Scoped.{scope}
 use Rattle.qd_bind.specs.Seen.{typed}
 use Rattle.qd_bind.specs.Steps as steps

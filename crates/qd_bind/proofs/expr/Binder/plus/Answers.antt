@@ -1,6 +1,6 @@
 use Rattle.std.proofs.Common.{◌≡◌, List, map, sym, ap, ap₂, ◌∙◌}
-use Rattle.qd_trees.specs.declared.tree.Plus.{out-Plus}
-use Rattle.qd_trees.specs.declared.tree.AddTerm.{AddTerm}
+use Rattle.qd_sql_ast.specs.declared.tree.Plus.{out-Plus}
+use Rattle.qd_sql_ast.specs.declared.tree.AddTerm.{AddTerm}
 use Rattle.qd_bind.specs.declared.typed.Typed.{Typed}
 use Rattle.qd_bind.specs.Joined.{chained}
 use Rattle.qd_bind.specs.Scoped.{scope}

@@ -1,6 +1,6 @@
 use Rattle.std.proofs.Common.{◌≡◌, sym, ap, ◌∙◌}
-use Rattle.qd_trees.specs.declared.tree.Column.{Column}
-use Rattle.qd_trees.specs.declared.tree.Prime.{Prime}
+use Rattle.qd_sql_ast.specs.declared.tree.Column.{Column}
+use Rattle.qd_sql_ast.specs.declared.tree.Prime.{Prime}
 use Rattle.qd_meaning.specs.Binding as binding
 use Rattle.qd_meaning.specs.Scopes.{resolved}
 use Rattle.qd_bind.specs.Scoped.{scope}

@@ -1,6 +1,6 @@
 use Rattle.std.proofs.Common.{◌≡◌, List, map, sym, ap, ap₂, ◌∙◌}
-use Rattle.qd_trees.specs.declared.tree.Term.{out-Term}
-use Rattle.qd_trees.specs.declared.tree.MulSigned.{MulSigned}
+use Rattle.qd_sql_ast.specs.declared.tree.Term.{out-Term}
+use Rattle.qd_sql_ast.specs.declared.tree.MulSigned.{MulSigned}
 use Rattle.qd_bind.specs.declared.typed.Typed.{Typed}
 use Rattle.qd_bind.specs.Joined.{chained}
 use Rattle.qd_bind.specs.Scoped.{scope}

@@ -1,7 +1,7 @@
 use Rattle.std.proofs.Common.{◌≡◌, ℕ, List, Option, Some, false, sym, ap, ◌∙◌}
 use Rattle.qd_base.specs.declared.schema.Col.{Col}
 use Rattle.qd_base.specs.Schemas.{same_name}
-use Rattle.qd_trees.specs.declared.tree.Name.{Name}
+use Rattle.qd_sql_ast.specs.declared.tree.Name.{Name}
 use Rattle.qd_meaning.specs.Scopes as scopes
 use Rattle.qd_bind.specs.Scoped as spec
 use Rattle.qd_bind.proofs.ScopeLemmas.{join_none, other_named}

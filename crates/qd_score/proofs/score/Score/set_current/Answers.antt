@@ -1,5 +1,5 @@
 use Rattle.std.proofs.Common.{arith, ap, ◌∙◌, ◌<◌}
-use Rattle.qd_pins.specs.Machine.{sees}
+use Rattle.qd_score_model.specs.Machine.{sees}
 use Rattle.qd_score.specs.Rule.{with_view, place_of, place_word}
 use Rattle.qd_score.specs.Publishing.{with_current}
 use Rattle.qd_score.proofs.Words.{place_of_word}

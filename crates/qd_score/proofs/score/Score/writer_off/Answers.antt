@@ -1,5 +1,5 @@
 use Rattle.std.proofs.Common.{arith, refl, ◌∙◌}
-use Rattle.qd_pins.specs.declared.view.Mode.TheVariants.{Writer}
+use Rattle.qd_score_model.specs.declared.view.Mode.TheVariants.{Writer}
 use Rattle.qd_score.proofs.Parts.{splits}
 use Rattle.qd_score.proofs.Sits.{same_sits, new_sits}
 use Rattle.qd_score.proofs.score.Score.writer_off.Goals as goal

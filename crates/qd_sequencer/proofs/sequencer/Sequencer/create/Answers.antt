@@ -1,5 +1,5 @@
 use Rattle.std.proofs.lemmas.Result.{err_from_is_err_and}
-use Rattle.qd_lawful.proofs.FollowLemmas.{no_schemas}
+use Rattle.qd_validate.proofs.FollowLemmas.{no_schemas}
 use Rattle.qd_sequencer.proofs.CommitLemmas.{made_told, not_made_told}
 use Rattle.qd_sequencer.proofs.WriterLemmas.{none_kept_at}
 use Rattle.qd_sequencer.proofs.sequencer.Sequencer.create.Goals as goal

@@ -1,6 +1,8 @@
-use Rattle.std.proofs.Common.{◌-◌, Err, IfSome, ap, drop, length, refl, subst, sym, take, ◌∙◌}
+use Rattle.std.proofs.Common.{◌-◌, ◌^◌, ◌<◌, Err, IfSome, ap, drop, length, refl, subst, sym, take, ◌∙◌}
 use Rattle.std.proofs.lemmas.List.{take_rest}
+use Rattle.std.proofs.lemmas.List.Elements.{All-drop, All-take}
 use Rattle.std.proofs.lemmas.Result.{err_from_is_err_and}
+use Rattle.qd_base.specs.declared.part.WalRef.{WalRef}
 use Rattle.qd_durable.specs.declared.fault.LogFault.{LogFault}
 use Rattle.qd_sequencer.specs.Reading.{IsTakenOver}
 use Rattle.qd_sequencer.specs.Sequences.{Sequence}
@@ -22,3 +24,9 @@ pub returns-clause-told : goal.returns-clause-told
 returns-clause-told g c =
     let s : Sequence = record { refs = c.args.log.refs; spare = c.args.log.spare; pending = c.args.log.pending; schemas = c.follow_all.new.schemas; writers = c.new.result.items } in
     taken_told (Unit {0}) c.args.log.refs (take (length c.refs.result.now - c.args.n) (drop c.args.n c.refs.result.now)) c.args.n c.args.schemas c.follow_all.new.schemas (take_rest c.refs.result.now c.args.n ∙ ap (drop c.args.n) c.refs.ensures.list) c.in_ok-follow_all.field-0 s (g.V.Volume.storage c.args.volume.now).disk refl c.requires.clean refl c.new.ensures.items c.in_ok-follow_all.ensures.told
+
+pub follow_all-requires-clause-segments : goal.follow_all-requires-clause-segments
+follow_all-requires-clause-segments g c =
+    let refs = c.refs.result.now in
+    let P : WalRef → Type 0 = λ ref. ref.segment < 2 ^ 24 in
+    All-take P (length refs - c.args.n) (drop c.args.n refs) (All-drop P c.args.n refs c.refs.ensures.segments)

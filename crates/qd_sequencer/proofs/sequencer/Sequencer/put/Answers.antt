@@ -6,7 +6,7 @@ use Rattle.qd_base.specs.Lawful.{AreSchemas}
 use Rattle.qd_base.specs.Schemas.{schemas_step}
 use Rattle.qd_io.specs.declared.fault.IoFault.{IoFault}
 use Rattle.qd_durable.specs.Moments.{Told}
-use Rattle.qd_entry.specs.Spelling.{SpellsEntry}
+use Rattle.qd_wal_entry.specs.Spelling.{SpellsEntry}
 use Rattle.qd_wal.specs.declared.writer.WalWriter.{WalWriter}
 use Rattle.qd_sequencer.specs.declared.fault.CommitFault.{CommitFault}
 use Rattle.qd_sequencer.specs.declared.fault.Committed.{Committed}
@@ -15,6 +15,7 @@ use Rattle.qd_sequencer.specs.Histories.{IsLawfulOver}
 use Rattle.qd_sequencer.specs.Sequences.{AreKept, Sequence, chosen, with_writer, writer_of}
 use Rattle.qd_sequencer.proofs.CommitLemmas.{chosen_within, kept_after, put_done_told, put_failed_told, sound_or, still_told}
 use Rattle.qd_sequencer.proofs.sequencer.Sequencer.put.Goals as goal
+use Rattle.qd_base.specs.declared.limits.TheConstants.{MAX_TXNS}
 
 pub returns-in_err-reserve-clause-told : goal.returns-in_err-reserve-clause-told
 returns-in_err-reserve-clause-told g c =
@@ -67,7 +68,7 @@ returns-in_err-at-clause-told g c =
     c.writer_for-chosen.ensures.chosen ∙ ap₂ (λ (ws : List WalWriter) (n : ℕ). writer_of ws n c.args.writer) (c.as_slice.ensures.value ∙ c.reserve-2.ensures.items) (ap length (c.refs.ensures.list ∙ c.reserve.ensures.list)) in
     let log = c.enter.new.log in
     let new : Sequence = record { refs = log.refs; spare = log.spare; pending = log.pending; schemas = inside.schemas; writers = c.reserve-2.new.self.items } in
-    let few : length before.refs < 4194304 = subst (λ (s : Sequence). length s.refs < 4194304) (sym c.self.view_is) c.requires.few in
+    let few : length before.refs < MAX_TXNS = subst (λ (s : Sequence). length s.refs < MAX_TXNS) (sym c.self.view_is) c.requires.few in
     let clean : before.pending ≡ None = subst (λ (s : Sequence). s.pending ≡ None) (sym c.self.view_is) c.requires.clean in
     rw p.1 (subst (λ (s : Sequence). (e : Entry) → SpellsEntry c.args.bytes.now e → IsLawfulOver s.schemas e → unwrap_or c.args.after s.schemas ≡ fold schemas_step s.schemas e.ops → Told old now (Accepts {T = Committed} {E = CommitFault} (Err p.0) s new (λ x. x ≡ e))) c.self.view_is
     (λ e spells over leaves. put_failed_told before new c.args.writer c.args.seg_bytes c.args.bytes.now c.reserve.new.self.refs c.writer_for-chosen.result c.reserve.ensures.list w_is c.self.invariant.1 few clean old now
@@ -96,7 +97,7 @@ returns-clause-told g c =
     let log = c.enter.new.log in
     let new : Sequence = record { refs = log.refs; spare = log.spare; pending = log.pending; schemas = c.replace.new.schemas; writers = c.keep.new.writers.items } in
     let done : Committed = record { n = length c.refs-2.result.now; writer = c.in_ok-at.at.wal } in
-    let few : length before.refs < 4194304 = subst (λ (s : Sequence). length s.refs < 4194304) (sym c.self.view_is) c.requires.few in
+    let few : length before.refs < MAX_TXNS = subst (λ (s : Sequence). length s.refs < MAX_TXNS) (sym c.self.view_is) c.requires.few in
     let clean : before.pending ≡ None = subst (λ (s : Sequence). s.pending ≡ None) (sym c.self.view_is) c.requires.clean in
     subst (λ (s : Sequence). (e : Entry) → SpellsEntry c.args.bytes.now e → IsLawfulOver s.schemas e → unwrap_or c.args.after s.schemas ≡ fold schemas_step s.schemas e.ops → Told old now (Accepts {T = Committed} {E = CommitFault} (Ok done) s new (λ x. x ≡ e))) c.self.view_is
     (λ e spells over leaves. put_done_told before new c.args.writer c.args.seg_bytes c.args.bytes.now c.reserve.new.self.refs c.writer_for-chosen.result c.reserve.ensures.list w_is c.self.invariant.1 few clean old now

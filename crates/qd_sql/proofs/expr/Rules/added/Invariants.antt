@@ -1,5 +1,5 @@
 use Rattle.std.proofs.Common.{◌≡◌, ◌-◌}
-use Rattle.qd_trees.specs.Steps.{links_from}
+use Rattle.qd_sql_ast.specs.Steps.{links_from}
 use Rattle.qd_sql.specs.Exprs.{add_op, added, add_term, expr}
 use Rattle.qd_sql.proofs.expr.Rules.added.Given as goal
 

@@ -1,5 +1,5 @@
 use Rattle.std.proofs.Common.{◌≡◌, ◌-◌, codes}
-use Rattle.qd_trees.specs.Steps.{links_from, word}
+use Rattle.qd_sql_ast.specs.Steps.{links_from, word}
 use Rattle.qd_sql.specs.Exprs.{ands, and_neg, expr}
 use Rattle.qd_sql.proofs.expr.Rules.ands.Given as goal
 

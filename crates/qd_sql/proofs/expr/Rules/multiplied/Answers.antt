@@ -1,8 +1,8 @@
 use Rattle.std.proofs.Common.{rules, arith}
 use Rattle.std.proofs.lemmas.Grind.{common_steps}
-use Rattle.qd_trees.specs.Steps.{links_from}
+use Rattle.qd_sql_ast.specs.Steps.{links_from}
 use Rattle.qd_sql.specs.Exprs.{mul_op, multiplied, mul_signed, expr}
-use Rattle.qd_trees.proofs.Turns.{one_more, no_more}
+use Rattle.qd_sql_ast.proofs.Turns.{one_more, no_more}
 use Rattle.qd_sql.proofs.expr.Rules.multiplied.Goals as goal
 
 pub loop-turn-init : goal.loop-turn-init

@@ -1,39 +1,18 @@
-use Rattle.std.proofs.Common.{◌≡◌, List, Some, IfOk, IfSome, length, refl, sym, ap, subst, ◌∙◌, arith}
-use Rattle.std.proofs.lemmas.Bool.{false≢true}
+use Rattle.std.proofs.Common.{◌≡◌, ◌^◌, ◌<◌, List, Some, IfOk, IfSome, length, refl, sym, ap, subst, ◌∙◌, arith}
+use Rattle.std.proofs.lemmas.List.Elements.{All-drop, All-take}
 use Rattle.qd_base.specs.declared.op.Entry.{Entry}
+use Rattle.qd_base.specs.declared.part.WalRef.{WalRef}
 use Rattle.qd_catalog.specs.Versions.{Versions, n_of, version_at}
 use Rattle.qd_txnfile.specs.Versions.{Version}
 use Rattle.qd_volume.specs.Disk.{reads_of}
-use Rattle.qd_store.specs.Damage.{IsDraftDamage}
 use Rattle.qd_store.specs.Drafting.{AreArrived, IsArrived, IsArrivedFrom}
 use Rattle.qd_store.specs.Stores.{IsStore, Store}
-use Rattle.qd_store.proofs.Arrived.{arrived_over, arrived_read, arrived_told, never_refused, number_here, refused_read, tables_here}
+use Rattle.qd_store.proofs.Arrived.{arrived_over, arrived_read, arrived_told, number_here, tables_here}
 use Rattle.qd_store.proofs.Committing.{the_current}
 use Rattle.qd_store.proofs.book.Book.arrived.Goals as goal
 
-pub returns-then-not-may_have_blocks-clause-told : goal.returns-then-not-may_have_blocks-clause-told
-returns-then-not-may_have_blocks-clause-told g c =
-    let inside : Store = record { sequence = c.self.inside.sequencer; versions = c.self.inside.versions; limits = c.self.inside.limits } in
-    let v : Versions = c.self.inside.versions.versions in
-    let x = the_current (version_at v v.current) c.keeps_its_law.ensures.law.live in
-    let old = (g.V.Volume.storage c.args.volume.now).disk in
-    subst (λ (s : Store). IfSome old (λ disk. (h : List Entry) (next : Version) → IsStore s h next disk → ⊥)) c.self.view_is
-    (never_refused x.0 c.unwrap_or-n.result c.shape_of-shape.result.now
-    (number_here v c.current-row.result c.current-row.ensures.row x.0 x.1 c.n_of.result c.unwrap_or-n.result c.n_of.ensures.n c.unwrap_or-n.ensures)
-    (tables_here v c.current-row.result c.current-row.ensures.row x.0 x.1 c.shape_of-shape.result.now c.shape_of-shape.ensures.shape)
-    inside x.1 c.rows_are_few.ensures.law (λ may. false≢true (sym c.if-not-may_have_blocks.true ∙ c.may_have_blocks.ensures.may.1 may)) old)
-
-pub returns-then-not-may_have_blocks-clause-read : goal.returns-then-not-may_have_blocks-clause-read
-returns-then-not-may_have_blocks-clause-read g c =
-    let inside : Store = record { sequence = c.self.inside.sequencer; versions = c.self.inside.versions; limits = c.self.inside.limits } in
-    let v : Versions = c.self.inside.versions.versions in
-    let x = the_current (version_at v v.current) c.keeps_its_law.ensures.law.live in
-    let old = (g.V.Volume.storage c.args.volume.now).disk in
-    subst (λ (s : Store). IfSome old (λ disk. IsDraftDamage s c.args.upto (reads_of disk) 2 1)) c.self.view_is
-    (refused_read x.0 c.unwrap_or-n.result c.shape_of-shape.result.now
-    (number_here v c.current-row.result c.current-row.ensures.row x.0 x.1 c.n_of.result c.unwrap_or-n.result c.n_of.ensures.n c.unwrap_or-n.ensures)
-    (tables_here v c.current-row.result c.current-row.ensures.row x.0 x.1 c.shape_of-shape.result.now c.shape_of-shape.ensures.shape)
-    inside c.args.upto x.1 (λ may. false≢true (sym c.if-not-may_have_blocks.true ∙ c.may_have_blocks.ensures.may.1 may)) old)
+pub take_all-requires-clause-segments : goal.take_all-requires-clause-segments
+take_all-requires-clause-segments g c = All-take (λ (at : WalRef). at.segment < 2 ^ 24) _ _ (All-drop (λ (at : WalRef). at.segment < 2 ^ 24) _ _ c.refs.ensures.segments)
 
 pub returns-clause-arrived : goal.returns-clause-arrived
 returns-clause-arrived g c =
@@ -48,7 +27,7 @@ returns-clause-arrived g c =
     (tables_here v c.current-row.result c.current-row.ensures.row x.0 x.1 c.shape_of-shape.result.now c.shape_of-shape.ensures.shape)
     v.next_block c.next_block.result c.in_ok-draft.draft c.next_block.ensures.next c.in_ok-draft.ensures.begun c.take_all.result c.refs.result.now c.self.inside.sequencer.refs c.args.upto c.refs.ensures.list
     (omega (arith, c.requires.few, ap (λ (s : Store). length s.sequence.refs) c.self.view_is)) (omega (arith, below))
-    v refl x.1 (c.may_have_blocks.ensures.may.0 c.if-not-may_have_blocks.false) c.take_all.ensures.taken)
+    v refl x.1 c.take_all.ensures.taken)
 
 pub returns-clause-told : goal.returns-clause-told
 returns-clause-told g c =
@@ -80,4 +59,4 @@ returns-clause-read g c =
     (tables_here v c.current-row.result c.current-row.ensures.row x.0 x.1 c.shape_of-shape.result.now c.shape_of-shape.ensures.shape)
     v.next_block c.next_block.result c.in_ok-draft.draft c.next_block.ensures.next c.in_ok-draft.ensures.begun c.take_all.result c.refs.result.now c.self.inside.sequencer.refs c.args.upto c.refs.ensures.list
     (omega (arith, c.requires.few, ap (λ (s : Store). length s.sequence.refs) c.self.view_is)) (omega (arith, below))
-    inside refl refl x.1 (c.may_have_blocks.ensures.may.0 c.if-not-may_have_blocks.false) old c.take_all.ensures.told)
+    inside refl refl x.1 old c.take_all.ensures.told)

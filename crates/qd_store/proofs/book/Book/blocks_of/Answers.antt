@@ -4,7 +4,7 @@ use Rattle.std.specs.List.{AllZip}
 use Rattle.std.proofs.lemmas.List.{map-append}
 use Rattle.std.proofs.lemmas.Result.{err_from_is_err_and}
 use Rattle.qd_block.specs.Blocks.{Block}
-use Rattle.qd_draft.specs.declared.plans.Touched.{Touched}
+use Rattle.qd_apply.specs.declared.plans.Touched.{Touched}
 use Rattle.qd_durable.specs.declared.fault.LogFault.{LogFault}
 use Rattle.qd_store.specs.Drafting.{IsReadOf}
 use Rattle.qd_store.proofs.BlocksRead.{AreOf, all_are_read, all_told, loses_here, loses_next, next_there, none_of, read_more, told_failed, told_more}

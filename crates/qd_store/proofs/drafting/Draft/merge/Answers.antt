@@ -1,6 +1,6 @@
 use Rattle.std.proofs.Common.{map, sym, subst}
 use Rattle.std.specs.Arc.{arc_value}
-use Rattle.qd_draft.specs.Plans.{AreBlocksFor}
+use Rattle.qd_apply.specs.Plans.{AreBlocksFor}
 use Rattle.qd_store.specs.Drafts.{Drafted, IsDraft, Merging}
 use Rattle.qd_store.proofs.MergedNext.{is_merged, makes, some_merged}
 use Rattle.qd_store.proofs.Served.{draft_serves}

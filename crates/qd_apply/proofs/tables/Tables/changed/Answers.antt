@@ -1,0 +1,29 @@
+use Rattle.std.proofs.Common.{◌≡◌, ◌∙◌, List, ap, sym, subst}
+use Rattle.qd_base.specs.declared.schema.Schema.{Schema}
+use Rattle.qd_base.specs.Database.{schemas_of, StoredTable}
+use Rattle.qd_base.specs.Lawful.{IsSound}
+use Rattle.qd_base.specs.Schemas.{Fits}
+use Rattle.qd_apply.specs.Arrivals.{arrives}
+use Rattle.qd_apply.proofs.ListLemmas.{are_changed}
+use Rattle.qd_apply.proofs.tables.Tables.changed.Goals as goal
+
+pub changed_list-requires : goal.changed_list-requires
+changed_list-requires c =
+    let i = c.self.inside in
+    let same : i.schemas ≡ schemas_of c.args.self = c.self.invariant.same ∙ ap schemas_of c.self.view_is in
+    record {
+      kept = c.self.invariant;
+      fits = subst (λ (l : List Schema). Fits l c.args.op.now) (sym same) c.requires.fits;
+      sound = subst (λ (l : List Schema). IsSound l c.args.op.now) (sym same) c.requires.sound;
+    }
+
+pub invariant_of-result : goal.invariant_of-result
+invariant_of-result c =
+    let i = c.self.inside in
+    let same : i.schemas ≡ schemas_of c.args.self = c.self.invariant.same ∙ ap schemas_of c.self.view_is in
+    are_changed i.schemas c.apply.new.self i.tables.items c.in_ok-tables.tables.items c.args.op.now c.self.invariant
+    (subst (λ (l : List Schema). Fits l c.args.op.now) (sym same) c.requires.fits) (subst (λ (l : List Schema). IsSound l c.args.op.now) (sym same) c.requires.sound)
+    c.in_ok-apply.ensures.ok c.in_ok-tables.ensures.kept c.in_ok-tables.ensures.step
+
+pub returns : goal.returns
+returns c = record { step = c.in_ok-tables.ensures.step ∙ ap (λ (ts : List StoredTable). arrives ts c.args.op.now) c.self.view_is }

@@ -1,0 +1,158 @@
+//! Drafts: transactions that are to be merged into the parts of a version.
+ghost use Rattle.std.specs.Prelude.{◌≡◌, ◌+◌, ◌^◌, ◌<◌, ◌≤◌, ◌↔◌, fold, map, All, IfOk, IfSome, IsSome};
+ghost use Rattle.qd_base.specs.Database.{schemas_of};
+ghost use Rattle.qd_base.specs.Lawful.{cells_of, AreLawful, AreSchemas};
+ghost use Rattle.qd_base.specs.declared.limits.TheConstants.{MAX_BATCH_CELLS as most};
+ghost use Rattle.qd_manifest.specs.Spelling.{schemas_in, AreParts};
+ghost use Rattle.qd_apply.specs.Arrivals.{arrives, without_rows};
+ghost use Rattle.qd_apply.specs.Plans.{with_batch};
+
+use crate::planning::Plan;
+use crate::plans::{plan_tables, touched_of};
+use crate::tables::Tables;
+use qd_base::{Duplicate, Entry, Memory, Op, Schemas};
+use qd_manifest::Shape;
+use qd_validate::follow;
+use std::alloc::Global;
+use std::marker::Model;
+
+/// Transactions that are to be merged into the parts of a version. Contracts see of how many transactions that version
+/// is, of how many the next one is so far, the number of the next new block, the version's tables, and the tables with
+/// what has arrived since.
+#[derive(Drop)]
+pub struct Draft {
+    base: u64,
+    upto: u64,
+    next_block: u64,
+    shape: Shape,
+    /// The schemas by which transactions are judged.
+    judged: Schemas,
+    tables: Tables,
+}
+
+impl Model for Draft {
+    ghost use Rattle.std.specs.Prelude.{◌≡◌};
+    ghost use Rattle.qd_base.specs.Database.{schemas_of};
+    ghost use Rattle.qd_apply.specs.Drafts.{Drafting};
+
+    ghost Value = { Drafting };
+
+    ghost view = { λ d. record { base = d.base; upto = d.upto; next_block = d.next_block; shape = d.shape; tables = d.tables } };
+
+    ghost invariant = { λ d. d.judged ≡ schemas_of d.tables };
+}
+
+impl Draft {
+    /// Begins a draft over a version of `n` transactions, with its next block and its tables: nothing has arrived. It
+    /// copies the schemas and the lists of parts. Want of memory is the only error.
+    pub fn begin(alloc: Global, n: u64, next_block: u64, shape: &Shape) -> Result<Draft, Memory>
+        requires schemas { AreSchemas (schemas_in shape.now) }
+        ensures begun { IfOk result (λ d. d ≡ record { base = n; upto = n; next_block = next_block; shape = shape.now; tables = without_rows (schemas_in shape.now) }) }
+    {
+        let judged = schemas_of(alloc, shape)?;
+        let tables = Tables::new(alloc, judged.copy()?)?;
+        let shape = shape.copy()?;
+        Ok(Draft {
+            base: n,
+            upto: n,
+            next_block,
+            shape,
+            judged,
+            tables,
+        })
+    }
+
+    /// Takes one more transaction, where it is lawful over the schemas behind those before; else there is no draft any
+    /// more, nor where no memory is found.
+    ///
+    /// Its rows go straight into the columns of blocks in the making. It costs time linear in the transaction, and a
+    /// table's name is looked up in time logarithmic in the tables. A column is added in the time of its schema: rows
+    /// that wait in that table stay as they are until they are merged.
+    pub fn take(self, alloc: Global, entry: &Entry) -> Result<Option<Draft>, Memory>
+        requires room { self.upto + 1 < 2 ^ 64 }
+        ensures lawful { IfOk result (λ next. IsSome next ↔ (AreLawful (schemas_of self.tables) entry.now.ops × (cells_of entry.now ≤ most))) }
+        ensures taken { IfOk result (λ next. IfSome next (λ d. d ≡ record self { upto = self.upto + 1; tables = fold arrives self.tables entry.now.ops })) }
+    {
+        let Draft {
+            base,
+            upto,
+            next_block,
+            shape,
+            judged,
+            tables,
+        } = self;
+        let mut judged = judged;
+        tables.are_tables();
+        if !follow(&mut judged, entry)? {
+            return Ok(None);
+        }
+        let tables = tables.after(alloc, entry.ops.as_slice())?;
+        Ok(Some(Draft {
+            base,
+            upto: upto + 1,
+            next_block,
+            shape,
+            judged,
+            tables,
+        }))
+    }
+
+    /// Plans the merge of what has arrived: makes the batch of each table, and tells what becomes of its parts.
+    ///
+    /// It costs the time and memory of the rows that wait, n log n where they are late, and logarithmic time in them
+    /// for each part. Want of memory is the only error.
+    pub fn plan(self, alloc: Global) -> Result<Plan, Memory>
+        requires parts { All (λ t. AreParts t.schema t.parts) self.shape }
+        ensures plan { IfOk result (λ p. p ≡ record self { tables = map with_batch self.tables }) }
+    {
+        let Draft {
+            base,
+            upto,
+            next_block,
+            shape,
+            judged: _,
+            tables,
+        } = self;
+        let Tables { schemas: _, tables } = tables;
+        let plans = plan_tables(alloc, &shape, tables)?;
+        let touched = touched_of(alloc, plans.as_slice())?;
+        Ok(Plan {
+            base,
+            upto,
+            next_block,
+            shape,
+            plans,
+            touched,
+        })
+    }
+
+    /// Gives of how many transactions the version is that the draft began with.
+    pub fn base(&self) -> u64
+        ensures base { result ≡ self.now.base }
+    {
+        self.base
+    }
+
+    /// Gives of how many transactions the next version is so far.
+    pub fn upto(&self) -> u64
+        ensures upto { result ≡ self.now.upto }
+    {
+        self.upto
+    }
+}
+
+/// Gives the schemas of a version's tables, in time and memory linear in them and logarithmic in their number for each.
+/// Want of memory is the only error.
+pub fn schemas_of(alloc: Global, shape: &Shape) -> Result<Schemas, Memory>
+    requires schemas { AreSchemas (schemas_in shape.now) }
+    ensures schemas { IfOk result (λ s. s ≡ schemas_in shape.now) }
+{
+    let mut schemas = Schemas::new(alloc);
+    for table in shape.as_slice() {
+        let create = Op::Create {
+            schema: table.schema.copy()?,
+        };
+        schemas.apply(&create)?;
+    }
+    Ok(schemas)
+}

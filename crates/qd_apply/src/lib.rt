@@ -1,0 +1,20 @@
+//! What the next version of a store is: transactions merged into the parts of a version.
+//!
+//! `specs/Arrivals` says what transactions bring, `specs/Next` what the next version is, and `specs/Stands` which
+//! database a version stands for. A `Draft` takes transactions; its `Plan` tells the parts whose blocks the merge
+//! reads, and makes the next version's tables and new blocks from these.
+#![tactic(auto)]
+
+mod batching;
+mod drafts;
+mod laws;
+mod merging;
+mod planning;
+mod plans;
+mod tables;
+mod waiting;
+
+pub use drafts::{Draft, schemas_of};
+pub use laws::{arrivals_are_replayed, merging_stands, rows_are_few, worked_examples};
+pub use planning::{Merged, Plan};
+pub use plans::Touched;

@@ -1,0 +1,103 @@
+//! Plans of drafts: what a merge reads, and the merge.
+ghost use Rattle.std.specs.Prelude.{◌≡◌, ℕ, ◌+◌, ◌^◌, ◌<◌, IfOk, map};
+ghost use Rattle.std.specs.Arc.{arc_value};
+ghost use Rattle.qd_block.specs.Blocks.{Block as Rows};
+ghost use Rattle.qd_apply.specs.Next.{all_made, shape_after};
+ghost use Rattle.qd_apply.specs.Plans.{all_touched, read_in, written_in, AreBlocksFor};
+
+use crate::plans::{Planned, Touched, merged_tables};
+use qd_base::Memory;
+use qd_block::Block;
+use qd_manifest::Shape;
+use qd_symbols::SymbolMap;
+use std::alloc::Global;
+use std::marker::Model;
+use std::sync::Arc;
+
+/// A draft whose merge is planned. Contracts see what they see of the draft, with the batch of each table in place of
+/// the rows that wait.
+#[derive(Drop)]
+pub struct Plan {
+    pub(crate) base: u64,
+    pub(crate) upto: u64,
+    pub(crate) next_block: u64,
+    pub(crate) shape: Shape,
+    pub(crate) plans: Vec<Planned>,
+    pub(crate) touched: Vec<Touched>,
+}
+
+impl Model for Plan {
+    ghost use Rattle.std.specs.Prelude.{map};
+    ghost use Rattle.qd_apply.specs.Drafts.{Drafting};
+    ghost use Rattle.qd_apply.specs.Plans.{planned_table, IsPlan};
+
+    ghost Value = { Drafting };
+
+    ghost view = { λ p. record { base = p.base; upto = p.upto; next_block = p.next_block; shape = p.shape; tables = map planned_table p.plans.items } };
+
+    ghost invariant = { λ p. IsPlan p.shape p.plans.items p.touched.items };
+}
+
+/// What a merge makes: the tables of the next version, and its new blocks, which are numbered upwards from the first.
+#[derive(Drop)]
+pub struct Merged {
+    /// Of how many transactions the version is that was merged into.
+    pub base: u64,
+    /// Of how many transactions the next version is.
+    pub upto: u64,
+    /// The number of the first new block.
+    pub first_block: u64,
+    /// The tables of the next version.
+    pub shape: Shape,
+    /// The new blocks, in order of their numbers.
+    pub blocks: Vec<Arc<Block<SymbolMap>>>,
+}
+
+impl Plan {
+    /// Lends the parts whose blocks the merge reads, in order of tables and parts, in constant time.
+    pub fn touched(&self) -> &[Touched]
+        ensures touched { result.now ≡ all_touched 0 self.now.shape self.now.tables }
+    {
+        self.touched.as_slice()
+    }
+
+    /// Merges. `blocks` has the blocks of the touched parts, in that order. Whatever all other blocks are, the result
+    /// is the next version's tables and its new blocks.
+    ///
+    /// It costs time and memory linear in these blocks, in the batches and in the lists of parts. Want of memory is the
+    /// only error.
+    pub fn merge(self, alloc: Global, blocks: &[Arc<Block<SymbolMap>>]) -> Result<Merged, Memory>
+        requires blocks { AreBlocksFor self.shape self.tables (map arc_value blocks.now) }
+        requires room { self.next_block + written_in self.shape self.tables < 2 ^ 64 }
+        ensures base { IfOk result (λ m. m.base ≡ self.base) }
+        ensures upto { IfOk result (λ m. m.upto ≡ self.upto) }
+        ensures first { IfOk result (λ m. m.first_block ≡ self.next_block) }
+        ensures shape { (contents : ℕ → Rows) → map arc_value blocks.now ≡ read_in contents self.shape self.tables → IfOk result (λ m. m.shape ≡ shape_after contents self.next_block self.shape self.tables) }
+        ensures blocks { (contents : ℕ → Rows) → map arc_value blocks.now ≡ read_in contents self.shape self.tables → IfOk result (λ m. map arc_value m.blocks.items ≡ all_made contents self.shape self.tables) }
+    {
+        let Plan {
+            base,
+            upto,
+            next_block,
+            shape,
+            plans,
+            touched: _,
+        } = self;
+        let mut made = Vec::new(alloc);
+        let shape = merged_tables(
+            alloc,
+            &shape,
+            plans.as_slice(),
+            blocks,
+            next_block,
+            &mut made,
+        )?;
+        Ok(Merged {
+            base,
+            upto,
+            first_block: next_block,
+            shape,
+            blocks: made,
+        })
+    }
+}

@@ -1,0 +1,5 @@
+use Rattle.qd_args.proofs.Asked.{one_command}
+use Rattle.qd_args.proofs.laws.words_ask_for_one.Goals as goal
+
+pub returns : goal.returns
+returns c = record { law = one_command }

@@ -1,9 +1,0 @@
-use Rattle.std.proofs.Common.{length}
-use Rattle.qd_back.proofs.Turns.{Keeps}
-use Rattle.qd_back.proofs.rounds.sweep_queue.Given as goal
-
-abbrev pub invariant-loop : goal.invariant-loop
-invariant-loop g l = Keeps l.initial.store l.store
-
-abbrev pub decreases-loop : goal.decreases-loop
-decreases-loop g l = length l.store.store.versions.versions.retired

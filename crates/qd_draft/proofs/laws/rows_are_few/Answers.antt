@@ -1,5 +1,0 @@
-use Rattle.qd_draft.proofs.RowCountLemmas.{rows_few}
-use Rattle.qd_draft.proofs.laws.rows_are_few.Goals as goal
-
-pub returns : goal.returns
-returns c = record { law = rows_few }

@@ -1,5 +1,0 @@
-use Rattle.qd_entry.proofs.Entries.{damaged_spells_none}
-use Rattle.qd_entry.proofs.laws.damaged_is_unspelled.Goals as goal
-
-pub returns : goal.returns
-returns c = damaged_spells_none

@@ -1,5 +1,0 @@
-use Rattle.qd_entry.proofs.Entries.{one_entry}
-use Rattle.qd_entry.proofs.laws.one_entry_is_spelled.Goals as goal
-
-pub returns : goal.returns
-returns c = one_entry

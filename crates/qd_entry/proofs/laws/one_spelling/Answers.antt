@@ -1,5 +1,0 @@
-use Rattle.qd_entry.proofs.Entries.{one_text}
-use Rattle.qd_entry.proofs.laws.one_spelling.Goals as goal
-
-pub returns : goal.returns
-returns c = one_text

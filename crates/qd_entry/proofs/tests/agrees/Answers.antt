@@ -1,4 +1,0 @@
-use Rattle.qd_entry.proofs.tests.agrees.Goals as goal
-
-pub encode_entry-requires : goal.encode_entry-requires
-encode_entry-requires c = record { spelled = c.in-Ok.ensures.spelled.sound }

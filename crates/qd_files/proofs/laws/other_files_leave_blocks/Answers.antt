@@ -1,5 +1,0 @@
-use Rattle.qd_files.proofs.LawLemmas.{blocks_stay}
-use Rattle.qd_files.proofs.laws.other_files_leave_blocks.Goals as goal
-
-pub returns : goal.returns
-returns c = blocks_stay

@@ -1,5 +1,0 @@
-use Rattle.qd_grammar.proofs.Sizes.{short_insert}
-use Rattle.qd_grammar.proofs.laws.inserts_are_short.Goals as goal
-
-pub returns : goal.returns
-returns c = record { law = short_insert }

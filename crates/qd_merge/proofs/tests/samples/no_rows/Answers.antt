@@ -1,7 +1,0 @@
-use Rattle.std.proofs.Common.{All, sym, subst}
-use Rattle.std.proofs.lemmas.List.Elements.{All-nil}
-use Rattle.qd_merge.specs.TestTables.{IsTableRow}
-use Rattle.qd_merge.proofs.tests.samples.no_rows.Goals as goal
-
-pub returns : goal.returns
-returns c = record { rows = subst (All IsTableRow) (sym c.new.ensures.empty) (All-nil IsTableRow) }

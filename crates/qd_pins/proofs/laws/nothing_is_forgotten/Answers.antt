@@ -1,5 +1,0 @@
-use Rattle.qd_pins.proofs.Follows.{nothing_is_forgotten}
-use Rattle.qd_pins.proofs.laws.nothing_is_forgotten.Goals as goal
-
-pub returns : goal.returns
-returns g c = record { law = nothing_is_forgotten _ _ }

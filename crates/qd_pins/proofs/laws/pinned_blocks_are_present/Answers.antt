@@ -1,5 +1,0 @@
-use Rattle.qd_pins.proofs.Follows.{pinned_blocks_are_present}
-use Rattle.qd_pins.proofs.laws.pinned_blocks_are_present.Goals as goal
-
-pub returns : goal.returns
-returns g c = record { law = pinned_blocks_are_present _ _ }

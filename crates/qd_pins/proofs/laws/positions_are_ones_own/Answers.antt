@@ -1,5 +1,0 @@
-use Rattle.qd_pins.proofs.Follows.{positions_are_ones_own}
-use Rattle.qd_pins.proofs.laws.positions_are_ones_own.Goals as goal
-
-pub returns : goal.returns
-returns g c = record { law = positions_are_ones_own _ _ }

@@ -1,5 +1,0 @@
-use Rattle.qd_pins.proofs.Follows.{seats_only_learn}
-use Rattle.qd_pins.proofs.laws.seats_only_learn.Goals as goal
-
-pub returns : goal.returns
-returns g c = record { law = seats_only_learn _ _ }

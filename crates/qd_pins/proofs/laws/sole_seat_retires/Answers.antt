@@ -1,5 +1,0 @@
-use Rattle.qd_pins.proofs.Follows.{sole_seat_retires}
-use Rattle.qd_pins.proofs.laws.sole_seat_retires.Goals as goal
-
-pub returns : goal.returns
-returns g c = record { law = sole_seat_retires _ _ }

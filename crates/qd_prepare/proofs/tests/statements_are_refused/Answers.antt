@@ -1,7 +1,0 @@
-use Rattle.std.proofs.Common.{subst, sym}
-use Rattle.qd_base.specs.Lawful.{AreSchemas}
-use Rattle.qd_prepare.proofs.EmptyLemmas.{no_tables}
-use Rattle.qd_prepare.proofs.tests.statements_are_refused.Goals as goal
-
-pub statement-requires : goal.statement-requires
-statement-requires g c = record { lawful = subst AreSchemas (sym c.new.ensures.empty) no_tables }

@@ -1,0 +1,47 @@
+-- The grammar of a whole text, and how far a list of tokens goes by it.
+use Rattle.std.specs.Prelude.{ℕ, zero, suc, ◌+◌, List, ◌++◌}
+use Rattle.qd_sql_lexer.specs.declared.token.Kind.TheVariants as kind
+use Rattle.qd_sql_ast.specs.declared.tree.Expr.{Expr}
+use Rattle.qd_sql_ast.specs.declared.tree.Stmt.{Stmt}
+use Rattle.qd_sql_ast.specs.declared.tree.Stmt.TheVariants as is
+use Rattle.qd_base.specs.declared.limits.TheConstants.{MAX_NESTING}
+use Rattle.qd_sql_lexer.specs.Tokens.{Lexeme}
+use Rattle.qd_sql_laws.specs.Parts.{◌⋅◌, Perhaps, Sign}
+use Rattle.qd_sql_laws.specs.WriteRules.{IsCreate, IsInsert, IsShow}
+use Rattle.qd_sql_laws.specs.ExprRules.{IsExpr}
+use Rattle.qd_sql_laws.specs.QueryRules.{IsQuery}
+
+-- an expression whose brackets nest less deep than a number
+unfoldable pub Nests : ℕ → Expr → List Lexeme → Type 0
+Nests zero e ts = ⊥
+Nests (suc depth) e ts = IsExpr (Nests depth) e ts
+
+-- an expression whose brackets nest to any depth
+abbrev pub NestsAnyhow : Expr → List Lexeme → Type 0
+NestsAnyhow e ts = (depth : ℕ) × Nests depth e ts
+
+-- statement = query | create | insert | "SHOW" "PARTITIONS" "FROM" name
+abbrev pub IsStmt : (Expr → List Lexeme → Type 0) → Stmt → List Lexeme → Type 0
+IsStmt Inner (is.Query q) = IsQuery Inner q
+IsStmt Inner (is.Create c) = IsCreate c
+IsStmt Inner (is.Insert i) = IsInsert i
+IsStmt Inner (is.Show text at) = IsShow (record { at = at; text = text })
+
+-- text = statement [";"]
+abbrev pub IsSqlText : (Expr → List Lexeme → Type 0) → Stmt → List Lexeme → Type 0
+IsSqlText Inner s = IsStmt Inner s ⋅ Perhaps (Sign kind.Semicolon)
+
+-- these tokens are this statement, with brackets that nest as deep as the stack allows
+abbrev pub ReadsSql : List Lexeme → Stmt → Type 0
+ReadsSql ts s = IsSqlText (Nests (MAX_NESTING + 1)) s ts
+
+-- the same, with brackets that nest to any depth
+abbrev pub ReadsDeepSql : List Lexeme → Stmt → Type 0
+ReadsDeepSql ts s = IsSqlText NestsAnyhow s ts
+
+-- some tokens behind these make a statement
+abbrev pub CanGoOn : List Lexeme → Type 0
+CanGoOn ts = (more : List Lexeme) × (s : Stmt) × ReadsSql (ts ++ more) s
+
+abbrev pub CanGoOnDeep : List Lexeme → Type 0
+CanGoOnDeep ts = (more : List Lexeme) × (s : Stmt) × ReadsDeepSql (ts ++ more) s

@@ -1,0 +1,31 @@
+-- A backend as it begins.
+use Rattle.std.proofs.Common.{◌≡◌, ℕ, ◌≤◌, List, length, Option, Some, None, IfSome, refl, subst, sym, arith}
+use Rattle.qd_base.specs.declared.op.Entry.{Entry}
+use Rattle.qd_catalog.specs.declared.version.Version as catalog
+use Rattle.qd_catalog.specs.Versions.{IsLive}
+use Rattle.qd_store.specs.Owned.{Owned}
+use Rattle.qd_store.specs.Stores.{IsBook, Store}
+use Rattle.qd_store_backend.specs.Backs.{BeginsWith, IsBack, IsTold, Parts, current, n_in}
+use Rattle.qd_base.specs.declared.limits.TheConstants.{MAX_TXNS}
+
+-- no more is shown than there is
+pub shown_within : (s : Store) → IsBook s → n_in (current s) ≤ length s.sequence.refs
+shown_within s book = by (current s) refl where
+  by : (o : Option catalog.Version) → current s ≡ o → n_in o ≤ length s.sequence.refs
+  by None is = omega arith
+  by (Some x) is = book.shown s.versions.versions.current x is
+
+pub told_over : (o : Option (List Entry)) (owned : Owned) → BeginsWith o owned → IfSome o (IsTold owned)
+told_over None owned h = tt
+told_over (Some h) owned is = is
+
+begun_over : (p : Parts) → IsBook p.owned.store → p.owned.store.limits.max_txns ≡ MAX_TXNS
+    → ((row : ℕ) → IsLive p.owned.store.versions.versions row → row ≡ p.owned.store.versions.versions.current) → IsBack (record { parts = p; before = length p.owned.store.sequence.refs })
+begun_over p book usual alone = record { since = omega arith; within = shown_within p.owned.store book; usual = usual; alone = alone }
+
+pub begun : (p : Parts) (owned : Owned) (before : ℕ) → p.owned ≡ owned → before ≡ length owned.store.sequence.refs → IsBook owned.store → owned.store.limits.max_txns ≡ MAX_TXNS
+    → ((row : ℕ) → IsLive owned.store.versions.versions row → row ≡ owned.store.versions.versions.current) → IsBack (record { parts = p; before = before })
+begun p owned before is count book usual alone =
+    subst (λ (o : Owned). IsBook o.store → o.store.limits.max_txns ≡ MAX_TXNS
+    → ((row : ℕ) → IsLive o.store.versions.versions row → row ≡ o.store.versions.versions.current) → before ≡ length o.store.sequence.refs → IsBack (record { parts = p; before = before })) is
+    (λ b u a n. subst (λ (m : ℕ). IsBack (record { parts = p; before = m })) (sym n) (begun_over p b u a)) book usual alone count

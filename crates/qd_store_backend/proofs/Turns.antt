@@ -1,0 +1,131 @@
+-- What a round makes of a store.
+use Rattle.std.proofs.Common.{◌≡◌, ◌↔◌, ◌∙◌, ℕ, ◌<◌, ◌≤◌, true, false, List, [], length, get_or, All, Option, None, Some, is_some, Result, Ok, Err, Bool, IfOk, IfSome, OnErr, refl, sym, ap, ap₂, subst, arith}
+use Rattle.std.proofs.lemmas.List.Elements.{All-get_or}
+use Rattle.qd_base.specs.declared.op.Entry.{Entry}
+use Rattle.qd_catalog.specs.declared.version.Version as catalog
+use Rattle.qd_catalog.specs.Versions.{Sweeps, Versions, current_n, n_of, version_at}
+use Rattle.qd_base.specs.Replay.{first}
+use Rattle.qd_durable.specs.Moments.{Told}
+use Rattle.qd_io.specs.Ends.{Counts}
+use Rattle.qd_io.specs.declared.fault.IoFault.{IoFault}
+use Rattle.qd_io.specs.declared.fault.IoFault.TheVariants as io
+use Rattle.qd_store.specs.declared.fault.PublishFault.{PublishFault}
+use Rattle.qd_store.specs.declared.fault.PublishFault.TheVariants as publish
+use Rattle.qd_store.specs.Calls.{Stands}
+use Rattle.qd_store.specs.Drafts.{Drafted, IsDraftedFrom, IsMerged, IsMergedOver, IsNextOf, Merging, between}
+use Rattle.qd_store.specs.Faults.{IsMoved}
+use Rattle.qd_store.specs.Merges.{PublishesMerged}
+use Rattle.qd_store.specs.Owned.{Owned}
+use Rattle.qd_store.specs.Stores.{IsStore, Store}
+use Rattle.qd_store.proofs.Rounds.{Merges}
+use Rattle.qd_txnfile.specs.Versions.{Version}
+use Rattle.qd_versions.specs.Publishing.{IsFull}
+use Rattle.qd_volume.specs.Calls.{Storage}
+use Rattle.qd_volume.specs.Disk.{Disk}
+use Rattle.qd_store_backend.specs.Backs.{IsTold, current}
+use Rattle.qd_store_backend.specs.Rounds.{IsNextFrom, IsOfVolume, IsOnlyOne, StaysTold}
+use Rattle.qd_store_backend.proofs.Told.{told_of}
+
+-- ---- the rows of versions
+
+pub alone_same : (a b : Versions) → b.versions ≡ a.versions → b.current ≡ a.current → IsOnlyOne a → IsOnlyOne b
+alone_same a b list cur alone row live = alone row (subst (λ (l : List (Option catalog.Version)). is_some (get_or l row None) ≡ true) list live) ∙ sym cur
+
+pub shown_same : (a b : Versions) → b.versions ≡ a.versions → b.current ≡ a.current → version_at b b.current ≡ version_at a a.current
+shown_same a b list cur = ap₂ (λ (l : List (Option catalog.Version)) (row : ℕ). get_or l row None) list cur
+
+-- ---- sweeps
+
+-- what a call keeps that changes neither the history nor what the current version shows
+pub record Keeps (old new : Owned) : Type 0 where
+  pub alone : IsOnlyOne old.store.versions.versions → IsOnlyOne new.store.versions.versions
+  pub shown : current new.store ≡ current old.store
+  pub sequence : new.store.sequence ≡ old.store.sequence
+  pub limits : new.store.limits ≡ old.store.limits
+  pub told : StaysTold old new
+  pub faults : old.storage.faults ≤ new.storage.faults
+
+pub keeps_all : (o : Owned) → Keeps o o
+keeps_all o = record { alone = λ a. a; shown = refl; sequence = refl; limits = refl; told = λ h is. is; faults = omega arith }
+
+pub keeps_both : (a b c : Owned) → Keeps a b → Keeps b c → Keeps a c
+keeps_both a b c k l = record {
+  alone = λ x. l.alone (k.alone x);
+  shown = l.shown ∙ k.shown;
+  sequence = l.sequence ∙ k.sequence;
+  limits = l.limits ∙ k.limits;
+  told = λ h is. l.told h (k.told h is);
+  faults = omega (arith, k.faults, l.faults);
+}
+
+pub stands_told : (old new : Owned) → Told old.storage.disk new.storage.disk (Stands old.store new.store) → StaysTold old new
+stands_told old new told h (disk, next, is, holds) =
+    let by = told_of (Stands old.store new.store) old.storage.disk new.storage.disk disk is told in
+    (by.0, next, by.1, by.2.behind h next holds)
+
+module _ (old new : Owned) (limits : new.store.limits ≡ old.store.limits) (sequence : new.store.sequence ≡ old.store.sequence) (told : Told old.storage.disk new.storage.disk (Stands old.store new.store)) where
+  keeps_versions : new.store.versions.versions.versions ≡ old.store.versions.versions.versions → new.store.versions.versions.current ≡ old.store.versions.versions.current → old.storage.faults ≤ new.storage.faults → Keeps old new
+  keeps_versions list cur faults = record {
+    alone = alone_same old.store.versions.versions new.store.versions.versions list cur;
+    shown = shown_same old.store.versions.versions new.store.versions.versions list cur;
+    sequence = sequence;
+    limits = limits;
+    told = stands_told old new told;
+    faults = faults;
+  }
+
+  counted_up : (result : Result Bool IoFault) → Counts old.storage.faults new.storage.faults result → old.storage.faults ≤ new.storage.faults
+  counted_up (Ok done) counted = omega (arith, counted)
+  counted_up (Err io.Failed) counted = counted.0
+  counted_up (Err io.Memory) counted = omega (arith, counted)
+
+  pub sweep_keeps : (result : Result Bool IoFault)
+      → IfOk result (λ swept. swept ≡ true → (block : ℕ) × Sweeps old.store.versions.versions new.store.versions.versions block)
+      → (result ≡ Ok false → (old.store.versions.versions.retired ≡ []) × (new ≡ old))
+      → OnErr result (new.store.versions.versions ≡ old.store.versions.versions)
+      → Counts old.storage.faults new.storage.faults result → Keeps old new
+  sweep_keeps (Ok true) swept idle same counted = let s = (swept refl).1 in keeps_versions s.versions s.current (omega (arith, counted))
+  sweep_keeps (Ok false) swept idle same counted = subst (Keeps old) (sym (idle refl).1) (keeps_all old)
+  sweep_keeps (Err fault) swept idle same counted =
+      keeps_versions (ap (λ (v : Versions). v.versions) same) (ap (λ (v : Versions). v.current) same) (counted_up (Err fault) counted)
+
+-- ---- publications
+
+-- nothing stands against the publication of a merge of the one live version but the volume and memory
+pub of_volume : {T : Type 0} (result : Result T PublishFault) (v : Versions) (m : Merging) (cause : PublishFault) → result ≡ Err cause
+    → ((n : ℕ) → (result ≡ Err (publish.Moved n)) ↔ IsMoved v m.base n) → ((result ≡ Err publish.NoRow) ↔ ((current_n v ≡ Some m.base) × IsFull v))
+    → IsMergedOver v m → IsOnlyOne v → length v.versions ≡ 64 → IsOfVolume cause
+of_volume result v m (publish.Moved n) is moved full (x, at, (es, contents, db, merged)) alone rows =
+    let there = (moved n).0 is in
+    there.1 (same (current_n v) there.0 (ap n_of at) ∙ sym merged.base)
+  where
+    same : (o : Option ℕ) → o ≡ Some n → o ≡ Some x.n → n ≡ x.n
+    same o a b = cc
+of_volume result v m publish.NoRow is moved full over alone rows =
+    let live : All (λ (o : Option catalog.Version). is_some o ≡ true) v.versions = (full.0 is).1 in
+    let row : (i : ℕ) → i < 2 → i ≡ v.current = λ i low. alone i (All-get_or (λ (o : Option catalog.Version). is_some o ≡ true) v.versions i None (omega (arith, low, rows)) live) in
+    absurd (omega (arith, row 0 (omega arith), row 1 (omega arith)))
+of_volume result v m publish.Vol is moved full over alone rows = tt
+of_volume result v m publish.Memory is moved full over alone rows = tt
+
+-- a history stays told where its merge is published, and a version is let go
+pub turned_told : (T E : Type 0) (old mid new : Owned) (row : T) (m : Merging) → Told old.storage.disk mid.storage.disk (PublishesMerged {T = T} {E = E} (Ok row) old.store mid.store m)
+    → new.storage ≡ mid.storage → ((h : List Entry) (next : Version) (disk : Disk) → IsStore mid.store h next disk → IsStore new.store h next disk)
+    → (h : List Entry) → IsTold old h → IsNextOf old.store h m → IsTold new h
+turned_told T E old mid new row m told storage holds h (disk, next, is, stands) merged =
+    let by = told_of (PublishesMerged {T = T} {E = E} (Ok row) old.store mid.store m) old.storage.disk mid.storage.disk disk is told in
+    (by.0, next, ap (λ (s : Storage). s.disk) storage ∙ by.1, holds h next by.0 (by.2.behind h next stands merged next))
+
+-- ---- drafts
+
+pub drafted : (d : Drafted) (m : Merging) (s : Store) (h : List Entry) (upto : ℕ) → Merges d m → m.upto ≡ upto → IsDraftedFrom (Ok d) s h upto → IsNextFrom (Ok m) s h
+drafted d m s h upto merges same (x, contents, at, is) =
+    (x, contents, at, subst (λ (k : ℕ). IsMerged s.versions.versions.next_block x (between h x.n k) contents (first h x.n) m) (sym same) (merges s.versions.versions.next_block x (between h x.n upto) contents (first h x.n) is))
+
+-- what follows from one history follows from each
+abbrev pub FromEach : (List Entry → Type 0) → Store → Option Disk → Type 0
+FromEach P s o = IfSome o (λ disk. (h : List Entry) (next : Version) → IsStore s h next disk → P h)
+
+pub from_each : (P Q : List Entry → Type 0) (s : Store) (o : Option Disk) → ((h : List Entry) → P h → Q h) → FromEach P s o → FromEach Q s o
+from_each P Q s None weaker is = tt
+from_each P Q s (Some disk) weaker is = λ h next holds. weaker h (is h next holds)

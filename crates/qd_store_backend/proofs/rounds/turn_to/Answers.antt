@@ -1,0 +1,13 @@
+use Rattle.std.proofs.Common.{ℕ}
+use Rattle.qd_store.specs.declared.fault.PublishFault.{PublishFault}
+use Rattle.qd_store_backend.proofs.Turns.{of_volume, turned_told}
+use Rattle.qd_store_backend.proofs.rounds.turn_to.Goals as goal
+
+pub of_publish-requires : goal.of_publish-requires
+of_publish-requires g c =
+    let e = c.publish.ensures in
+    record { of_volume = of_volume c.publish.result c.args.store.now.store.versions.versions c.args.merged.now c.in-Err.cause c.in-Err.is e.moved e.full c.requires.over c.requires.alone c.keeps_its_law.ensures.versions.rows }
+
+pub returns-in-Ok-clause-told : goal.returns-in-Ok-clause-told
+returns-in-Ok-clause-told g c =
+    turned_told ℕ PublishFault c.args.store.now c.publish.new.self c.retire.new.self c.in-Ok.field-0 c.args.merged.now c.in-Ok.ensures.told c.retire.ensures.storage c.retire.ensures.holds

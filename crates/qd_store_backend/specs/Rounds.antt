@@ -1,0 +1,48 @@
+-- What a round makes of a store: the next version is merged, and shown in place of the current one.
+use Rattle.std.specs.Prelude.{◌≡◌, ℕ, List, Some, Result, Ok, Err}
+use Rattle.qd_base.specs.declared.op.Entry.{Entry}
+use Rattle.qd_catalog.specs.Versions.{IsLive, Versions}
+use Rattle.qd_durable.specs.declared.fault.LogFault.{LogFault}
+use Rattle.qd_durable.specs.declared.fault.LogFault.TheVariants as fault
+use Rattle.qd_store.specs.declared.fault.PublishFault.{PublishFault}
+use Rattle.qd_store.specs.declared.fault.PublishFault.TheVariants as publish
+use Rattle.qd_store.specs.Drafts.{IsNextOf, Merging}
+use Rattle.qd_store.specs.Owned.{Owned}
+use Rattle.qd_store.specs.Stores.{Store}
+use Rattle.qd_store_backend.specs.Backs.{IsTold, current}
+
+-- no version is live but the current one
+abbrev pub IsOnlyOne : Versions → Type 0
+IsOnlyOne v = (row : ℕ) → IsLive v row → row ≡ v.current
+
+-- What is merged are the transactions of a history behind the current version. What the files hold is never damaged.
+abbrev pub IsNextFrom : Result Merging LogFault → Store → List Entry → Type 0
+IsNextFrom (Ok m) s h = IsNextOf s h m
+IsNextFrom (Err (fault.Damaged file at)) s h = ⊥
+IsNextFrom (Err fault.Vol) s h = Unit {0}
+IsNextFrom (Err fault.Memory) s h = Unit {0}
+
+-- A merge is the current version, or that is as it was: the volume failed, or there was no memory.
+abbrev pub IsTurned : {T : Type 0} → Result T LogFault → Store → Store → Merging → Type 0
+IsTurned (Ok done) old new m = current new ≡ Some (record { n = m.upto; shape = m.shape })
+IsTurned (Err (fault.Damaged file at)) old new m = ⊥
+IsTurned (Err fault.Vol) old new m = current new ≡ current old
+IsTurned (Err fault.Memory) old new m = current new ≡ current old
+
+-- the volume failed, or there was no memory
+abbrev pub IsOfVolume : PublishFault → Type 0
+IsOfVolume (publish.Moved n) = ⊥
+IsOfVolume publish.NoRow = ⊥
+IsOfVolume publish.Vol = Unit {0}
+IsOfVolume publish.Memory = Unit {0}
+
+-- such a fault, as that of a file
+abbrev pub fault_of : PublishFault → LogFault
+fault_of (publish.Moved n) = fault.Memory
+fault_of publish.NoRow = fault.Memory
+fault_of publish.Vol = fault.Vol
+fault_of publish.Memory = fault.Memory
+
+-- what is told of a store is told of it behind a call
+abbrev pub StaysTold : Owned → Owned → Type 0
+StaysTold old new = (h : List Entry) → IsTold old h → IsTold new h

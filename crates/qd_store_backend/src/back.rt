@@ -1,0 +1,230 @@
+//! The backend: what it keeps, and how it answers.
+ghost use Rattle.qd_base.specs.declared.limits.TheConstants.{MAX_TXNS};
+ghost use Rattle.std.specs.Prelude.{◌≡◌, ℕ, List, Option, Ok, length, IfErr, IfOk, IfSome};
+ghost use Rattle.qd_base.specs.Codes.{number_of};
+ghost use Rattle.qd_base.specs.declared.request.Reply.TheVariants as reply;
+ghost use Rattle.qd_base.specs.declared.request.Request.TheVariants as request;
+ghost use Rattle.qd_catalog.specs.Versions.{IsLive};
+ghost use Rattle.qd_base.specs.declared.op.Entry.{Entry};
+ghost use Rattle.qd_store_backend.specs.Backs.{back_shown, BeginsWith};
+ghost use Rattle.qd_store_backend.specs.Replies.{RepliesOver, RepliesTo, RepliesWith};
+ghost use Rattle.qd_store_backend.specs.Volumes.{KeepsTold};
+ghost use Rattle.qd_prepare.specs.Prepared.{IsShort};
+ghost use Rattle.qd_session.specs.Alone.{AllowedAlone};
+ghost use Rattle.qd_session.specs.Asking.{asks_for, IsQuestion, IsWrite};
+ghost use Rattle.qd_session.specs.Legal.{Handles};
+
+use crate::kept::KeptBlocks;
+use crate::parts::StoreParts;
+use qd_apply::schemas_of;
+use qd_base::{Code, Memory, Reply, Txt};
+use qd_durable::LogFault;
+use qd_ghost::Telling;
+use qd_ilp::Batch;
+use qd_query::{Answer, run_query};
+use qd_scan::PartFault;
+use qd_session::Backend;
+use qd_sql::{SqlFault, parse_stmt};
+use qd_sql_ast::Stmt;
+use qd_sql_laws::inserts_are_short;
+use qd_store::{CommitFault, Committed, Store, stores_are_whole};
+use qd_volume::Volume;
+use std::alloc::{AllocError, Global};
+use std::marker::Model;
+
+/// A backend over a store, whose one session alone writes and applies.
+///
+/// Contracts see the store, the history where it is told, and how many transactions there were when it began; all later ones are
+/// its own.
+#[derive(Drop)]
+pub struct StoreBack<V: Volume> {
+    parts: StoreParts<V>,
+    before: u64,
+    /// The writer that its transactions are written by, once there is one.
+    writer: Option<u32>,
+}
+
+impl<V: Volume> Model for StoreBack<V> {
+    ghost use Rattle.qd_store_backend.specs.Backs.{Back, IsBack};
+
+    ghost Value = { Back };
+
+    ghost view = { λ b. record { parts = b.parts; before = b.before } };
+
+    ghost invariant = { λ b. IsBack (record { parts = b.parts; before = b.before }) };
+}
+
+impl<V: Volume> StoreBack<V> {
+    /// Begins over a store with the usual limits and one live version. Where a history is told of it, `told` is that. It takes
+    /// memory for the schemas of the version and for blocks that are kept; where none is found, the store is handed back.
+    pub fn over(alloc: Global, store: Store<V>) -> Result<StoreBack<V>, Store<V>>
+        ghost told: { Option (List Entry) }
+        requires usual { store.store.limits.max_txns ≡ MAX_TXNS }
+        requires alone { (row : ℕ) → IsLive store.store.versions.versions row → row ≡ store.store.versions.versions.current }
+        requires told { BeginsWith told store }
+        ensures owned { IfOk result (λ b. b.parts.owned ≡ store) }
+        ensures history { IfOk result (λ b. b.parts.history ≡ told) }
+        ensures before { IfOk result (λ b. b.before ≡ length store.store.sequence.refs) }
+        ensures handed_back { IfErr result (λ s. s ≡ store) }
+    {
+        store.keeps_its_law();
+        let Ok(schemas) = schemas_of(alloc, store.shape_of(store.current())) else {
+            return Err(store);
+        };
+        let Ok(kept) = KeptBlocks::none(alloc) else {
+            return Err(store);
+        };
+        let telling = Telling::of(&store);
+        let before = store.hist_len();
+        Ok(StoreBack {
+            parts: StoreParts::over(store, telling, schemas, kept),
+            before,
+            writer: None,
+        })
+    }
+
+    /// Gives the volume back. Where the history is told, a crash leaves it whole there, with a version of no fewer transactions than
+    /// the last answers were over; a transaction whose write failed may stand behind it, where one may have been left.
+    pub fn into_volume(self) -> V
+        ensures volume { V.storage result ≡ self.parts.owned.storage }
+        ensures kept { IfSome self.parts.history (λ h. KeepsTold (V.storage result).disk h (back_shown self).pending (back_shown self).known) }
+    {
+        stores_are_whole();
+        self.parts.is_told();
+        let StoreBack {
+            parts,
+            before: _,
+            writer: _,
+        } = self;
+        let store = parts.into_store();
+        store.keeps_its_law();
+        store.into_volume()
+    }
+
+    /// Carries out a statement of a text that is not too long.
+    fn carry_out(&mut self, alloc: Global, stmt: &Stmt) -> Result<Reply, Memory>
+        requires short { IsShort stmt.now }
+        ensures handled { (text : List ℕ) → asks_for text ≡ Ok stmt.now → Handles AllowedAlone (back_shown self.old) (back_shown self.new) 0 (request.Sql text) result }
+    {
+        match stmt {
+            Stmt::Create(_) | Stmt::Insert(_) => self.write(alloc, stmt),
+            Stmt::Query(_) | Stmt::Show(..) => self.answer(alloc, stmt),
+        }
+    }
+
+    /// Commits a statement that writes.
+    fn write(&mut self, alloc: Global, stmt: &Stmt) -> Result<Reply, Memory>
+        requires short { IsShort stmt.now }
+        requires writes { IsWrite stmt.now }
+        ensures handled { (text : List ℕ) → asks_for text ≡ Ok stmt.now → Handles AllowedAlone (back_shown self.old) (back_shown self.new) 0 (request.Sql text) result }
+    {
+        self.parts.is_told();
+        let done = self.parts.commit_sql(alloc, self.writer, stmt);
+        self.answered(done)
+    }
+
+    /// What a commit answers; its writer is kept.
+    fn answered(&mut self, done: Result<Committed, CommitFault>) -> Result<Reply, Memory>
+        ensures same { self.new ≡ self.old }
+        ensures reply { RepliesTo done result }
+    {
+        if let Ok(Committed { n: _, writer }) = done {
+            self.writer = Some(writer);
+        }
+        reply_of(done)
+    }
+
+    /// Answers a statement that asks over the current version.
+    fn answer(&mut self, alloc: Global, stmt: &Stmt) -> Result<Reply, Memory>
+        requires asks { IsQuestion stmt.now }
+        ensures handled { (text : List ℕ) → asks_for text ≡ Ok stmt.now → Handles AllowedAlone (back_shown self.old) (back_shown self.new) 0 (request.Sql text) result }
+    {
+        let n = self.parts.shown_n();
+        let answer = run_query(alloc, &mut self.parts, stmt);
+        self.parts.is_told();
+        reply_over(n, answer)
+    }
+}
+
+impl<V: Volume> Backend for StoreBack<V> {
+    ghost shown = { back_shown };
+
+    ghost rule = { AllowedAlone };
+
+    /// Commits a batch, as `Store::accept_lines` does: what is answered by `K` is on the disk.
+    fn lines(&mut self, alloc: Global, batch: &Batch, now: u64) -> Result<Reply, Memory> {
+        self.parts.is_told();
+        let done = self.parts.commit_lines(alloc, self.writer, batch, now);
+        self.answered(done)
+    }
+
+    /// Commits CREATE TABLE and INSERT, and answers a query and SHOW PARTITIONS over the current version. A block is read from the
+    /// volume once, and kept until the next apply or until 256 others were asked for.
+    fn sql(&mut self, alloc: Global, text: &Txt) -> Result<Reply, Memory> {
+        inserts_are_short();
+        match parse_stmt(alloc, text.bytes()) {
+            Ok(stmt) => self.carry_out(alloc, &stmt),
+            Err(SqlFault::Refused { code, place }) => Ok(refused(code, place)),
+            Err(SqlFault::Memory) => Err(AllocError),
+        }
+    }
+
+    /// Makes all transactions the current version, in one round, and removes the blocks that it doesn't list any more.
+    fn apply(&mut self, alloc: Global) -> Result<Reply, Memory> {
+        reply_with(self.parts.show_all(alloc))
+    }
+
+    fn is_counted(&self) {
+        self.parts.is_told();
+    }
+
+    fn keeps_to_its_rule(&self) {}
+}
+
+/// The reply to a write.
+fn reply_of(done: Result<Committed, CommitFault>) -> Result<Reply, Memory>
+    ensures reply { RepliesTo done result }
+{
+    match done {
+        Ok(Committed { n, writer: _ }) => Ok(Reply::Done { n }),
+        Err(CommitFault::Refused { code, place }) => Ok(refused(code, place)),
+        Err(CommitFault::Full) => Ok(refused(Code::Full, 0)),
+        Err(CommitFault::Vol) => Ok(refused(Code::Volume, 0)),
+        Err(CommitFault::Memory) => Err(AllocError),
+    }
+}
+
+/// The reply to a statement that asks, over the first `n` transactions.
+fn reply_over(n: u64, answer: Result<Answer, PartFault>) -> Result<Reply, Memory>
+    ensures reply { RepliesOver n answer result }
+{
+    match answer {
+        Ok(Answer::Rows(table)) => Ok(Reply::Rows { n, table }),
+        Ok(Answer::Refused { code, place }) => Ok(Reply::QueryRefused { n, code, place }),
+        Err(PartFault::Vol) => Ok(refused(Code::Volume, 0)),
+        Err(PartFault::Damaged { file, at }) => Ok(Reply::Damaged { file, at }),
+        Err(PartFault::Memory) => Err(AllocError),
+    }
+}
+
+/// The reply to an apply.
+fn reply_with(done: Result<u64, LogFault>) -> Result<Reply, Memory>
+    ensures reply { RepliesWith done result }
+{
+    match done {
+        Ok(n) => Ok(Reply::Applied { n }),
+        Err(LogFault::Vol) => Ok(refused(Code::Volume, 0)),
+        Err(LogFault::Damaged { file, at }) => Ok(Reply::Damaged { file, at }),
+        Err(LogFault::Memory) => Err(AllocError),
+    }
+}
+
+/// The refusal with a code at a place.
+fn refused(code: Code, place: u64) -> Reply
+    ensures { result ≡ reply.Refused (number_of code) place }
+{
+    Reply::Refused {
+        code: code.number(),
+        place,
+    }
+}

@@ -1,5 +1,0 @@
-use Rattle.qd_stored.proofs.LawLemmas.{appended_rows}
-use Rattle.qd_stored.proofs.laws.appended_rows_are_spelled.Goals as goal
-
-pub returns : goal.returns
-returns c = appended_rows

@@ -1,5 +1,0 @@
-use Rattle.qd_stored.proofs.PlaceLemmas.{one_text_place}
-use Rattle.qd_stored.proofs.laws.dictionary_damage_has_one_place.Goals as goal
-
-pub returns : goal.returns
-returns c = one_text_place

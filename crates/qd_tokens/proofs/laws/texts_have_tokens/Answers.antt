@@ -1,8 +1,0 @@
-use Rattle.std.proofs.Common.{length, arith}
-use Rattle.qd_tokens.specs.Tokens.{tokens}
-use Rattle.qd_tokens.proofs.Pieces.{each_from}
-use Rattle.qd_tokens.proofs.laws.texts_have_tokens.Goals as goal
-
-pub returns : goal.returns
-unfolding tokens
-returns c = record { law = λ text. each_from (length text) 0 text (omega arith) }

@@ -1,5 +1,0 @@
-use Rattle.std.proofs.Common.{None}
-use Rattle.qd_told.proofs.telling.Telling.forget.Given as goal
-
-abbrev pub ghost-of : goal.ghost-of
-ghost-of a = None

@@ -1,4 +1,0 @@
-use Rattle.qd_told.proofs.telling.TellingDuplicate.copy.Given as goal
-
-abbrev pub ghost-of : goal.ghost-of
-ghost-of a = a.from.now.history

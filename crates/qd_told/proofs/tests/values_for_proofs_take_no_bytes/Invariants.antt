@@ -1,5 +1,0 @@
-use Rattle.std.proofs.Common.{None}
-use Rattle.qd_told.proofs.tests.values_for_proofs_take_no_bytes.Given as goal
-
-abbrev pub ghost-of : goal.ghost-of
-ghost-of g a = None

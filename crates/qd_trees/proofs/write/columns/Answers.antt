@@ -1,7 +1,0 @@
-use Rattle.std.proofs.Common.{rules}
-use Rattle.qd_trees.specs.Writes.{column, columns}
-use Rattle.qd_trees.proofs.write.columns.Goals as goal
-
-pub returns : goal.returns
-unfolding columns
-returns c = c.list.ensures column (record { reads = search rules })

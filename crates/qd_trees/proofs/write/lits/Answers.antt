@@ -1,7 +1,0 @@
-use Rattle.std.proofs.Common.{rules}
-use Rattle.qd_trees.specs.Writes.{lit, lits}
-use Rattle.qd_trees.proofs.write.lits.Goals as goal
-
-pub returns : goal.returns
-unfolding lits
-returns c = c.list.ensures lit (record { reads = search rules })

@@ -1,0 +1,12 @@
+//! Whether a transaction is lawful over the schemas that are there, and the schemas behind it.
+//!
+//! What is lawful is defined in `qd_base`, in `specs/Lawful`. It says two things of each change: that it fits the schemas
+//! before it, and that it is of good form there.
+#![tactic(auto)]
+
+mod cells;
+mod keys;
+mod lawful;
+mod schema;
+
+pub use lawful::follow;

@@ -1,5 +1,0 @@
-use Rattle.qd_words.proofs.Asked.{one_command}
-use Rattle.qd_words.proofs.laws.words_ask_for_one.Goals as goal
-
-pub returns : goal.returns
-returns c = record { law = one_command }

@@ -1,0 +1,3 @@
+-- Lemmas that the proofs of this crate share.
+pub mod PartLemmas
+pub mod RoundLemmas

@@ -7,8 +7,6 @@ mod filters;
 mod numbers;
 mod on_set;
 mod runs;
-#[cfg(test)]
-mod tests;
 
 pub use cells::Joined;
 pub use filters::filter;

@@ -13,8 +13,6 @@ mod merging;
 mod opening;
 mod reading;
 mod store;
-#[cfg(test)]
-mod tests;
 
 pub use drafting::Draft;
 pub use fault::{OpenFault, PublishFault};

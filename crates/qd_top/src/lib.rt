@@ -8,8 +8,6 @@ mod opening;
 mod program;
 mod serving;
 mod status;
-#[cfg(test)]
-mod tests;
 
 pub use arguments::run_program;
 pub use program::top;

@@ -1,7 +1,7 @@
 //! The calls that neither the program nor its histories make, each once where it succeeds.
-use crate::{Merged, Store, Unmade};
 use qd_base::{Limits, MAX_TXNS};
 use qd_ilp::parse_batch;
+use qd_store::{Merged, Store, Unmade};
 use qd_volume::MemVolume;
 use std::alloc::Global;
 use std::test::Fail;

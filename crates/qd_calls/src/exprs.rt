@@ -3,9 +3,9 @@ ghost use Rattle.std.specs.Prelude.{◌≡◌, [], ◌∷◌, IfOk};
 ghost use Rattle.qd_base.specs.declared.schema.ColType.TheVariants as kind;
 ghost use Rattle.qd_block.specs.Blocks.{kinds_in};
 
-use crate::test;
 use qd_base::{Col, ColList, ColType, Memory, Txt};
 use qd_block::{Block, Builder};
+use qd_expr::test;
 use qd_rows::RowSet;
 use qd_symbols::SymbolMap;
 use qd_value::{Bound, Boxed};

@@ -1,10 +1,10 @@
 //! The program over memory, where the cases of `tests/cases` can't see it: a clock, and calls of each device that fail.
 ghost use Rattle.std.specs.Prelude.{◌<◌, ◌≤◌, length};
 
-use super::top;
 use qd_base::Txt;
 use qd_host::MemHost;
 use qd_io::{MemClock, MemSink, MemSource};
+use qd_top::top;
 use qd_volume::MemVolume;
 use std::alloc::{AllocError, Global};
 use std::test::Fail;

@@ -1,5 +1,5 @@
 use Rattle.std.proofs.Common.{None}
-use Rattle.qd_top.proofs.tests.run.Given as goal
+use Rattle.qd_calls.proofs.tops.run.Given as goal
 
 abbrev pub ghost-top : goal.ghost-top
 ghost-top a = None

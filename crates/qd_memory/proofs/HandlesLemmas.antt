@@ -23,7 +23,8 @@ use Rattle.qd_session.specs.Alone.{AllowedAlone}
 use Rattle.qd_meaning.specs.declared.refusal.Refusal.{Refusal}
 use Rattle.qd_meaning.specs.Answer.{answer}
 use Rattle.qd_meaning.specs.Write.{write}
-use Rattle.qd_session.specs.Asking.{asks_for, IsQuestion, IsWrite}
+use Rattle.qd_session.specs.Asking.{asks_for}
+use Rattle.qd_sql_ast.specs.Kinds.{IsQuestion, IsWrite}
 use Rattle.qd_sql_ast.specs.declared.tree.Stmt.{Stmt}
 use Rattle.qd_sql_ast.specs.declared.tree.Stmt.TheVariants as is
 use Rattle.qd_sql.specs.declared.stmt.SqlFault.{SqlFault}

@@ -14,7 +14,8 @@ ghost use Rattle.qd_meaning.specs.Answer.{answer as meant};
 ghost use Rattle.qd_query.specs.Answers.{given as told};
 ghost use Rattle.qd_session.specs.Alone.{AllowedAlone};
 ghost use Rattle.qd_session.specs.Legal.{Handles};
-ghost use Rattle.qd_session.specs.Asking.{asks_for, IsQuestion};
+ghost use Rattle.qd_session.specs.Asking.{asks_for};
+ghost use Rattle.qd_sql_ast.specs.Kinds.{IsQuestion, IsWrite};
 ghost use Rattle.qd_session.specs.Timing.{IsRead};
 ghost use Rattle.qd_memory.specs.Listed.{CarriesOut, IsShort, Writes, WritesStmt, all_applied, answered, listed_shown, with_entry};
 
@@ -120,6 +121,7 @@ impl ListBack {
     /// Makes a statement that writes the next transaction, or refuses it.
     fn write_stmt(&mut self, alloc: Global, stmt: &Stmt) -> Result<Reply, Memory>
         requires short { IsShort stmt.now }
+        requires writes { IsWrite stmt.now }
         ensures ok { IfOk result (λ given. WritesStmt self.old self.new stmt.now given) }
         ensures err { OnErr result (self.new ≡ self.old) }
     {

@@ -12,13 +12,6 @@ use Rattle.qd_plan.specs.declared.fault.PlanFault.TheVariants as fault
 use Rattle.qd_plan.specs.declared.asked.Plan.{Plan}
 use Rattle.qd_plan.specs.declared.asked.Plan.TheVariants as plan
 
--- a statement that asks
-abbrev pub Asks : Stmt → Type 0
-Asks (is.Query q) = Unit {0}
-Asks (is.Show name place) = Unit {0}
-Asks (is.Create c) = ⊥
-Asks (is.Insert i) = ⊥
-
 -- the plan of a query is its parts, where nothing is refused in it, and else the refusal is the least
 abbrev pub PlannedQuery : parts.Planned → Result Plan PlanFault → Type 0
 PlannedQuery p (Ok (plan.Ask made)) = (p.faults ≡ []) × (made ≡ p.plan)

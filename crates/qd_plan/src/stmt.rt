@@ -2,8 +2,9 @@
 ghost use Rattle.std.specs.Prelude.{◌≡◌};
 ghost use Rattle.qd_base.specs.Schemas.{table_at};
 ghost use Rattle.qd_meaning.specs.Planned as parts;
-ghost use Rattle.qd_plan.specs.Plans.{Asks, Planned, PlannedQuery, PlannedShow};
+ghost use Rattle.qd_plan.specs.Plans.{Planned, PlannedQuery, PlannedShow};
 ghost use Rattle.qd_plan.specs.Shaping as spec;
+ghost use Rattle.qd_sql_ast.specs.Kinds.{IsQuestion};
 
 use crate::asked::Plan;
 use crate::fault::{Faults, PlanFault};
@@ -19,7 +20,7 @@ use std::alloc::Global;
 /// logarithmic in the number of columns, or linear where a table has two of one name. `SELECT *` costs the size of the columns.
 /// Where a query is refused, it costs as much.
 pub fn plan(alloc: Global, schemas: &Schemas, stmt: &Stmt) -> Result<Plan, PlanFault>
-    requires asks { Asks stmt.now }
+    requires asks { IsQuestion stmt.now }
     ensures answers { Planned schemas.now stmt.now result }
 {
     match stmt {

@@ -4,6 +4,7 @@ ghost use Rattle.qd_base.specs.declared.op.Entry.{Entry};
 ghost use Rattle.qd_base.specs.Lawful.{AreSchemas};
 ghost use Rattle.qd_lines.specs.Walks.{IsLineFault, SaysOf};
 ghost use Rattle.qd_meaning.specs.Write.{write};
+ghost use Rattle.qd_sql_ast.specs.Kinds.{IsWrite};
 ghost use Rattle.qd_writes.specs.Answers.{Answers};
 ghost use Rattle.qd_prepare.specs.Prepared.{IsPrepared, IsRead, IsShort};
 
@@ -51,14 +52,14 @@ pub fn prepare_lines(
     Ok(Prepared { bytes, schemas })
 }
 
-/// Makes the transaction of a statement ready over the tables that are there, or says why it is refused, as `check_write`
-/// does: CREATE TABLE makes a table, INSERT puts rows into one, and a statement that asks changes nothing, which is an entry
-/// too.
+/// Makes the transaction of a statement that writes ready over the tables that are there, or says why it is refused, as
+/// `check_write` does: CREATE TABLE makes a table, INSERT puts rows into one.
 ///
 /// It costs what `check_write` does, and time and memory linear in the bytes. For CREATE TABLE all schemas are copied once.
 pub fn prepare_stmt(alloc: Global, schemas: &Schemas, stmt: &Stmt) -> Result<Prepared, StmtFault>
     requires lawful { AreSchemas schemas.now }
     requires short { IsShort stmt.now }
+    requires writes { IsWrite stmt.now }
     ensures prepared { IfOk result (λ p. (e : Entry) × (write schemas.now stmt.now ≡ Ok e) × IsPrepared schemas.now e p) }
     ensures refused { IfErr result (λ fault. Answers (Err fault) (write schemas.now stmt.now)) }
 {

@@ -26,7 +26,8 @@ use Rattle.qd_meaning.specs.Refusals.{at, judged, least}
 use Rattle.qd_meaning.specs.Answer as meaning
 use Rattle.qd_plan.specs.declared.asked.Plan.TheVariants as plan
 use Rattle.qd_plan.specs.declared.fault.PlanFault.TheVariants as fault
-use Rattle.qd_plan.specs.Plans.{Asks, Planned}
+use Rattle.qd_plan.specs.Plans.{Planned}
+use Rattle.qd_sql_ast.specs.Kinds.{IsQuestion as Asks}
 use Rattle.qd_query.specs.declared.answer.Answer.{Answer}
 use Rattle.qd_query.specs.declared.answer.Answer.TheVariants as answer
 use Rattle.qd_query.specs.Answers.{answer_of, answer_over, given, plan_answer, right_in, show_answer, sized, table_in, HasStride, IsWork, StrideIn}

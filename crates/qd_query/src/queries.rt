@@ -1,6 +1,6 @@
 //! What a statement that asks is answered.
 ghost use Rattle.std.specs.Prelude.{◌≡◌, IfErr, IfOk, IfSome};
-ghost use Rattle.qd_plan.specs.Plans.{Asks};
+ghost use Rattle.qd_sql_ast.specs.Kinds.{IsQuestion};
 ghost use Rattle.qd_query.specs.Answers.{answer_of, StrideIn};
 ghost use Rattle.qd_scan.specs.Sources.{HasCause, Stays};
 
@@ -27,7 +27,7 @@ pub fn run_query<P: PartSource>(
     source: &mut P,
     stmt: &Stmt,
 ) -> Result<Answer, PartFault>
-    requires asks { Asks stmt.now }
+    requires asks { IsQuestion stmt.now }
 
     // Where the source tells its database, it is the plain meaning's over that database.
     ensures answer { IfOk result (λ a. IfSome (P.shown source.old).database (λ db. a ≡ answer_of db stmt.now)) }

@@ -19,7 +19,8 @@ use Rattle.qd_sql.specs.declared.stmt.SqlFault.TheVariants as fault
 use Rattle.qd_meaning.specs.declared.refusal.Refusal.{Refusal}
 use Rattle.qd_meaning.specs.Answer.{answer}
 use Rattle.qd_meaning.specs.Write.{write}
-use Rattle.qd_session.specs.Asking.{asks_for, IsQuestion, IsWrite}
+use Rattle.qd_session.specs.Asking.{asks_for}
+use Rattle.qd_sql_ast.specs.Kinds.{IsQuestion, IsWrite}
 use Rattle.qd_session.specs.Looks.{Look}
 use Rattle.qd_session.specs.Timing.{LacksTime}
 use Rattle.qd_base.specs.declared.limits.TheConstants.{MAX_TXNS}

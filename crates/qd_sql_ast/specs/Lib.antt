@@ -2,3 +2,4 @@ pub mod Ranges
 pub mod Steps
 pub mod Lists
 pub mod Writes
+pub mod Kinds

@@ -6,6 +6,7 @@ ghost use Rattle.qd_lines.specs.declared.fault.LineFault.TheVariants as lines;
 ghost use Rattle.qd_lines.specs.Walks.{IsLineFault};
 ghost use Rattle.qd_meaning.specs.Write.{write};
 ghost use Rattle.qd_prepare.specs.Prepared.{IsRead, IsShort};
+ghost use Rattle.qd_sql_ast.specs.Kinds.{IsWrite};
 ghost use Rattle.qd_sequencer.specs.Faults.{CountsFault};
 ghost use Rattle.qd_sequencer.specs.Sequences.{IsAsBefore, chosen};
 ghost use Rattle.qd_store.specs.Arriving.{IsBehind, IsPlaced, SaysLines, SaysStmt};
@@ -76,6 +77,7 @@ impl Book {
         stmt: &Stmt,
     ) -> Result<Committed, CommitFault>
         requires short { IsShort stmt.now }
+        requires writes { IsWrite stmt.now }
         ensures limits { self.new.limits ≡ self.old.limits }
         ensures count { IfOk result (λ done. done.n ≡ length self.new.sequence.refs) }
         ensures writer { IfOk result (λ done. done.writer ≡ (chosen self.old.sequence writer).wal) }

@@ -16,6 +16,7 @@ ghost use Rattle.qd_lines.specs.Walks.{IsLineFault};
 ghost use Rattle.qd_manifest.specs.declared.shape.TableParts.{TableParts};
 ghost use Rattle.qd_meaning.specs.Write.{write};
 ghost use Rattle.qd_prepare.specs.Prepared.{IsRead, IsShort};
+ghost use Rattle.qd_sql_ast.specs.Kinds.{IsWrite};
 ghost use Rattle.qd_scan.specs.Sources.{IsBlockOf};
 ghost use Rattle.qd_sequencer.specs.Faults.{CountsFault};
 ghost use Rattle.qd_sequencer.specs.Sequences.{IsAsBefore, chosen, without_writer};
@@ -186,6 +187,7 @@ impl<V: Volume> Store<V> {
         stmt: &Stmt,
     ) -> Result<Committed, CommitFault>
         requires short { IsShort stmt.now }
+        requires writes { IsWrite stmt.now }
         ensures limits { self.new.store.limits ≡ self.old.store.limits }
         ensures count { IfOk result (λ done. done.n ≡ length self.new.store.sequence.refs) }
         ensures writer { IfOk result (λ done. done.writer ≡ (chosen self.old.store.sequence writer).wal) }

@@ -21,7 +21,8 @@ use Rattle.qd_scan.specs.declared.fault.PartFault.TheVariants as part
 use Rattle.qd_scan.specs.Sources.{HasCause, Stays}
 use Rattle.qd_session.specs.Allowed.{HasNoAnswer, IsRefusedQuestion}
 use Rattle.qd_session.specs.Alone.{AllowedAlone}
-use Rattle.qd_session.specs.Asking.{asks_for, IsQuestion}
+use Rattle.qd_session.specs.Asking.{asks_for}
+use Rattle.qd_sql_ast.specs.Kinds.{IsQuestion}
 use Rattle.qd_session.specs.Legal.{Answers, Handles, done_in}
 use Rattle.qd_session.specs.Looks.{look_at}
 use Rattle.qd_store.specs.Stores.{Store}

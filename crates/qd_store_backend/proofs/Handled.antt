@@ -27,7 +27,8 @@ use Rattle.qd_sequencer.specs.declared.fault.Committed.{Committed}
 use Rattle.qd_sequencer.specs.Faults.{CountsFault}
 use Rattle.qd_session.specs.Allowed.{IsFullBatch, IsFullWrite, IsRefusalOver, IsRefusedBatch, IsRefusedWrite, SaysBatch, HasTransaction}
 use Rattle.qd_session.specs.Alone.{AllowedAlone}
-use Rattle.qd_session.specs.Asking.{asks_for, IsWrite}
+use Rattle.qd_session.specs.Asking.{asks_for}
+use Rattle.qd_sql_ast.specs.Kinds.{IsWrite}
 use Rattle.qd_session.specs.Legal.{Answers, Handles}
 use Rattle.qd_session.specs.Looks.{Extends, Grows, look_at}
 use Rattle.qd_store.specs.Arriving.{SaysLines, SaysStmt}

@@ -11,7 +11,8 @@ ghost use Rattle.qd_store_backend.specs.Replies.{RepliesOver, RepliesTo, Replies
 ghost use Rattle.qd_store_backend.specs.Volumes.{KeepsTold};
 ghost use Rattle.qd_prepare.specs.Prepared.{IsShort};
 ghost use Rattle.qd_session.specs.Alone.{AllowedAlone};
-ghost use Rattle.qd_session.specs.Asking.{asks_for, IsQuestion, IsWrite};
+ghost use Rattle.qd_session.specs.Asking.{asks_for};
+ghost use Rattle.qd_sql_ast.specs.Kinds.{IsQuestion, IsWrite};
 ghost use Rattle.qd_session.specs.Legal.{Handles};
 
 use crate::kept::KeptBlocks;

@@ -8,6 +8,7 @@ ghost use Rattle.qd_lines.specs.Walks.{IsLineFault};
 ghost use Rattle.qd_manifest.specs.Spelling.{schemas_in};
 ghost use Rattle.qd_meaning.specs.Write.{write};
 ghost use Rattle.qd_prepare.specs.Prepared.{IsRead, IsShort};
+ghost use Rattle.qd_sql_ast.specs.Kinds.{IsWrite};
 ghost use Rattle.qd_sequencer.specs.Faults.{CountsFault};
 ghost use Rattle.qd_store.specs.Arriving.{SaysLines, SaysStmt};
 ghost use Rattle.qd_store.specs.Faults.{Causes, IsFullFor, IsSettled};
@@ -122,6 +123,7 @@ impl<V: Volume> StoreParts<V> {
         stmt: &Stmt,
     ) -> Result<Committed, CommitFault>
         requires short { IsShort stmt.now }
+        requires writes { IsWrite stmt.now }
         ensures commits { CommitsTo result self.old self.new (SaysStmt self.old.owned.store.sequence.schemas stmt.now) }
         ensures count { IfOk result (λ done. done.n ≡ length self.new.owned.store.sequence.refs) }
         ensures settled { IsSettled result self.new.owned.store.sequence }

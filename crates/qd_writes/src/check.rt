@@ -5,6 +5,7 @@ ghost use Rattle.qd_base.specs.Lawful.{AreLawful, AreSchemas};
 ghost use Rattle.qd_base.specs.Schemas.{schema_of};
 ghost use Rattle.qd_base.specs.declared.schema.Schema.{Schema};
 ghost use Rattle.qd_sql_ast.specs.declared.tree.Stmt.TheVariants as is;
+ghost use Rattle.qd_sql_ast.specs.Kinds.{IsWrite};
 ghost use Rattle.qd_meaning.specs.Refusals.{judged, least};
 ghost use Rattle.qd_meaning.specs.Inserting.{insert_faults};
 ghost use Rattle.qd_meaning.specs.Write.{inserted, write};
@@ -48,12 +49,13 @@ impl From<Memory> for StmtFault {
     }
 }
 
-/// Gives the transaction of a statement over the schemas of the tables that are there, or why it is refused: CREATE TABLE makes
-/// a table, INSERT puts rows into one, and a statement that asks changes nothing.
+/// Gives the transaction of a statement that writes over the schemas of the tables that are there, or why it is refused:
+/// CREATE TABLE makes a table, INSERT puts rows into one.
 ///
 /// It costs n log n in the length of the statement, time logarithmic in the number of tables, and for INSERT time and memory
 /// linear in its rows, which have a cell for each column of the table; also where it is refused.
 pub fn check_write(alloc: Global, schemas: &Schemas, stmt: &Stmt) -> Result<Entry, StmtFault>
+    requires writes { IsWrite stmt.now }
     ensures answer { Answers result (write schemas.now stmt.now) }
 
     // What is accepted is lawful over the schemas of a lawful history.
@@ -62,9 +64,7 @@ pub fn check_write(alloc: Global, schemas: &Schemas, stmt: &Stmt) -> Result<Entr
     match stmt {
         Stmt::Create(create) => check_create(alloc, schemas, create),
         Stmt::Insert(insert) => check_insert(alloc, table_of(schemas, &insert.table), insert),
-        _ => Ok(Entry {
-            ops: OpList::new(alloc),
-        }),
+        Stmt::Query(_) | Stmt::Show(..) => unreachable!(),
     }
 }
 

@@ -1,6 +1,7 @@
 //! Steps that are taken with a store.
 ghost use Rattle.qd_base.specs.Lawful.{AreSchemas};
 ghost use Rattle.qd_prepare.specs.Prepared.{IsRead, IsShort};
+ghost use Rattle.qd_sql_ast.specs.Kinds.{IsWrite};
 ghost use Rattle.std.specs.Bool.{OnTrue};
 
 use crate::answer::{push_commit, push_fault, push_round};
@@ -110,6 +111,7 @@ fn commit_lines(
 /// Whether a statement writes, and has few tuples.
 fn is_small_write(stmt: &Stmt) -> bool
     ensures small { OnTrue result (IsShort stmt.now) }
+    ensures writes { OnTrue result (IsWrite stmt.now) }
 {
     match stmt {
         Stmt::Create(_) => true,
@@ -131,6 +133,7 @@ fn stmt_of(alloc: Global, text: &[u8]) -> Result<Box<Stmt>, Trouble> {
 fn bytes_of_stmt(alloc: Global, schemas: &Schemas, stmt: &Stmt) -> Result<Option<Txt>, Trouble>
     requires lawful { AreSchemas schemas.now }
     requires short { IsShort stmt.now }
+    requires writes { IsWrite stmt.now }
 {
     match prepare_stmt(alloc, schemas, stmt) {
         Ok(prepared) => Ok(Some(prepared.bytes)),

@@ -170,6 +170,7 @@ answers_sql old new time text (Err (fault.Refused why place)) given within asks 
       own = sym (append-nil (range_with_len 1 (length old.history)));
     })
 answers_sql old new time text (Err fault.Memory) given within asks h = absurd h
+answers_sql old new time text (Err fault.TooDeep) given within asks h = absurd h
 
 pub handles_sql : {E : Type 0} (old new : Listed) (time : ℕ) (text : List ℕ) (result : Result Reply E) → old.applied ≤ length old.history → IfOk result (λ given. CarriesOut old new (asks_for text) given) → OnErr result (new ≡ old)
     → Handles AllowedAlone (listed_shown old) (listed_shown new) time (request.Sql text) result

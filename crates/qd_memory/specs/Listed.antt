@@ -81,6 +81,7 @@ CarriesOut old new (Ok (is.Query q)) given = AnswersStmt old new (is.Query q) gi
 CarriesOut old new (Ok (is.Show name place)) given = AnswersStmt old new (is.Show name place) given
 CarriesOut old new (Err (fault.Refused why place)) given = (given ≡ reply.Refused (number_of why) place) × (new ≡ old)
 CarriesOut old new (Err fault.Memory) given = ⊥
+CarriesOut old new (Err fault.TooDeep) given = ⊥
 
 -- the rows of an INSERT are no more than a text has room for
 abbrev pub IsShort : Stmt → Type 0

@@ -200,7 +200,7 @@ impl Backend for ListBack {
         match parse_stmt(alloc, text.bytes()) {
             Ok(stmt) => self.carry_out(alloc, &stmt),
             Err(SqlFault::Refused { code, place }) => Ok(refused(code, place)),
-            Err(SqlFault::Memory) => Err(AllocError),
+            Err(SqlFault::Memory | SqlFault::TooDeep) => Err(AllocError),
         }
     }
 

@@ -4,23 +4,33 @@ use Rattle.qd_base.specs.declared.code.Code.{Code}
 use Rattle.qd_base.specs.declared.code.Code.TheVariants as code
 use Rattle.qd_sql_lexer.specs.declared.token.Kind.TheVariants as kind
 use Rattle.qd_sql_lexer.specs.Tokens.{Lexeme, tokens}
-use Rattle.qd_sql_ast.specs.declared.stop.Stop.TheVariants as stop
+use Rattle.qd_sql_ast.specs.declared.stop.Halt.TheVariants as halt
 use Rattle.qd_sql_ast.specs.declared.tree.Stmt.{Stmt}
 use Rattle.qd_sql_ast.specs.Steps.{Read, ◌>>=◌, if_taken, end, sign}
 use Rattle.qd_sql.specs.declared.stmt.SqlFault.{SqlFault}
 use Rattle.qd_sql.specs.declared.stmt.SqlFault.TheVariants as fault
-use Rattle.qd_sql.specs.Statement.{statement, ended, whole_text, is_unbuilt, far_number, in_range, judged, statement_of, ReadsSql, IsStatement, IsRefused, IsTooDeep}
+use Rattle.qd_sql.specs.Statement.{statement, ended, whole_text, is_unbuilt, far_number, in_range, judged, statement_of, IsRead, IsStatement, IsRefused, IsTooDeep}
 use Rattle.qd_sql.specs.Laws.{Stands, Cause}
 
 -- an answer is one of three
-answer_is : (r : Result Stmt SqlFault)
-    → ((s : Stmt) × (r ≡ Ok s)) ⊎ (((why : Code) × (place : ℕ) × (r ≡ Err (fault.Refused why place))) ⊎ (r ≡ Err fault.Memory))
-answer_is (Ok s) = inl (s, refl)
-answer_is (Err (fault.Refused why place)) = inr (inl (why, place, refl))
-answer_is (Err fault.Memory) = inr (inr refl)
+abbrev OneOf : Result Stmt SqlFault → Type 0
+OneOf r = ((s : Stmt) × (r ≡ Ok s)) ⊎ (((why : Code) × (place : ℕ) × (r ≡ Err (fault.Refused why place))) ⊎ (r ≡ Err fault.TooDeep))
+
+range_is : (s : Stmt) (far : Option ℕ) → OneOf (in_range s far)
+range_is s None = inl (s, refl)
+range_is s (Some place) = inr (inl (code.NumberRange, place, refl))
+
+judged_is : (len : ℕ) (ts : List Lexeme) (r : Read Stmt) → OneOf (judged len ts r)
+judged_is len ts (Ok x) = range_is x.0 (far_number ts)
+judged_is len ts (Err halt.TooDeep) = inr (inr refl)
+judged_is len ts (Err (halt.At place)) = inr (inl (code.SqlSyntax, unwrap_or place len, refl))
+
+answer_is : (len : ℕ) (ts : List Lexeme) (b : Bool) → OneOf (if b then Err (fault.Refused code.NotBuilt 0) else judged len ts (whole_text ts))
+answer_is len ts true = inr (inl (code.NotBuilt, 0, refl))
+answer_is len ts false = judged_is len ts (whole_text ts)
 
 pub answered : (text : List ℕ) → ((s : Stmt) × IsStatement text s) ⊎ (((why : Code) × (place : ℕ) × IsRefused text why place) ⊎ IsTooDeep text)
-answered text = answer_is (statement_of text)
+answered text = answer_is (length text) (tokens text) (is_unbuilt (tokens text))
 
 -- nothing is left behind a text that was read
 end_of : (ts : List Lexeme) (x : Unit {0} × List Lexeme) → end ts ≡ Ok x → x.1 ≡ []
@@ -48,7 +58,7 @@ whole_ends : (ts : List Lexeme) (x : Stmt × List Lexeme) → whole_text ts ≡ 
 unfolding whole_text
 whole_ends ts x e = read_ends (statement ts) x e
 
-whole_reads : (ts : List Lexeme) (x : Stmt × List Lexeme) → whole_text ts ≡ Ok x → ReadsSql ts x.0
+whole_reads : (ts : List Lexeme) (x : Stmt × List Lexeme) → whole_text ts ≡ Ok x → IsRead ts x.0
 whole_reads ts x e = e ∙ ap (λ rest. Ok (x.0, rest)) (whole_ends ts x e)
 
 -- where a statement is read, it and its numbers decide
@@ -62,8 +72,8 @@ stands_from text s true r unbuilt read e = absurd (cc)
 stands_from text s false (Ok x) unbuilt read e =
     let h : (x.0 ≡ s) × (far_number (tokens text) ≡ None) = range_of x.0 s (far_number (tokens text)) e in
     record { built = unbuilt; read = whole_reads (tokens text) x read ∙ ap (λ y. Ok (y, [])) h.0; in_range = h.1 }
-stands_from text s false (Err stop.Memory) unbuilt read e = absurd (cc)
-stands_from text s false (Err (stop.At at)) unbuilt read e = absurd (cc)
+stands_from text s false (Err halt.TooDeep) unbuilt read e = absurd (cc)
+stands_from text s false (Err (halt.At at)) unbuilt read e = absurd (cc)
 
 pub stands : (text : List ℕ) (s : Stmt) → IsStatement text s → Stands text s
 stands text s e = stands_from text s (is_unbuilt (tokens text)) (whole_text (tokens text)) refl refl e
@@ -76,7 +86,7 @@ pub is_statement : (text : List ℕ) (s : Stmt) → Stands text s → IsStatemen
 is_statement text s h = judged_by text false (Ok (s, [])) h.built h.read ∙ ap (in_range s) h.in_range
 
 -- where a text is refused, its first cause decides
-far_cause : (text : List ℕ) (x : Stmt) (why : Code) (place : ℕ) (far : Option ℕ) → is_unbuilt (tokens text) ≡ false → ReadsSql (tokens text) x → far_number (tokens text) ≡ far
+far_cause : (text : List ℕ) (x : Stmt) (why : Code) (place : ℕ) (far : Option ℕ) → is_unbuilt (tokens text) ≡ false → IsRead (tokens text) x → far_number (tokens text) ≡ far
     → in_range x far ≡ Err (fault.Refused why place) → Cause text why place
 far_cause text x why place None unbuilt read far e = absurd (cc)
 far_cause text x why place (Some at) unbuilt read far e =
@@ -91,8 +101,8 @@ cause_from text why place true r unbuilt read e =
     let p : place ≡ 0 = cc in
     subst (λ c. Cause text c place) w (unbuilt, p)
 cause_from text why place false (Ok x) unbuilt read e = far_cause text x.0 why place (far_number (tokens text)) unbuilt (whole_reads (tokens text) x read) refl e
-cause_from text why place false (Err stop.Memory) unbuilt read e = absurd (cc)
-cause_from text why place false (Err (stop.At at)) unbuilt read e =
+cause_from text why place false (Err halt.TooDeep) unbuilt read e = absurd (cc)
+cause_from text why place false (Err (halt.At at)) unbuilt read e =
     let w : code.SqlSyntax ≡ why = cc in
     let p : place ≡ unwrap_or at (length text) = cc in
     subst (λ c. Cause text c place) w (unbuilt, (at, read, p))
@@ -102,7 +112,7 @@ has_cause text why place e = cause_from text why place (is_unbuilt (tokens text)
 
 pub is_refused : (text : List ℕ) (why : Code) (place : ℕ) → Cause text why place → IsRefused text why place
 is_refused text code.NotBuilt place (unbuilt, p) = rw (unbuilt, p) refl
-is_refused text code.SqlSyntax place (built, (at, read, p)) = judged_by text false (Err (stop.At at)) built read ∙ ap (λ n. Err (fault.Refused code.SqlSyntax n)) (sym p)
+is_refused text code.SqlSyntax place (built, (at, read, p)) = judged_by text false (Err (halt.At at)) built read ∙ ap (λ n. Err (fault.Refused code.SqlSyntax n)) (sym p)
 is_refused text code.NumberRange place (built, (s, read), far) = judged_by text false (Ok (s, [])) built read ∙ ap (in_range s) far
 is_refused text other place h = absurd h
 

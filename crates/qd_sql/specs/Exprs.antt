@@ -1,7 +1,7 @@
 -- The rules of expressions.
 use Rattle.std.specs.Prelude.{ℕ, zero, suc, if◌then◌else◌, List, codes, Option, Some, None, Ok, Err}
 use Rattle.qd_sql_lexer.specs.declared.token.Kind.TheVariants as kind
-use Rattle.qd_sql_ast.specs.declared.stop.Stop.TheVariants as stop
+use Rattle.qd_sql_ast.specs.declared.stop.Halt.TheVariants as halt
 use Rattle.qd_sql_ast.specs.declared.tree.AddOp.{AddOp}
 use Rattle.qd_sql_ast.specs.declared.tree.AddOp.TheVariants as add
 use Rattle.qd_sql_ast.specs.declared.tree.MulOp.{MulOp}
@@ -184,5 +184,5 @@ expr_at inner ts = do
 
 -- an expression whose brackets nest less deep than a number
 unfoldable pub expr : ℕ → List Lexeme → Read Expr
-expr zero ts = Err stop.Memory
+expr zero ts = Err halt.TooDeep
 expr (suc depth) ts = expr_at (expr depth) ts

@@ -2,10 +2,10 @@
 use Rattle.std.specs.Prelude.{◌≡◌, ℕ, ◌⊎◌, ◌↔◌, true, false, List, length, Option, Some, None, unwrap_or, Err}
 use Rattle.qd_base.specs.declared.code.Code.{Code}
 use Rattle.qd_base.specs.declared.code.Code.TheVariants as code
-use Rattle.qd_sql_ast.specs.declared.stop.Stop.TheVariants as stop
+use Rattle.qd_sql_ast.specs.declared.stop.Halt.TheVariants as halt
 use Rattle.qd_sql_ast.specs.declared.tree.Stmt.{Stmt}
 use Rattle.qd_sql_lexer.specs.Tokens.{tokens}
-use Rattle.qd_sql.specs.Statement.{ReadsSql, IsStatement, IsRefused, IsTooDeep, is_unbuilt, far_number, whole_text}
+use Rattle.qd_sql.specs.Statement.{IsRead, IsStatement, IsRefused, IsTooDeep, is_unbuilt, far_number, whole_text}
 
 -- one answer, and no more
 pub record TextsAreAnswered : Type 0 where
@@ -17,7 +17,7 @@ pub record TextsAreAnswered : Type 0 where
 -- a statement is built, is read from the tokens, and has no number out of its range
 pub record Stands (text : List ℕ) (s : Stmt) : Type 0 where
   pub built : is_unbuilt (tokens text) ≡ false
-  pub read : ReadsSql (tokens text) s
+  pub read : IsRead (tokens text) s
   pub in_range : far_number (tokens text) ≡ None
 
 abbrev pub StatementsStand : Type 0
@@ -27,9 +27,9 @@ StatementsStand = (text : List ℕ) (s : Stmt) → IsStatement text s ↔ Stands
 abbrev pub Cause : List ℕ → Code → ℕ → Type 0
 Cause text code.NotBuilt place = (is_unbuilt (tokens text) ≡ true) × (place ≡ 0)
 Cause text code.SqlSyntax place =
-    (is_unbuilt (tokens text) ≡ false) × ((at : Option ℕ) × (whole_text (tokens text) ≡ Err (stop.At at)) × (place ≡ unwrap_or at (length text)))
+    (is_unbuilt (tokens text) ≡ false) × ((at : Option ℕ) × (whole_text (tokens text) ≡ Err (halt.At at)) × (place ≡ unwrap_or at (length text)))
 Cause text code.NumberRange place =
-    (is_unbuilt (tokens text) ≡ false) × ((s : Stmt) × ReadsSql (tokens text) s) × (far_number (tokens text) ≡ Some place)
+    (is_unbuilt (tokens text) ≡ false) × ((s : Stmt) × IsRead (tokens text) s) × (far_number (tokens text) ≡ Some place)
 Cause text other place = ⊥
 
 abbrev pub RefusalsHaveCauses : Type 0

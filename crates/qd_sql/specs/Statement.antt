@@ -3,7 +3,8 @@ use Rattle.std.specs.Prelude.{◌≡◌, ℕ, Bool, false, not, ◌&&◌, ◌||�
 use Rattle.qd_base.specs.declared.code.Code.{Code}
 use Rattle.qd_base.specs.declared.code.Code.TheVariants as code
 use Rattle.qd_sql_lexer.specs.declared.token.Kind.TheVariants as kind
-use Rattle.qd_sql_ast.specs.declared.stop.Stop.TheVariants as stop
+use Rattle.qd_sql_ast.specs.declared.stop.Halt.{Halt}
+use Rattle.qd_sql_ast.specs.declared.stop.Halt.TheVariants as halt
 use Rattle.qd_sql.specs.declared.stmt.SqlFault.{SqlFault}
 use Rattle.qd_sql.specs.declared.stmt.SqlFault.TheVariants as fault
 use Rattle.qd_base.specs.declared.limits.TheConstants.{MAX_NUMBER, MAX_STRIDE}
@@ -63,17 +64,21 @@ abbrev pub in_range : Stmt → Option ℕ → Result Stmt SqlFault
 in_range s None = Ok s
 in_range s (Some place) = Err (fault.Refused code.NumberRange place)
 
+-- the answer to a text of this length that has no statement
+abbrev pub halted : ℕ → Halt → SqlFault
+halted len halt.TooDeep = fault.TooDeep
+halted len (halt.At place) = fault.Refused code.SqlSyntax (unwrap_or place len)
+
 -- the statement of a text of this length that has these tokens, or its refusal
 abbrev pub judged : ℕ → List Lexeme → Read Stmt → Result Stmt SqlFault
 judged len ts (Ok x) = in_range x.0 (far_number ts)
-judged len ts (Err stop.Memory) = Err fault.Memory
-judged len ts (Err (stop.At place)) = Err (fault.Refused code.SqlSyntax (unwrap_or place len))
+judged len ts (Err why) = Err (halted len why)
 
 abbrev pub statement_at : ℕ → List Lexeme → Result Stmt SqlFault
 statement_at len ts = if is_unbuilt ts then Err (fault.Refused code.NotBuilt 0) else judged len ts (whole_text ts)
 
--- The statement of a text, or its refusal: first for what is not built, then for what is no statement, then for a number
--- out of its range. Where brackets nest too deep it finds no memory.
+-- The statement of a text, or its refusal: first for what is not built, then for what is no statement or nests too deep,
+-- then for a number out of its range.
 abbrev pub statement_of : List ℕ → Result Stmt SqlFault
 statement_of text = statement_at (length text) (tokens text)
 
@@ -81,13 +86,14 @@ statement_of text = statement_at (length text) (tokens text)
 abbrev pub Answers : Result Stmt SqlFault → Result Stmt SqlFault → Type 0
 Answers (Ok s) given = given ≡ Ok s
 Answers (Err fault.Memory) given = Unit {0}
+Answers (Err fault.TooDeep) given = given ≡ Err fault.TooDeep
 Answers (Err (fault.Refused why place)) given = given ≡ Err (fault.Refused why place)
 
 -- the tokens are those of this statement, and of nothing else
-abbrev pub ReadsSql : List Lexeme → Stmt → Type 0
-ReadsSql ts s = whole_text ts ≡ Ok (s, [])
+abbrev pub IsRead : List Lexeme → Stmt → Type 0
+IsRead ts s = whole_text ts ≡ Ok (s, [])
 
--- what a text is: a statement, refused, or nested too deep for the stack
+-- what a text is: a statement, refused, or nested too deep
 abbrev pub IsStatement : List ℕ → Stmt → Type 0
 IsStatement text s = statement_of text ≡ Ok s
 
@@ -95,4 +101,4 @@ abbrev pub IsRefused : List ℕ → Code → ℕ → Type 0
 IsRefused text why place = statement_of text ≡ Err (fault.Refused why place)
 
 abbrev pub IsTooDeep : List ℕ → Type 0
-IsTooDeep text = statement_of text ≡ Err fault.Memory
+IsTooDeep text = statement_of text ≡ Err fault.TooDeep

@@ -7,7 +7,7 @@ ghost use Rattle.qd_sql_ast.specs.Steps.{Reads, Takes};
 
 use qd_base::Seq;
 use qd_sql_ast::{
-    AddOp, AddTerm, AndNeg, Check, Cmp, Column, Conj, Cursor, Expr, MulOp, MulSigned, Neg, OrConj,
+    AddOp, AddTerm, AndNeg, Check, Cmp, Column, Conj, Cursor, Expr, Halt, MulOp, MulSigned, Neg, OrConj,
     Plus, Prime, Signed, Stop, Term, Test, lits, offsets,
 };
 use qd_sql_lexer::Kind;
@@ -23,12 +23,12 @@ struct Rules<F> {
     inner: F,
 }
 
-/// Reads an expression whose brackets nest less deep than this. Deeper ones find no memory, since the stack is memory.
+/// Reads an expression whose brackets nest less deep than this: the stack is memory.
 pub(crate) fn expr(alloc: Global, tokens: &mut Cursor<'_, '_>, depth: usize) -> Result<Expr, Stop>
     ensures { Reads (spec.expr depth tokens.old) result tokens.new }
 {
     if depth == 0 {
-        return Err(Stop::Memory);
+        return Err(Stop::Halted(Halt::TooDeep));
     }
     Rules {
         alloc,

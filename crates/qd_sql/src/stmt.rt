@@ -7,7 +7,7 @@ ghost use Rattle.qd_sql_ast.specs.Steps.{Reads, lexemes, seen};
 use crate::query::query;
 use qd_base::{Code, MAX_NUMBER, MAX_STRIDE, Memory};
 use qd_sql_ast::{
-    Cursor, Stmt, Stop, create, insert, is_word, number_of, same_kind, show, stride_count,
+    Cursor, Halt, Stmt, Stop, create, insert, is_word, number_of, same_kind, show, stride_count,
 };
 use qd_sql_lexer::{Kind, Token, tokens};
 use std::alloc::Global;
@@ -15,8 +15,10 @@ use std::alloc::Global;
 /// Why a text gives no statement.
 #[derive(Clone, Copy, Debug, PartialEq, Eq)]
 pub enum SqlFault {
-    /// No memory was found, or brackets nest deeper than 256.
+    /// No memory was found.
     Memory,
+    /// Brackets nest deeper than `MAX_NESTING`, before a token that no text has there.
+    TooDeep,
     /// The text is refused.
     Refused {
         /// `NotBuilt`, `SqlSyntax` or `NumberRange`.
@@ -44,7 +46,8 @@ impl From<Memory> for SqlFault {
 /// UPDATE, VACUUM or WITH, or with CREATE before something else than TABLE; with `SqlSyntax` a text that is no statement;
 /// with `NumberRange` a number above 9223372036854775807, or a stride whose count is not from 1 to 1,000,000.
 ///
-/// It costs time and memory linear in the text. Brackets that nest deeper than 256 find no memory.
+/// Where brackets of expressions nest deeper than `MAX_NESTING`, it is `TooDeep` at the first that does, whatever stands
+/// behind it. It costs time and memory linear in the text.
 pub fn parse_stmt(alloc: Global, text: &[u8]) -> Result<Stmt, SqlFault>
     ensures { Answers result (spec.statement_of text.now) }
 {
@@ -64,11 +67,21 @@ fn judge(alloc: Global, len: usize, list: &[Token<'_>]) -> Result<Stmt, SqlFault
     }
     match whole_text(alloc, &mut Cursor::new(list)) {
         Ok(stmt) => in_range(stmt, far_number(list)),
-        Err(Stop::At(place)) => Err(SqlFault::Refused {
-            code: Code::SqlSyntax,
-            place: place.unwrap_or(len as u64),
-        }),
+        Err(Stop::Halted(halt)) => Err(halted(halt, len as u64)),
         Err(Stop::Memory) => Err(SqlFault::Memory),
+    }
+}
+
+/// The answer to a text of so many bytes that has no statement.
+fn halted(halt: Halt, len: u64) -> SqlFault
+    ensures { result ≡ spec.halted len halt }
+{
+    match halt {
+        Halt::TooDeep => SqlFault::TooDeep,
+        Halt::At(place) => SqlFault::Refused {
+            code: Code::SqlSyntax,
+            place: place.unwrap_or(len),
+        },
     }
 }
 

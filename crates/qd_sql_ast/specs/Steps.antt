@@ -1,6 +1,6 @@
 -- The steps that each rule of the grammar is made of. A rule reads from the front of a list of tokens: it gives what it
--- reads and the tokens behind, or the offset of the first token that no text has there, or none at the text's end. Where
--- brackets nest too deep it finds no memory.
+-- reads and the tokens behind, or the offset of the first token that no text has there, or none at the text's end, or that
+-- brackets nest too deep before.
 use Rattle.std.specs.Prelude.{◌≡◌, ℕ, zero, suc, length, ◌+◌, ◌-◌, ◌*◌, Bool, true, false, not, ◌&&◌, ◌||◌, ◌==◌, min, if◌then◌else◌, List, [], ◌∷◌, ◌++◌, map, fold, take, slice_index, Option, Some, None, Result, Ok, Err}
 use Rattle.std.specs.Str.{str_eq_ignore_ascii_case}
 use denote.Enum.Bare.{sameb}
@@ -11,6 +11,8 @@ use Rattle.qd_sql_lexer.specs.contracts.token.Kind.{the_type}
 use Rattle.qd_sql_lexer.specs.declared.token.Kind.{Kind}
 use Rattle.qd_sql_lexer.specs.declared.token.Kind.TheVariants as kind
 use Rattle.qd_sql_lexer.specs.declared.token.Token.{Token}
+use Rattle.qd_sql_ast.specs.declared.stop.Halt.{Halt}
+use Rattle.qd_sql_ast.specs.declared.stop.Halt.TheVariants as halt
 use Rattle.qd_sql_ast.specs.declared.stop.Stop.{Stop}
 use Rattle.qd_sql_ast.specs.declared.stop.Stop.TheVariants as stop
 use Rattle.qd_sql_ast.specs.declared.step.TheConstants.{RESERVED}
@@ -31,10 +33,10 @@ lexemes ts = map tokens.seen ts
 
 -- what a rule gives
 abbrev pub Read : Type 0 → Type 0
-Read A = Result (A × List Lexeme) Stop
+Read A = Result (A × List Lexeme) Halt
 
 infixl 10 ◌>>=◌
-abbrev pub ◌>>=◌ : {A B : Type 0} → Result A Stop → (A → Result B Stop) → Result B Stop
+abbrev pub ◌>>=◌ : {A B : Type 0} → Result A Halt → (A → Result B Halt) → Result B Halt
 (Ok x) >>= f = f x
 (Err e) >>= f = Err e
 
@@ -42,7 +44,7 @@ abbrev pub ◌>>=◌ : {A B : Type 0} → Result A Stop → (A → Result B Stop
 abbrev pub Reads : {A : Type 0} → Read A → Result A Stop → List Lexeme → Type 0
 Reads read (Ok x) new = read ≡ Ok (x, new)
 Reads read (Err stop.Memory) new = Unit {0}
-Reads read (Err (stop.At place)) new = read ≡ Err (stop.At place)
+Reads read (Err (stop.Halted why)) new = read ≡ Err why
 
 -- the same, where something may be taken
 abbrev pub Takes : {A : Type 0} → Option A → Option (A × List Lexeme) → List Lexeme → List Lexeme → Type 0
@@ -55,9 +57,9 @@ if_taken None then_so else_so = else_so
 if_taken (Some x) then_so else_so = then_so x
 
 -- no text goes on with these tokens
-unfoldable pub stuck : List Lexeme → Stop
-stuck [] = stop.At None
-stuck (t ∷ ts) = stop.At (Some t.at)
+unfoldable pub stuck : List Lexeme → Halt
+stuck [] = halt.At None
+stuck (t ∷ ts) = halt.At (Some t.at)
 
 unfoldable pub same_kind : Kind → Kind → Bool
 same_kind = sameb the_type

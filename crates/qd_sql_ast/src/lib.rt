@@ -13,7 +13,7 @@ pub use lists::{list, offsets};
 pub use range::{Magnitude, StrideCount};
 pub use sqlite_items::{Boxed, Items};
 pub use step::{Cursor, is_word, number_of, same_kind, stride_count};
-pub use stop::Stop;
+pub use stop::{Halt, Stop};
 pub use tree::{
     AddOp, AddTerm, AggOf, AlignTo, AndNeg, Check, Cmp, Column, ColumnDef, Conj, Create, Dedup,
     Expr, FillWith, Fills, Filter, Insert, Item, Join, JoinOf, Latest, Limit, Lit, MulOp,

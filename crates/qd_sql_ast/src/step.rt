@@ -4,7 +4,7 @@ ghost use Rattle.qd_sql_ast.specs.Steps as spec;
 ghost use Rattle.qd_sql_ast.specs.Steps.{Reads, Takes};
 
 use crate::range::{Magnitude, StrideCount};
-use crate::stop::Stop;
+use crate::stop::{Halt, Stop};
 use crate::tree::{Name, Number, StrideOf, Text};
 use qd_base::{MAX_NUMBER, Memory, TimeUnit, Txt, same_name};
 use qd_sql_lexer::{Kind, Token};
@@ -83,11 +83,11 @@ impl<'t, 'a> Cursor<'t, 'a> {
     /// Says that no text goes on with these tokens: the offset of the first, or none at the end.
     #[tactic(auto, unfolding(crate::specs::Steps::stuck))]
     pub fn stuck(&self) -> Stop
-        ensures { result ≡ spec.stuck self.now }
+        ensures { result ≡ Stop.Halted (spec.stuck self.now) }
     {
         match self.left {
-            [first, ..] => Stop::At(Some(first.at)),
-            [] => Stop::At(None),
+            [first, ..] => Stop::Halted(Halt::At(Some(first.at))),
+            [] => Stop::Halted(Halt::At(None)),
         }
     }
 

@@ -1,7 +1,7 @@
 -- Tokens and alternatives.
 use Rattle.std.proofs.Common.{◌≡◌, ℕ, suc, ◌≤◌, Bool, true, false, List, [], ◌∷◌, ◌++◌, length, Option, Some, None, Ok, Err, refl, sym, ap, ap₂, ◌∙◌, subst, arith, inl, inr, ◌⊎◌, if◌then◌else◌}
 use Rattle.qd_sql_lexer.specs.Tokens.{Lexeme}
-use Rattle.qd_sql_ast.specs.declared.stop.Stop.TheVariants as stop
+use Rattle.qd_sql_ast.specs.declared.stop.Halt.TheVariants as halt
 use Rattle.qd_sql_ast.specs.declared.tree.Stmt.{Stmt}
 use Rattle.qd_sql_ast.specs.Steps.{Read, ◌>>=◌, if_taken, wanted, stuck}
 use Rattle.qd_sql_laws.proofs.Sorts.{Good, AllGood, join_good, Sort, is_in, Has, clash, apart, in_left, in_right}
@@ -25,10 +25,10 @@ abbrev pub Reads : {A : Type 0} → (List Lexeme → Read A) → (A → Lexeme �
 Reads {A} f Q ss t = (a : A) × Q a t × ((b : A) → Q b t → b ≡ a) × ((ts : List Lexeme) → f (t ∷ ts) ≡ Ok (a, ts)) × Has ss t
 
 abbrev pub Stops : {A : Type 0} → (List Lexeme → Read A) → (A → Lexeme → Type 0) → Lexeme → Type 0
-Stops {A} f Q t = ((b : A) → Q b t → ⊥) × ((ts : List Lexeme) → f (t ∷ ts) ≡ Err (stop.At (Some t.at)))
+Stops {A} f Q t = ((b : A) → Q b t → ⊥) × ((ts : List Lexeme) → f (t ∷ ts) ≡ Err (halt.At (Some t.at)))
 
 pub record Leaf {A : Type 0} (f : List Lexeme → Read A) (Q : A → Lexeme → Type 0) (ss : List Sort) : Type 0 where
-  pub none : f [] ≡ Err (stop.At None)
+  pub none : f [] ≡ Err (halt.At None)
   pub one : (t : Lexeme) → Reads f Q ss t ⊎ Stops f Q t
   pub lives : (a : A) × (t : Lexeme) × Q a t
   pub good : (a : A) (t : Lexeme) → Q a t → Good t

@@ -2,7 +2,7 @@
 use Rattle.std.proofs.Common.{◌≡◌, ℕ, ◌≤◌, Bool, true, false, ◌&&◌, List, [], ◌∷◌, ◌++◌, length, Result, Ok, Err, refl, sym, ap, ap₂, ◌∙◌, subst, append_assoc, ◌⊎◌, if◌then◌else◌}
 use Rattle.std.proofs.lemmas.List.{append_cancel_left}
 use Rattle.qd_sql_lexer.specs.Tokens.{Lexeme}
-use Rattle.qd_sql_ast.specs.declared.stop.Stop.{Stop}
+use Rattle.qd_sql_ast.specs.declared.stop.Halt.{Halt}
 use Rattle.qd_sql_ast.specs.declared.tree.Stmt.{Stmt}
 use Rattle.qd_sql_ast.specs.Steps.{Read, ◌>>=◌}
 use Rattle.qd_sql_laws.proofs.Sorts.{AllGood, join_good, Sort, Has, clash, apart, in_left, in_right}
@@ -109,7 +109,7 @@ just n x = record {
 }
 
 -- a sequence
-pub bind_bind : {A B C : Type 0} (r : Result A Stop) (g : A → Result B Stop) (h : B → Result C Stop) → (r >>= λ x. g x >>= h) ≡ ((r >>= g) >>= h)
+pub bind_bind : {A B C : Type 0} (r : Result A Halt) (g : A → Result B Halt) (h : B → Result C Halt) → (r >>= λ x. g x >>= h) ≡ ((r >>= g) >>= h)
 bind_bind (Ok x) g h = refl
 bind_bind (Err e) g h = refl
 

@@ -2,7 +2,7 @@
 use Rattle.std.proofs.Common.{◌≡◌, arith, ℕ, zero, suc, ◌+◌, Bool, true, false, List, [], ◌∷◌, None, Err, refl, ◌++◌, subst}
 use Rattle.qd_sql_lexer.specs.Tokens.{Lexeme}
 use Rattle.qd_base.specs.declared.limits.TheConstants.{MAX_NESTING}
-use Rattle.qd_sql_ast.specs.declared.stop.Stop.TheVariants as stop
+use Rattle.qd_sql_ast.specs.declared.stop.Halt.TheVariants as halt
 use Rattle.qd_sql_ast.specs.declared.tree.Column.{Column}
 use Rattle.qd_sql_ast.specs.declared.tree.Expr.{Expr, roll-Expr}
 use Rattle.qd_sql_ast.specs.declared.tree.OrConj.{OrConj}
@@ -116,7 +116,7 @@ Beyond R false = λ e ts. ⊥
 Beyond R true = R
 
 abbrev pub memory : List Lexeme → Read Expr
-memory ts = Err stop.Memory
+memory ts = Err halt.TooDeep
 
 -- tokens are one such expression at most
 abbrev pub One : (Expr → List Lexeme → Type 0) → Type 0

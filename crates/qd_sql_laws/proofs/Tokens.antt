@@ -7,7 +7,7 @@ use Rattle.qd_sql_lexer.specs.contracts.token.Kind.{the_type}
 use Rattle.qd_sql_lexer.specs.declared.token.Kind.{Kind}
 use Rattle.qd_sql_lexer.specs.declared.token.Kind.TheVariants as kind
 use Rattle.qd_sql_lexer.specs.Tokens.{Lexeme}
-use Rattle.qd_sql_ast.specs.declared.stop.Stop.TheVariants as stop
+use Rattle.qd_sql_ast.specs.declared.stop.Halt.TheVariants as halt
 use Rattle.qd_sql_ast.specs.declared.tree.Name.{Name}
 use Rattle.qd_sql_ast.specs.declared.tree.Number.{Number}
 use Rattle.qd_sql_ast.specs.declared.tree.StrideOf.{StrideOf}
@@ -53,7 +53,7 @@ take_at op Q s t a true is holds only_one reads = inl (a, holds refl, (λ c q. (
 take_at op Q s t a false is holds only_one reads = inr ((λ c q. not_both false (only_one c q).0 refl), reads, not_only (is_of s t) is)
 
 read_at : {A : Type 0} (f : List Lexeme → Read A) (Q : A → Lexeme → Type 0) (s : Sort) (t : Lexeme) (a : A) (b : Bool)
-    → is_of s t ≡ b → (b ≡ true → Q a t) → ((c : A) → Q c t → (b ≡ true) × (c ≡ a)) → ((ts : List Lexeme) → f (t ∷ ts) ≡ (if b then Ok (a, ts) else Err (stop.At (Some t.at))))
+    → is_of s t ≡ b → (b ≡ true → Q a t) → ((c : A) → Q c t → (b ≡ true) × (c ≡ a)) → ((ts : List Lexeme) → f (t ∷ ts) ≡ (if b then Ok (a, ts) else Err (halt.At (Some t.at))))
     → Reads f Q (s ∷ []) t ⊎ Stops f Q t
 read_at f Q s t a true is holds only_one reads = inl (a, holds refl, (λ c q. (only_one c q).1), reads, only (is_of s t) is)
 read_at f Q s t a false is holds only_one reads = inr ((λ c q. not_both false (only_one c q).0 refl), reads)

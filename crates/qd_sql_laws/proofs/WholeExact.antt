@@ -19,7 +19,7 @@ use Rattle.qd_sql.specs.Queries.{rows_of, shape_of, query}
 use Rattle.qd_sql.specs.Statement.{statement, ended, whole_text}
 use Rattle.qd_sql_laws.specs.Parts.{◌⋅◌, Perhaps, Optional, Sign}
 use Rattle.qd_sql_laws.specs.QueryRules.{IsSource, IsJoin, IsFilter, IsLatest, IsSample, IsOrder, IsLimit, IsQuery}
-use Rattle.qd_sql_laws.specs.Grammar.{IsStmt, IsSqlText, ReadsSql, ReadsDeepSql}
+use Rattle.qd_sql_laws.specs.Grammar.{IsStmt, IsSqlText, ReadsShallowSql, ReadsSql}
 use Rattle.qd_sql_laws.proofs.Sorts.{AllGood, join_good, sign_good, Sort, Has, clash, apart, compared, in_lists, or_left}
 use Rattle.qd_sql_laws.proofs.Judging.{Clear, first_of, Rule, Judges, alike}
 use Rattle.qd_sql_laws.proofs.Combining.{Then, Or, Token, Follows}
@@ -191,7 +191,7 @@ judged ts = alike Whole (Then (λ d. IsStmt (Inner d)) Done) ts _
     (λ d b us same (o, r, p, x, y). (b, o, r, p, x, (refl, y)))
     ((a_stmt (length ts)).exactly.exact done Done (done_follows (length ts)) ts (omega arith))
 
-pub deepen : (ts : List Lexeme) (s : Stmt) → ReadsSql ts s → ReadsDeepSql ts s
+pub deepen : (ts : List Lexeme) (s : Stmt) → ReadsShallowSql ts s → ReadsSql ts s
 deepen ts s (o, r, p, x, y) = (o, r, p, (a_stmt 0).exactly.deepens s o x, y)
 
 -- no bad token is in a statement
@@ -200,7 +200,7 @@ unfolding same_kind
 semicolon_clean ts (inl e) = subst AllGood (sym e) tt
 semicolon_clean ts (inr (t, e, is)) = subst AllGood (sym e) (sign_good kind.Semicolon refl t is, tt)
 
-pub whole_clean : (ts : List Lexeme) (s : Stmt) → ReadsDeepSql ts s → AllGood ts
+pub whole_clean : (ts : List Lexeme) (s : Stmt) → ReadsSql ts s → AllGood ts
 whole_clean ts s (o, r, p, x, y) = join_good ts o r p ((a_stmt 0).exactly.clean true s o x) (semicolon_clean r y)
 
 -- tokens are one statement at most
@@ -211,6 +211,6 @@ semicolon_clear ts (inr (u, e, is)) t f h =
     let same : u ≡ t = cc in
     apart stmt_last (Sort.sign kind.Semicolon ∷ []) no_semicolon t h (or_left (same_kind t.kind kind.Semicolon) false (subst (λ z. same_kind z.kind kind.Semicolon ≡ true) same is))
 
-pub one_deep : (ts : List Lexeme) (a b : Stmt) → ReadsDeepSql ts a → ReadsDeepSql ts b → a ≡ b
+pub one_deep : (ts : List Lexeme) (a b : Stmt) → ReadsSql ts a → ReadsSql ts b → a ≡ b
 one_deep ts a b (o, r, p, x, y) (o', r', p', x', y') =
     ((a_stmt 0).exactly.unique true a b o o' r r' x x' (sym p ∙ p') (semicolon_clear r y) (semicolon_clear r' y')).0

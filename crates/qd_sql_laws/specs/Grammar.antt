@@ -31,17 +31,18 @@ IsStmt Inner (is.Show text at) = IsShow (record { at = at; text = text })
 abbrev pub IsSqlText : (Expr → List Lexeme → Type 0) → Stmt → List Lexeme → Type 0
 IsSqlText Inner s = IsStmt Inner s ⋅ Perhaps (Sign kind.Semicolon)
 
--- these tokens are this statement, with brackets that nest as deep as the stack allows
+-- these tokens are this statement
 abbrev pub ReadsSql : List Lexeme → Stmt → Type 0
-ReadsSql ts s = IsSqlText (Nests (MAX_NESTING + 1)) s ts
+ReadsSql ts s = IsSqlText NestsAnyhow s ts
 
--- the same, with brackets that nest to any depth
-abbrev pub ReadsDeepSql : List Lexeme → Stmt → Type 0
-ReadsDeepSql ts s = IsSqlText NestsAnyhow s ts
+-- and its brackets nest no deeper than the limit
+abbrev pub ReadsShallowSql : List Lexeme → Stmt → Type 0
+ReadsShallowSql ts s = IsSqlText (Nests (MAX_NESTING + 1)) s ts
 
 -- some tokens behind these make a statement
 abbrev pub CanGoOn : List Lexeme → Type 0
 CanGoOn ts = (more : List Lexeme) × (s : Stmt) × ReadsSql (ts ++ more) s
 
-abbrev pub CanGoOnDeep : List Lexeme → Type 0
-CanGoOnDeep ts = (more : List Lexeme) × (s : Stmt) × ReadsDeepSql (ts ++ more) s
+-- and one whose brackets nest no deeper than the limit
+abbrev pub CanGoOnShallow : List Lexeme → Type 0
+CanGoOnShallow ts = (more : List Lexeme) × (s : Stmt) × ReadsShallowSql (ts ++ more) s

@@ -1,5 +1,6 @@
 -- What a text is by the grammar, from how its tokens are judged.
-use Rattle.std.proofs.Common.{◌≡◌, ℕ, Bool, true, false, List, [], ◌∷◌, ◌++◌, length, Option, Some, None, unwrap_or, Result, Ok, Err, refl, sym, ap, ap₂, ◌∙◌, subst, inl, inr, ◌⊎◌, if◌then◌else◌, append_assoc, append-nil}
+use Rattle.std.proofs.Common.{◌≡◌, ℕ, Bool, true, false, List, [], ◌∷◌, ◌++◌, length, Option, Some, None, unwrap_or, Result, Ok, Err, refl, sym, ap, ap₂, ◌∙◌, subst, inl, inr, ◌⊎◌, if◌then◌else◌, append_assoc, append-nil, ◌<◌, ◌≤◌, nat_le, arith}
+use Rattle.std.proofs.lemmas.Bool.Decides.{nat_tests}
 use Rattle.qd_base.specs.declared.code.Code.TheVariants as code
 use Rattle.qd_sql_lexer.specs.Tokens.{Lexeme, tokens}
 use Rattle.qd_sql_ast.specs.declared.stop.Halt.TheVariants as halt
@@ -8,13 +9,18 @@ use Rattle.qd_sql_ast.specs.Steps.{Read, same_kind}
 use Rattle.qd_sql.specs.declared.stmt.SqlFault.{SqlFault}
 use Rattle.qd_sql.specs.declared.stmt.SqlFault.TheVariants as fault
 use Rattle.qd_sql.specs.Statement.{whole_text, is_unbuilt, far_number, in_range, judged as judged_text, IsRead, IsStatement, IsRefused, IsTooDeep}
-use Rattle.qd_sql.proofs.Answered.{stands, is_statement, has_cause, is_refused}
+use Rattle.qd_sql.proofs.Answered.{answered as answers, stands, is_statement, has_cause, is_refused}
+use Rattle.qd_sql.specs.Laws.{Cause}
+use Rattle.qd_base.specs.declared.code.Code.{Code}
+use Rattle.qd_base.specs.declared.limits.TheConstants.{MAX_NESTING}
+use Rattle.qd_sql_ast.specs.Nesting.{brackets_in}
 use Rattle.qd_sql_laws.specs.Grammar.{ReadsShallowSql, ReadsSql, CanGoOnShallow, CanGoOn}
 use Rattle.qd_sql_laws.specs.Laws.{IsByGrammar, place_of, GoesNoFurther, StopsAt}
 use Rattle.qd_sql_laws.proofs.Judging.{heads, tails, Judges}
 use Rattle.qd_sql_lexer.specs.declared.token.Kind.TheVariants as kind
 use Rattle.qd_sql_laws.proofs.Sorts.{Good, AllGood, not_both}
-use Rattle.qd_sql_laws.proofs.WholeExact.{whole_clean, Whole, judged, deepen}
+use Rattle.qd_sql_laws.proofs.Shallow.{shallow_low, low_shallow}
+use Rattle.qd_sql_laws.proofs.WholeExact.{whole_clean, Whole, judged, deepen, one_deep}
 
 -- what is refused is no statement
 refused_none : (ts : List Lexeme) (o : Option ℕ) (s : Stmt) → Judges Whole ts (Err (halt.At o)) → ReadsSql ts s → ⊥
@@ -69,6 +75,35 @@ deep_at text false (Err (halt.At o)) s e h k = refused_none (tokens text) o s h 
 
 pub too_deep : (text : List ℕ) (s : Stmt) → IsTooDeep text → ReadsShallowSql (tokens text) s → ⊥
 too_deep text s e k = deep_at text (is_unbuilt (tokens text)) (whole_text (tokens text)) s e (judged (tokens text)) k
+
+pub deep_text : (text : List ℕ) (s : Stmt) → IsTooDeep text → ReadsSql (tokens text) s → MAX_NESTING < brackets_in s
+deep_text text s e h = by (nat_le (brackets_in s) MAX_NESTING) refl
+  where
+    by : (b : Bool) → nat_le (brackets_in s) MAX_NESTING ≡ b → MAX_NESTING < brackets_in s
+    by true low = absurd (too_deep text s e (low_shallow (tokens text) s (h, (grind (arith, nat_tests)))))
+    by false high = grind (arith, nat_tests)
+
+-- a statement that nests too deep is neither read nor refused
+not_read : (text : List ℕ) (s t : Stmt) → ReadsSql (tokens text) s → MAX_NESTING < brackets_in s → IsRead (tokens text) t → ⊥
+not_read text s t h deep read =
+    let low = shallow_low (tokens text) t (tokens_read (tokens text) t read) in
+    let same : t ≡ s = one_deep (tokens text) t s low.0 h in
+    let k : brackets_in s ≤ MAX_NESTING = subst (λ (x : Stmt). brackets_in x ≤ MAX_NESTING) same low.1 in
+    absurd (omega (arith, deep, k))
+
+no_cause : (text : List ℕ) (s : Stmt) (why : Code) (place : ℕ) → is_unbuilt (tokens text) ≡ false → ReadsSql (tokens text) s → MAX_NESTING < brackets_in s → IsRefused text why place → Cause text why place → ⊥
+no_cause text s code.NotBuilt place built h deep e (unbuilt, p) = absurd (not_both (is_unbuilt (tokens text)) unbuilt built)
+no_cause text s code.SqlSyntax place built h deep e cause = no_statement text place s e h
+no_cause text s code.NumberRange place built h deep e (b, (t, read), far) = not_read text s t h deep read
+no_cause text s other place built h deep e cause = absurd cause
+
+pub text_deep : (text : List ℕ) (s : Stmt) → is_unbuilt (tokens text) ≡ false → ReadsSql (tokens text) s → MAX_NESTING < brackets_in s → IsTooDeep text
+text_deep text s built h deep = by (answers text)
+  where
+    by : ((t : Stmt) × IsStatement text t) ⊎ (((why : Code) × (place : ℕ) × IsRefused text why place) ⊎ IsTooDeep text) → IsTooDeep text
+    by (inl (t, e)) = absurd (not_read text s t h deep (stands text t e).read)
+    by (inr (inl (why, place, e))) = absurd (no_cause text s why place built h deep e (has_cause text why place e))
+    by (inr (inr e)) = e
 
 -- the place of a refusal
 stops_at : (ts : List Lexeme) (len place : ℕ) (o : Option ℕ) → place ≡ unwrap_or o len → Judges Whole ts (Err (halt.At o)) → StopsAt ts len place

@@ -14,5 +14,6 @@ pub mod Seconds
 pub mod QueryExact
 pub mod ShownExact
 pub mod WholeExact
+pub mod Shallow
 pub mod Decided
 pub mod Sizes

@@ -1,12 +1,14 @@
 -- What holds of every list of tokens, and of every text.
-use Rattle.std.specs.Prelude.{◌≡◌, ◌≤◌, ◌*◌, ℕ, ◌⊎◌, ◌↔◌, true, false, List, [], ◌∷◌, ◌++◌, length, None}
+use Rattle.std.specs.Prelude.{◌≡◌, ◌<◌, ◌≤◌, ◌*◌, ℕ, ◌⊎◌, ◌↔◌, true, false, List, [], ◌∷◌, ◌++◌, length, None}
 use Rattle.qd_base.specs.declared.code.Code.TheVariants as code
+use Rattle.qd_base.specs.declared.limits.TheConstants.{MAX_NESTING}
 use Rattle.qd_sql_ast.specs.declared.tree.Insert.{Insert}
 use Rattle.qd_sql_ast.specs.declared.tree.Stmt.{Stmt}
 use Rattle.qd_sql_ast.specs.declared.tree.Stmt.TheVariants as is
 use Rattle.qd_sql_lexer.specs.declared.token.Kind.TheVariants as kind
 use Rattle.qd_sql_lexer.specs.Tokens.{Lexeme, tokens}
 use Rattle.qd_sql_ast.specs.Steps.{same_kind}
+use Rattle.qd_sql_ast.specs.Nesting.{brackets_in}
 use Rattle.qd_sql.specs.Statement.{IsRead, IsStatement, IsRefused, IsTooDeep, is_unbuilt, far_number}
 use Rattle.qd_sql_laws.specs.Grammar.{ReadsShallowSql, ReadsSql, CanGoOnShallow, CanGoOn}
 
@@ -16,16 +18,18 @@ pub record IsByGrammar (text : List ℕ) (s : Stmt) : Type 0 where
   pub read : ReadsShallowSql (tokens text) s
   pub in_range : far_number (tokens text) ≡ None
 
--- Tokens are one statement by the grammar or none, at whatever depth of brackets, and are read so. A text is a statement exactly where its tokens are; one
--- that is refused for its syntax has none at any depth of brackets, and one that nests too deep has none within the limit.
+-- Tokens are one statement by the grammar or none, and are read so where its brackets nest no deeper than the limit. A text is a
+-- statement exactly where its tokens are; one that is refused for its syntax has none; and one that has a statement nests too
+-- deep exactly where the brackets of that statement nest deeper than the limit.
 pub record GrammarDecides : Type 0 where
   pub one_statement : (ts : List Lexeme) (a b : Stmt) → ReadsSql ts a → ReadsSql ts b → a ≡ b
   pub read : (ts : List Lexeme) (s : Stmt) → IsRead ts s ↔ ReadsShallowSql ts s
-  pub any_depth : (ts : List Lexeme) (s : Stmt) → ReadsShallowSql ts s → ReadsSql ts s
+  pub shallow : (ts : List Lexeme) (s : Stmt) → ReadsShallowSql ts s ↔ (ReadsSql ts s × (brackets_in s ≤ MAX_NESTING))
   pub statements : (text : List ℕ) (s : Stmt) → IsStatement text s ↔ IsByGrammar text s
   pub only_statement : (text : List ℕ) (a b : Stmt) → IsStatement text a → ReadsSql (tokens text) b → b ≡ a
   pub refused : (text : List ℕ) (place : ℕ) (s : Stmt) → IsRefused text code.SqlSyntax place → ReadsSql (tokens text) s → ⊥
-  pub too_deep : (text : List ℕ) (s : Stmt) → IsTooDeep text → ReadsShallowSql (tokens text) s → ⊥
+  pub too_deep : (text : List ℕ) (s : Stmt) → IsTooDeep text → ReadsSql (tokens text) s → MAX_NESTING < brackets_in s
+  pub deeper : (text : List ℕ) (s : Stmt) → is_unbuilt (tokens text) ≡ false → ReadsSql (tokens text) s → MAX_NESTING < brackets_in s → IsTooDeep text
 
 -- the offset of the first of these tokens, or the text's length where there is none
 abbrev pub place_of : List Lexeme → ℕ → ℕ

@@ -7,8 +7,8 @@ ghost use Rattle.qd_sql_ast.specs.Steps.{Reads, Takes};
 
 use qd_base::Seq;
 use qd_sql_ast::{
-    AddOp, AddTerm, AndNeg, Check, Cmp, Column, Conj, Cursor, Expr, Halt, MulOp, MulSigned, Neg, OrConj,
-    Plus, Prime, Signed, Stop, Term, Test, lits, offsets,
+    AddOp, AddTerm, AndNeg, Check, Cmp, Column, Conj, Cursor, Expr, Halt, MulOp, MulSigned, Neg,
+    OrConj, Plus, Prime, Signed, Stop, Term, Test, lits, offsets,
 };
 use qd_sql_lexer::Kind;
 use sqlite_items::{Boxed, Items};

@@ -1,5 +1,5 @@
 -- A statement by the grammar is one within the limit exactly where its brackets nest no deeper than the limit.
-use Rattle.std.proofs.Common.{◌≡◌, ℕ, zero, suc, ◌+◌, ◌<◌, ◌≤◌, max, arith, Bool, true, false, List, [], ◌∷◌, ◌++◌, map, Option, Some, None, refl, subst, sym}
+use Rattle.std.proofs.Common.{◌≡◌, ℕ, zero, suc, ◌+◌, ◌≤◌, max, arith, List, [], ◌∷◌, ◌++◌, map, Option, Some, None, refl}
 use Rattle.std.specs.List.{flat_map}
 use Rattle.std.specs.Prelude.{codes}
 use Rattle.qd_base.specs.declared.limits.TheConstants.{MAX_NESTING}
@@ -27,9 +27,9 @@ use Rattle.qd_sql_ast.specs.declared.tree.Shown.{Shown}
 use Rattle.qd_sql_ast.specs.declared.tree.Shown.TheVariants as shows
 use Rattle.qd_sql_ast.specs.declared.tree.Stmt.{Stmt}
 use Rattle.qd_sql_ast.specs.declared.tree.Stmt.TheVariants as is
-use Rattle.qd_sql_ast.specs.Nesting.{Words, deepest, depth_check, depth_prime, depth_add_term, depth_and_neg, depth_conj, depth_expr, depth_mul_signed, depth_neg, depth_or_conj, depth_plus, depth_signed, depth_term, depth_test, brackets, brackets_in, expressions, expressions_shown, expressions_selected, expressions_tested}
+use Rattle.qd_sql_ast.specs.Nesting.{Words, deepest, depth_check, depth_prime, depth_add_term, depth_and_neg, depth_conj, depth_mul_signed, depth_neg, depth_or_conj, depth_plus, depth_signed, depth_term, depth_test, brackets, brackets_in, expressions_shown, expressions_selected, expressions_tested}
 use Rattle.qd_sql_ast.proofs.Nested.{expr_deep, or_conj_deep, conj_deep, and_neg_deep, neg_deep, test_deep, plus_deep, add_term_deep, term_deep, mul_signed_deep, signed_deep, nothing_deep, compare_deep, in_list_deep, in_text_deep, is_null_deep, is_not_null_deep, number_value_deep, text_value_deep, true_value_deep, false_value_deep, null_value_deep, column_value_deep, bracket_value_deep}
-use Rattle.qd_sql_laws.specs.Parts.{◌⋅◌, Optional, Each, Commas, Sign, Word}
+use Rattle.qd_sql_laws.specs.Parts.{◌⋅◌, Optional, Each, Sign, Word}
 use Rattle.qd_sql_laws.specs.ExprRules.{IsPrime, IsSigned, IsMulSigned, IsTerm, IsAddTerm, IsPlus, IsCheck, IsTest, IsNeg, IsAndNeg, IsConj, IsOrConj, IsExpr}
 use Rattle.qd_sql_laws.specs.QueryRules.{IsShown, IsItem, IsItems, IsFilter, IsQuery}
 use Rattle.qd_sql_laws.specs.Grammar.{Nests, NestsAnyhow, IsStmt, ReadsSql, ReadsShallowSql}
@@ -151,8 +151,13 @@ module _ (I J : Expr → List Lexeme → Type 0) (d : ℕ) (f : (e : Expr) (ts :
   term_back : (x : Term) (ts : List Lexeme) → IsTerm I x ts → depth_term words x ≤ d → IsTerm J x ts
   term_back x ts (IsTerm.term y ys us (o, r, p, a, b)) k =
       let e = term_deep words y ys in
-      IsTerm.term y ys us (o, r, p, signed_back y o a (left_low _ (depth_signed words y) (deepest (map (depth_mul_signed words) ys)) d e k),
-      each_back (IsMulSigned I) (IsMulSigned J) (depth_mul_signed words) d mul_signed_back ys r b (right_low _ (depth_signed words y) (deepest (map (depth_mul_signed words) ys)) d e k))
+      IsTerm.term y ys us (
+        o,
+        r,
+        p,
+        signed_back y o a (left_low _ (depth_signed words y) (deepest (map (depth_mul_signed words) ys)) d e k),
+        each_back (IsMulSigned I) (IsMulSigned J) (depth_mul_signed words) d mul_signed_back ys r b (right_low _ (depth_signed words y) (deepest (map (depth_mul_signed words) ys)) d e k),
+      )
 
   add_term_back : (x : AddTerm) (ts : List Lexeme) → IsAddTerm I x ts → depth_add_term words x ≤ d → IsAddTerm J x ts
   add_term_back x ts (IsAddTerm.added op at y us (o, r, p, a, b)) k =
@@ -161,8 +166,13 @@ module _ (I J : Expr → List Lexeme → Type 0) (d : ℕ) (f : (e : Expr) (ts :
   plus_back : (x : Plus) (ts : List Lexeme) → IsPlus I x ts → depth_plus words x ≤ d → IsPlus J x ts
   plus_back x ts (IsPlus.plus y ys us (o, r, p, a, b)) k =
       let e = plus_deep words y ys in
-      IsPlus.plus y ys us (o, r, p, term_back y o a (left_low _ (depth_term words y) (deepest (map (depth_add_term words) ys)) d e k),
-      each_back (IsAddTerm I) (IsAddTerm J) (depth_add_term words) d add_term_back ys r b (right_low _ (depth_term words y) (deepest (map (depth_add_term words) ys)) d e k))
+      IsPlus.plus y ys us (
+        o,
+        r,
+        p,
+        term_back y o a (left_low _ (depth_term words y) (deepest (map (depth_add_term words) ys)) d e k),
+        each_back (IsAddTerm I) (IsAddTerm J) (depth_add_term words) d add_term_back ys r b (right_low _ (depth_term words y) (deepest (map (depth_add_term words) ys)) d e k),
+      )
 
   check_back : (x : Check) (ts : List Lexeme) → IsCheck I x ts → depth_check words x ≤ d → IsCheck J x ts
   check_back x ts (IsCheck.nothing us h) k = IsCheck.nothing us h
@@ -187,8 +197,13 @@ module _ (I J : Expr → List Lexeme → Type 0) (d : ℕ) (f : (e : Expr) (ts :
   conj_back : (x : Conj) (ts : List Lexeme) → IsConj I x ts → depth_conj words x ≤ d → IsConj J x ts
   conj_back x ts (IsConj.conj y ys us (o, r, p, a, b)) k =
       let e = conj_deep words y ys in
-      IsConj.conj y ys us (o, r, p, neg_back y o a (left_low _ (depth_neg words y) (deepest (map (depth_and_neg words) ys)) d e k),
-      each_back (IsAndNeg I) (IsAndNeg J) (depth_and_neg words) d and_neg_back ys r b (right_low _ (depth_neg words y) (deepest (map (depth_and_neg words) ys)) d e k))
+      IsConj.conj y ys us (
+        o,
+        r,
+        p,
+        neg_back y o a (left_low _ (depth_neg words y) (deepest (map (depth_and_neg words) ys)) d e k),
+        each_back (IsAndNeg I) (IsAndNeg J) (depth_and_neg words) d and_neg_back ys r b (right_low _ (depth_neg words y) (deepest (map (depth_and_neg words) ys)) d e k),
+      )
 
   or_conj_back : (x : OrConj) (ts : List Lexeme) → IsOrConj I x ts → depth_or_conj words x ≤ d → IsOrConj J x ts
   or_conj_back x ts (IsOrConj.or_conj at y us (o, r, p, a, b)) k = IsOrConj.or_conj at y us (o, r, p, a, conj_back y r b (same_low _ (depth_conj words y) d (or_conj_deep words at y) k))
@@ -196,8 +211,13 @@ module _ (I J : Expr → List Lexeme → Type 0) (d : ℕ) (f : (e : Expr) (ts :
   expr_back : (x : Expr) (ts : List Lexeme) → IsExpr I x ts → brackets x ≤ d → IsExpr J x ts
   expr_back x ts (IsExpr.expr y ys us (o, r, p, a, b)) k =
       let e = expr_deep words y ys in
-      IsExpr.expr y ys us (o, r, p, conj_back y o a (left_low _ (depth_conj words y) (deepest (map (depth_or_conj words) ys)) d e k),
-      each_back (IsOrConj I) (IsOrConj J) (depth_or_conj words) d or_conj_back ys r b (right_low _ (depth_conj words y) (deepest (map (depth_or_conj words) ys)) d e k))
+      IsExpr.expr y ys us (
+        o,
+        r,
+        p,
+        conj_back y o a (left_low _ (depth_conj words y) (deepest (map (depth_or_conj words) ys)) d e k),
+        each_back (IsOrConj I) (IsOrConj J) (depth_or_conj words) d or_conj_back ys r b (right_low _ (depth_conj words y) (deepest (map (depth_or_conj words) ys)) d e k),
+      )
 
 -- what nests less deep than a number
 nests_low : (d : ℕ) (e : Expr) (ts : List Lexeme) → Nests d e ts → brackets e + 1 ≤ d
@@ -313,9 +333,13 @@ module _ (d : ℕ) where
       low_append d (expressions_selected q.selected) (expressions_tested q.filter) (selected_low q.selected o a) (tested_low q.filter o₄ f)
 
   low_query : (q : Query) (ts : List Lexeme) → IsQuery NestsAnyhow q ts → Low d (expressions_selected q.selected ++ expressions_tested q.filter) → IsQuery Within q ts
-  low_query q ts (o, r, p, a, (o₂, r₂, p₂, b, (o₃, r₃, p₃, c, (o₄, r₄, p₄, f, rest)))) low =
-      (o, r, p, low_selected q.selected o a (low_front d (expressions_selected q.selected) (expressions_tested q.filter) low),
-      (o₂, r₂, p₂, b, (o₃, r₃, p₃, c, (o₄, r₄, p₄, low_tested q.filter o₄ f (low_rest d (expressions_selected q.selected) (expressions_tested q.filter) low), rest))))
+  low_query q ts (o, r, p, a, (o₂, r₂, p₂, b, (o₃, r₃, p₃, c, (o₄, r₄, p₄, f, rest)))) low = (
+    o,
+    r,
+    p,
+    low_selected q.selected o a (low_front d (expressions_selected q.selected) (expressions_tested q.filter) low),
+    (o₂, r₂, p₂, b, (o₃, r₃, p₃, c, (o₄, r₄, p₄, low_tested q.filter o₄ f (low_rest d (expressions_selected q.selected) (expressions_tested q.filter) low), rest))),
+  )
 
   stmt_low : (s : Stmt) (ts : List Lexeme) → IsStmt Within s ts → brackets_in s ≤ d
   stmt_low (is.Query q) ts h = query_low q ts h

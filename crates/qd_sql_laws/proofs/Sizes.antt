@@ -1,5 +1,5 @@
 -- How many tokens a text has at least, and how many bytes.
-use Rattle.std.proofs.Common.{◌≡◌, ℕ, zero, suc, ◌+◌, ◌-◌, ◌*◌, ◌≤◌, List, [], ◌∷◌, ◌++◌, length, Option, Some, None, ap, arith, refl}
+use Rattle.std.proofs.Common.{◌≡◌, ℕ, zero, suc, ◌+◌, ◌-◌, ◌*◌, ◌≤◌, List, [], ◌∷◌, length, Option, Some, None, ap, arith, refl}
 use Rattle.std.proofs.lemmas.List.{length-append}
 use Rattle.qd_sql_lexer.specs.declared.token.Kind.{Kind}
 use Rattle.qd_sql_lexer.specs.declared.token.Kind.TheVariants as kind
@@ -7,7 +7,6 @@ use Rattle.qd_sql_lexer.specs.Tokens.{Lexeme, Piece, cut_at, tokens, tokens_from
 use Rattle.qd_sql_ast.specs.declared.tree.Insert.{Insert}
 use Rattle.qd_sql_ast.specs.declared.tree.Lit.{Lit}
 use Rattle.qd_sql_ast.specs.declared.tree.Lit.TheVariants as lit
-use Rattle.qd_sql_ast.specs.declared.tree.Name.{Name}
 use Rattle.qd_sql_ast.specs.declared.tree.Stmt.TheVariants as is
 use Rattle.qd_sql_ast.specs.declared.tree.Tuple.{Tuple}
 use Rattle.qd_sql.specs.Statement.{IsStatement}

@@ -6,3 +6,4 @@ mod ScopeLemmas
 mod ApartLemmas
 mod TimeLemmas
 mod FoldLemmas
+mod DeepLemmas

@@ -4,4 +4,5 @@ pub mod Listed
 pub mod Joined
 pub mod Apart
 pub mod Scoped
+pub mod Deep
 pub mod Nests

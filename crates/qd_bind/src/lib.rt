@@ -5,6 +5,7 @@
 mod chains;
 mod class;
 mod expr;
+mod fault;
 mod lists;
 mod scope;
 mod side;
@@ -14,6 +15,7 @@ mod whole;
 
 pub use class::Class;
 pub use expr::bind;
+pub use fault::BindFault;
 pub use scope::{Resolved, Scope};
 pub use side::Side;
 pub use typed::{Form, Typed};

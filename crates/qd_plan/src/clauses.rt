@@ -6,10 +6,11 @@ ghost use Rattle.qd_meaning.specs.Planned as parts;
 ghost use Rattle.qd_meaning.specs.Refusals.{least, sooner};
 ghost use Rattle.qd_plan.specs.Shaping as spec;
 
+use crate::binding::bind;
 use crate::fault::Faults;
 use crate::place::position;
 use qd_base::{Code, Col, KeyList, Memory};
-use qd_bind::{Class, Scope, bind};
+use qd_bind::{Class, Scope};
 use qd_sql_ast::{Column, Filter, Latest};
 use qd_value::Bound;
 use std::alloc::Global;

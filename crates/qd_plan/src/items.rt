@@ -12,11 +12,12 @@ ghost use Rattle.qd_plan.specs.Showing as spec;
 ghost use Rattle.qd_plan.specs.Showing.{Makes};
 ghost use Rattle.qd_plan.specs.Listing.{plain_from, faults_in};
 
+use crate::binding::bind;
 use crate::fault::Faults;
 use crate::shows::{Part, Shows};
 use crate::work::Parts;
 use qd_base::{Code, Col, ColType, Memory, Txt};
-use qd_bind::{Class, Form, Scope, Side, Typed, bind};
+use qd_bind::{Class, Form, Scope, Side, Typed};
 use qd_meaning::{Agg, Refusal, sooner, unless};
 use qd_sql_ast::{AggOf, Expr, Item, Name, Selected, Shown};
 use qd_value::Bound;

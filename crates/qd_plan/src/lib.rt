@@ -3,6 +3,7 @@
 #![tactic(auto)]
 
 mod asked;
+mod binding;
 mod clauses;
 mod fault;
 mod items;

@@ -1,4 +1,5 @@
-use Rattle.std.proofs.Common.{◌≡◌, sym, ap, ap₂, ◌∙◌}
+use Rattle.std.proofs.Common.{length, sym, ap, ap₂, ◌∙◌}
+use Rattle.std.proofs.lemmas.Result.{err_from_is_err_and}
 use Rattle.qd_value.specs.declared.bound.Arithmetic.{Arithmetic}
 use Rattle.qd_bind.specs.declared.typed.Typed.{Typed}
 use Rattle.qd_bind.specs.Joined.{chain_link}
@@ -7,6 +8,8 @@ use Rattle.qd_bind.specs.Steps.{chained_on}
 use Rattle.qd_meaning.specs.Binding as binding
 use Rattle.qd_meaning.specs.Typing.{Link}
 use Rattle.qd_bind.proofs.ChainLemmas.{chain_step}
+use Rattle.qd_sql_ast.specs.Nesting.{depth_mul_signed}
+use Rattle.qd_bind.proofs.DeepLemmas.{mul_signed_deep, item_deep}
 use Rattle.qd_bind.proofs.FoldLemmas.{mul_signed_out}
 use Rattle.qd_bind.proofs.expr.Binder.multiplied.Goals as goal
 
@@ -15,6 +18,12 @@ loop-part-preserved g c =
     let columns = scope c.args.self.now.columns.now in
     chain_step (binding.typed_mul_signed columns) c.loop-part.found _ c.args.parts.now c.loop-part.part-index c.part-item.result c.push.new.self c.loop-part-test.true c.part-item.is
     (c.in_ok-push.ensures.pushed
-    ∙ ap₂ (λ (op : Arithmetic) (x : Typed). chained_on c.loop-part.found op c.part-item.result.at x) c.mul_op.ensures c.in_ok-right.ensures
+    ∙ ap₂ (λ (op : Arithmetic) (x : Typed). chained_on c.loop-part.found op c.part-item.result.at x) c.mul_op.ensures c.in_ok-right.ensures.bound
     ∙ ap (λ (l : Link). chain_link c.loop-part.found l) (sym (mul_signed_out columns c.part-item.result)))
     c.loop-part.invariant
+
+pub returns-in_err-right : goal.returns-in_err-right
+returns-in_err-right g c =
+    let p = err_from_is_err_and c.from_residual-in_err-right.result c.from_residual-in_err-right.ensures.1 in
+    rw (p.1, p.2)
+    (record { bound = tt; too_deep = item_deep (depth_mul_signed length) c.args.parts.now c.loop-part.part-index c.part-item.result c.args.depth _ c.in_err-right.field-0.0 c.loop-part-test.true c.part-item.is (mul_signed_deep c.part-item.result) c.in_err-right.ensures.too_deep })

@@ -1,17 +1,32 @@
-use Rattle.std.proofs.Common.{◌≡◌, sym, ap, ap₂, ◌∙◌}
+use Rattle.std.proofs.Common.{ℕ, Err, ◌+◌, length, sym, ap, ap₂, ◌∙◌}
+use Rattle.std.proofs.lemmas.Result.{err_from_is_err_and}
 use Rattle.qd_bind.specs.Scoped.{scope}
 use Rattle.qd_bind.specs.Seen.{typed}
 use Rattle.qd_bind.specs.Steps as steps
 use Rattle.qd_meaning.specs.Binding as binding
+use Rattle.qd_sql_ast.specs.Nesting.{depth_prime}
+use Rattle.qd_bind.proofs.DeepLemmas.{signed_deep, room_deep, words_deep}
 use Rattle.qd_bind.proofs.FoldLemmas.{signed_out}
-use Rattle.qd_bind.proofs.StepLemmas.{minuses_seen, ok_same}
+use Rattle.qd_bind.proofs.StepLemmas.{minuses_seen}
 use Rattle.qd_bind.proofs.expr.Binder.signed.Goals as goal
+
+pub returns-in_err-rest : goal.returns-in_err-rest
+returns-in_err-rest g c =
+    let p = err_from_is_err_and c.from_residual.result c.from_residual.ensures.1 in
+    rw (p.1, p.2) (record { bound = tt; too_deep = room_deep c.in_err-rest.field-0.0 c.args.depth _ c.len.result _ (signed_deep c.args.signed.now ∙ ap (λ (k : ℕ). k + depth_prime length c.args.signed.now.prime) (sym c.len.ensures.count)) c.in_err-rest.ensures.too_deep })
+
+pub returns-in_err-found : goal.returns-in_err-found
+returns-in_err-found g c =
+    let p = err_from_is_err_and c.from_residual-in_err-found.result c.from_residual-in_err-found.ensures.1 in
+    rw (p.1, p.2) (record { bound = tt; too_deep = words_deep (Err c.in_err-found.field-0.0) c.args.depth _ c.len.result _ c.in_ok-rest.rest (signed_deep c.args.signed.now ∙ ap (λ (k : ℕ). k + depth_prime length c.args.signed.now.prime) (sym c.len.ensures.count)) c.in_ok-rest.ensures.rest c.in_err-found.ensures.too_deep })
 
 pub returns : goal.returns
 returns g c =
     let columns = scope c.args.self.now.columns.now in
-    ok_same c.behind_minuses.result _ _
-    (ap₂ (steps.behind steps.negated) c.in_ok-found.ensures c.as_slice.ensures.items
-    ∙ minuses_seen (binding.typed_prime columns c.args.signed.now.prime) c.args.signed.now.minuses
-    ∙ ap typed (sym (signed_out columns c.args.signed.now)))
-    c.behind_minuses.ensures.minuses
+    record {
+      bound = c.in_ok-made.ensures.minuses
+          ∙ ap₂ (steps.behind steps.negated) c.in_ok-found.ensures.bound c.as_slice.ensures.items
+          ∙ minuses_seen (binding.typed_prime columns c.args.signed.now.prime) c.args.signed.now.minuses
+          ∙ ap typed (sym (signed_out columns c.args.signed.now));
+      too_deep = tt;
+    }

@@ -7,3 +7,4 @@ pub mod Asked
 pub mod Splits
 pub mod IntervalLemmas
 pub mod KeptLemmas
+pub mod NeedLemmas

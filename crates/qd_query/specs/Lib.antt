@@ -1,3 +1,5 @@
 pub mod Answers
 pub mod Counted
 pub mod Intervals
+pub mod Needs
+pub mod Times

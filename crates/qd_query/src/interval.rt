@@ -4,6 +4,8 @@ ghost use Rattle.std.specs.Bool.{OnTrue};
 ghost use Rattle.qd_base.specs.declared.cell.Cell.{Cell};
 ghost use Rattle.qd_base.specs.declared.cell.Cell.TheVariants as cell;
 ghost use Rattle.qd_query.specs.Intervals.{is_kept, Catches, Spans};
+ghost use Rattle.qd_query.specs.Times as times;
+ghost use Rattle.qd_query.specs.Times.{AreAllowed, IsFrom, IsTo, TermsAllow, TestAllows, WhereAllows};
 ghost use Rattle.qd_value.specs.declared.bound.Bound.TheVariants as is;
 ghost use Rattle.qd_value.specs.Cells.{compares};
 ghost use Rattle.qd_value.specs.Value.{passes};
@@ -22,6 +24,7 @@ pub(crate) struct Interval {
 
 /// The times that a row may have in a column which WHERE keeps: all, where there is none.
 pub(crate) fn times_kept(keep: &Option<Bound>, col: usize) -> Interval
+    ensures allowed { AreAllowed (WhereAllows IsFrom col keep.now) (WhereAllows IsTo col keep.now) result.lo result.hi }
     ensures caught { Catches (is_kept keep.now) col result.lo result.hi }
     ensures timely { result.hi ≤ MAX_TIME }
 {
@@ -36,6 +39,7 @@ pub(crate) fn times_kept(keep: &Option<Bound>, col: usize) -> Interval
 /// It looks at the test, and at each part of an AND, but no deeper: at a comparison of the column with a moment, on either
 /// side of it, and at IN an interval. Of anything else it takes all times. It costs constant time a part.
 pub(crate) fn times_passing(test: &Bound, col: usize) -> Interval
+    ensures allowed { AreAllowed (TermsAllow IsFrom col (times.terms_of test.now)) (TermsAllow IsTo col (times.terms_of test.now)) result.lo result.hi }
     ensures caught { Catches (passes test.now) col result.lo result.hi }
 {
     match test {
@@ -46,6 +50,7 @@ pub(crate) fn times_passing(test: &Bound, col: usize) -> Interval
 
 /// The times that a row may have which passes all of some tests.
 fn times_of_all(parts: &[Bound], col: usize) -> Interval
+    ensures allowed { AreAllowed (TermsAllow IsFrom col parts.now) (TermsAllow IsTo col parts.now) result.lo result.hi }
     ensures caught { Catches (passes (is.All parts.now)) col result.lo result.hi }
 {
     let mut found = all_times();
@@ -57,6 +62,7 @@ fn times_of_all(parts: &[Bound], col: usize) -> Interval
 
 /// The times that a row may have which passes a test that is looked at as a whole.
 fn times_of_part(test: &Bound, col: usize) -> Interval
+    ensures allowed { AreAllowed (TestAllows IsFrom col test.now) (TestAllows IsTo col test.now) result.lo result.hi }
     ensures caught { Catches (passes test.now) col result.lo result.hi }
 {
     match test {
@@ -68,6 +74,7 @@ fn times_of_part(test: &Bound, col: usize) -> Interval
 
 /// The times that a row may have on which an expression lies in an interval.
 fn times_within(x: &Bound, lo: u64, hi: u64, col: usize) -> Interval
+    ensures allowed { AreAllowed (TestAllows IsFrom col (is.InInterval x.now lo hi)) (TestAllows IsTo col (is.InInterval x.now lo hi)) result.lo result.hi }
     ensures caught { Catches (passes (is.InInterval x.now lo hi)) col result.lo result.hi }
 {
     if is_column(x, col) {
@@ -79,6 +86,7 @@ fn times_within(x: &Bound, lo: u64, hi: u64, col: usize) -> Interval
 
 /// The times that a row may have on which a comparison of two expressions holds.
 fn times_compared(op: Comparison, x: &Bound, y: &Bound, col: usize) -> Interval
+    ensures allowed { AreAllowed (TestAllows IsFrom col (is.Compare op x.now y.now)) (TestAllows IsTo col (is.Compare op x.now y.now)) result.lo result.hi }
     ensures caught { Catches (passes (is.Compare op x.now y.now)) col result.lo result.hi }
 {
     if is_column(x, col) {
@@ -93,6 +101,7 @@ fn times_compared(op: Comparison, x: &Bound, y: &Bound, col: usize) -> Interval
 /// The times that a row may have on which a comparison of the column with an expression holds.
 fn times_beside(op: Comparison, x: &Bound, y: &Bound, col: usize) -> Interval
     requires column { x.now ≡ is.Column col }
+    ensures allowed { AreAllowed (TestAllows IsFrom col (is.Compare op x.now y.now)) (TestAllows IsTo col (is.Compare op x.now y.now)) result.lo result.hi }
     ensures caught { Catches (passes (is.Compare op x.now y.now)) col result.lo result.hi }
 {
     match moment_in(y) {
@@ -104,6 +113,7 @@ fn times_beside(op: Comparison, x: &Bound, y: &Bound, col: usize) -> Interval
 /// The times that a row may have on which a comparison of an expression with the column holds.
 fn times_behind(op: Comparison, x: &Bound, y: &Bound, col: usize) -> Interval
     requires column { y.now ≡ is.Column col }
+    ensures allowed { AreAllowed (TestAllows IsFrom col (is.Compare op x.now y.now)) (TestAllows IsTo col (is.Compare op x.now y.now)) result.lo result.hi }
     ensures caught { Catches (passes (is.Compare op x.now y.now)) col result.lo result.hi }
 {
     match moment_in(x) {
@@ -114,6 +124,7 @@ fn times_behind(op: Comparison, x: &Bound, y: &Bound, col: usize) -> Interval
 
 /// Whether an expression is this column.
 fn is_column(x: &Bound, col: usize) -> bool
+    ensures is { result ≡ times.is_column col x.now }
     ensures column { OnTrue result (x.now ≡ is.Column col) }
 {
     match x {
@@ -124,6 +135,7 @@ fn is_column(x: &Bound, col: usize) -> bool
 
 /// The moment that an expression is, where it is a literal of one.
 fn moment_in(x: &Bound) -> Option<u64>
+    ensures is { result ≡ times.moment_in x.now }
     ensures moment { IfSome result (λ t. x.now ≡ is.Literal (cell.Time t)) }
 {
     match x {
@@ -134,6 +146,7 @@ fn moment_in(x: &Bound) -> Option<u64>
 
 /// The comparison that holds of two values where this one holds of them in the other order.
 fn turned(op: Comparison) -> Comparison
+    ensures is { result ≡ times.turned op }
     ensures turned { (x : Cell) → (y : Cell) → compares result y x ≡ compares op x y }
 {
     match op {
@@ -148,6 +161,7 @@ fn turned(op: Comparison) -> Comparison
 
 /// The times of which a comparison with a moment holds.
 fn times_at(op: Comparison, moment: u64) -> Interval
+    ensures allowed { AreAllowed (IsFrom op moment) (IsTo op moment) result.lo result.hi }
     ensures spans { Spans op moment result.lo result.hi }
 {
     match op {

@@ -3,7 +3,8 @@
 //!
 //! `run_query` makes the plan of the statement, and runs it: the rows of the table or of the join, those that pass the test,
 //! the last of each key, what is made of them, and their order. Its answer is that of the plain meaning of statements, which
-//! `specs/Answers` names; SHOW PARTITIONS counts rows as `specs/Counted` says.
+//! `specs/Answers` names; SHOW PARTITIONS counts rows as `specs/Counted` says. It asks for those parts of tables alone that
+//! the statement needs (`specs/Needs`), by the times that WHERE allows (`specs/Times`).
 #![tactic(auto)]
 
 mod answer;

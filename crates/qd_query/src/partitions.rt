@@ -7,6 +7,7 @@ ghost use Rattle.qd_print.specs.Printed.{csv, csv_cell, csv_line};
 ghost use Rattle.qd_query.specs.Answers.{show_answer, table_in};
 ghost use Rattle.qd_query.specs.Counted.{counted, shown_row};
 ghost use Rattle.qd_rows.specs.Sets.{rows_in};
+ghost use Rattle.qd_scan.specs.Asked.{AskedOnly, IsPartBetween};
 ghost use Rattle.qd_scan.specs.Sources.{schema_at, HasCause, Stays};
 ghost use Rattle.qd_time.specs.Units.{start_of, unit_of};
 ghost use Rattle.qd_value.specs.Scalars.{cell_of};
@@ -53,6 +54,7 @@ pub(crate) fn show_partitions<P: PartSource>(
     // Where the source tells its database, it is the plain meaning's over the table.
     ensures answer { IfOk result (λ a. IfSome (P.shown source.old).database (λ db. a ≡ show_answer (table_in db table))) }
     ensures stays { Stays (P.shown source.old) (P.shown source.new) }
+    ensures asked { AskedOnly (IsPartBetween (P.shown source.old) table 0 MAX_TIME) (P.asked source.old) (P.asked source.new) }
     ensures fixed { P.fixed source.new ≡ P.fixed source.old }
     ensures cause { IfErr result (HasCause (P.shown source.old) (P.shown source.new)) }
 {

@@ -6,7 +6,9 @@ ghost use Rattle.qd_meaning.specs.Grouped.{key_of};
 ghost use Rattle.qd_meaning.specs.Sampled.{sampled};
 ghost use Rattle.qd_query.specs.declared.answer.Answer.TheVariants as answer;
 ghost use Rattle.qd_query.specs.Answers.{answer_over, plan_answer, right_in, sized, table_in, AreTimed, IsWork};
+ghost use Rattle.qd_query.specs.Needs.{PlanNeeds};
 ghost use Rattle.qd_rows.specs.Sets.{rows_in};
+ghost use Rattle.qd_scan.specs.Asked.{AskedOnly};
 ghost use Rattle.qd_scan.specs.Sources.{HasCause, Stays};
 
 use crate::answer::Answer;
@@ -40,6 +42,7 @@ pub(crate) fn run_plan<P: PartSource>(
     ensures answer { IfOk result (λ a. IfSome (P.shown source.old).database
         (λ db. a ≡ plan_answer plan.now (Some (table_in db plan.now.left)) (right_in db plan.now.join))) }
     ensures stays { Stays (P.shown source.old) (P.shown source.new) }
+    ensures asked { AskedOnly (PlanNeeds (P.shown source.old) plan.now) (P.asked source.old) (P.asked source.new) }
     ensures fixed { P.fixed source.new ≡ P.fixed source.old }
     ensures cause { IfErr result (HasCause (P.shown source.old) (P.shown source.new)) }
 {

@@ -2,6 +2,8 @@
 ghost use Rattle.std.specs.Prelude.{◌≡◌, IfErr, IfOk, IfSome};
 ghost use Rattle.qd_sql_ast.specs.Kinds.{IsQuestion};
 ghost use Rattle.qd_query.specs.Answers.{answer_of, StrideIn};
+ghost use Rattle.qd_query.specs.Needs.{Needs};
+ghost use Rattle.qd_scan.specs.Asked.{AskedOnly};
 ghost use Rattle.qd_scan.specs.Sources.{HasCause, Stays};
 
 use crate::answer::Answer;
@@ -32,6 +34,9 @@ pub fn run_query<P: PartSource>(
     // Where the source tells its database, it is the plain meaning's over that database.
     ensures answer { IfOk result (λ a. IfSome (P.shown source.old).database (λ db. a ≡ answer_of db stmt.now)) }
     ensures stays { Stays (P.shown source.old) (P.shown source.new) }
+
+    // The parts that it asks for are those that the statement needs.
+    ensures asked { AskedOnly (Needs (P.shown source.old) stmt.now) (P.asked source.old) (P.asked source.new) }
     ensures fixed { P.fixed source.new ≡ P.fixed source.old }
     ensures cause { IfErr result (HasCause (P.shown source.old) (P.shown source.new)) }
 {

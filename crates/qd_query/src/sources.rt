@@ -1,12 +1,14 @@
 //! The rows of tables, and of two that are joined.
-ghost use Rattle.std.specs.Prelude.{◌≡◌, ◌<◌, ◌≤◌, None, Some, All, IfErr, IfOk, IfSome, length};
+ghost use Rattle.std.specs.Prelude.{◌≡◌, ◌<◌, ◌≤◌, true, None, Some, All, IfErr, IfOk, IfSome, length};
 ghost use Rattle.qd_base.specs.Laws.{IsInOrder};
 ghost use Rattle.qd_base.specs.Lawful.{IsRowOf};
 ghost use Rattle.qd_base.specs.Rows.{time_of};
 ghost use Rattle.qd_meaning.specs.Answer as meaning;
 ghost use Rattle.qd_meaning.specs.Answer.{kept_rows};
 ghost use Rattle.qd_query.specs.Answers.{right_in, table_in, AreTimed};
+ghost use Rattle.qd_query.specs.Needs.{begins_late, PlanNeeds, TablesNeed};
 ghost use Rattle.qd_rows.specs.Sets.{rows_in};
+ghost use Rattle.qd_scan.specs.Asked.{AskedOnly, IsPartBetween};
 ghost use Rattle.qd_scan.specs.Scans.{AreApart, HasRowsBetween};
 ghost use Rattle.qd_scan.specs.Sources.{rows_at, schema_at, HasCause, Stays};
 
@@ -33,6 +35,7 @@ pub(crate) fn source_rows<P: PartSource>(
         (λ db. kept_rows plan.now.keep (rows_in set) ≡ kept_rows plan.now.keep (meaning.source_rows plan.now.join (Some (table_in db plan.now.left)) (right_in db plan.now.join)))) }
     ensures timed { IfOk result (λ set. AreTimed (schema_at (P.shown source.old) plan.now.left).time_col (rows_in set)) }
     ensures stays { Stays (P.shown source.old) (P.shown source.new) }
+    ensures asked { AskedOnly (PlanNeeds (P.shown source.old) plan.now) (P.asked source.old) (P.asked source.new) }
     ensures fixed { P.fixed source.new ≡ P.fixed source.old }
     ensures cause { IfErr result (HasCause (P.shown source.old) (P.shown source.new)) }
 {
@@ -53,6 +56,7 @@ fn table_rows<P: PartSource>(
     ensures rows { IfOk result (λ set. IfSome (P.shown source.old).database (λ db. kept_rows keep.now (rows_in set) ≡ kept_rows keep.now (rows_at db table))) }
     ensures timed { IfOk result (λ set. AreTimed (schema_at (P.shown source.old) table).time_col (rows_in set)) }
     ensures stays { Stays (P.shown source.old) (P.shown source.new) }
+    ensures asked { AskedOnly (TablesNeed (P.shown source.old) table None keep.now) (P.asked source.old) (P.asked source.new) }
     ensures fixed { P.fixed source.new ≡ P.fixed source.old }
     ensures cause { IfErr result (HasCause (P.shown source.old) (P.shown source.new)) }
 {
@@ -80,6 +84,7 @@ fn joined_rows<P: PartSource>(
         (λ db. kept_rows keep.now (rows_in set) ≡ kept_rows keep.now (meaning.source_rows (Some (right, spec.now)) (Some (table_in db left)) (Some (table_in db right))))) }
     ensures timed { IfOk result (λ set. AreTimed (schema_at (P.shown source.old) left).time_col (rows_in set)) }
     ensures stays { Stays (P.shown source.old) (P.shown source.new) }
+    ensures asked { AskedOnly (TablesNeed (P.shown source.old) left (Some (right, spec.now)) keep.now) (P.asked source.old) (P.asked source.new) }
     ensures fixed { P.fixed source.new ≡ P.fixed source.old }
     ensures cause { IfErr result (HasCause (P.shown source.old) (P.shown source.new)) }
 {
@@ -100,12 +105,13 @@ fn joined_rows<P: PartSource>(
 /// itself, and another time where it is joined.
 fn first_needed(parts: &[Part], lo: u64) -> u64
     requires { AreApart parts.now }
+    ensures from { begins_late parts.now ≡ true → result ≡ lo }
     ensures early { result ≤ lo }
     ensures begun { All (λ p. p.lo ≡ 0 → result ≡ 0) parts.now }
 {
     match parts {
-        [first, ..] if 0 < first.lo => lo,
-        _ => 0,
+        [first, ..] => if 0 < first.lo { lo } else { 0 },
+        [] => 0,
     }
 }
 
@@ -126,6 +132,7 @@ fn rows_from_to<P: PartSource>(
     ensures order { IfOk result (λ set. IsInOrder (schema_at (P.shown source.old) table).time_col (rows_in set)) }
     ensures timely { IfOk result (λ set. All (λ r. time_of (schema_at (P.shown source.old) table).time_col r ≤ MAX_TIME) (rows_in set)) }
     ensures stays { Stays (P.shown source.old) (P.shown source.new) }
+    ensures asked { AskedOnly (IsPartBetween (P.shown source.old) table lo hi) (P.asked source.old) (P.asked source.new) }
     ensures fixed { P.fixed source.new ≡ P.fixed source.old }
     ensures cause { IfErr result (HasCause (P.shown source.old) (P.shown source.new)) }
 {
@@ -146,6 +153,7 @@ pub(crate) fn all_rows<P: PartSource>(
     ensures order { IfOk result (λ set. IsInOrder (schema_at (P.shown source.old) table).time_col (rows_in set)) }
     ensures timely { IfOk result (λ set. All (λ r. time_of (schema_at (P.shown source.old) table).time_col r ≤ MAX_TIME) (rows_in set)) }
     ensures stays { Stays (P.shown source.old) (P.shown source.new) }
+    ensures asked { AskedOnly (IsPartBetween (P.shown source.old) table 0 MAX_TIME) (P.asked source.old) (P.asked source.new) }
     ensures fixed { P.fixed source.new ≡ P.fixed source.old }
     ensures cause { IfErr result (HasCause (P.shown source.old) (P.shown source.new)) }
 {

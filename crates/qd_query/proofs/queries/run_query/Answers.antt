@@ -11,8 +11,11 @@ use Rattle.qd_plan.specs.Plans.{Planned}
 use Rattle.qd_query.specs.declared.answer.Answer.TheVariants as answer
 use Rattle.qd_query.specs.Answers.{answer_of, plan_answer, right_in, show_answer, table_in}
 use Rattle.qd_scan.specs.Sources.{SourceView}
+use Rattle.qd_scan.proofs.AskedLemmas.{asked_nothing}
 use Rattle.qd_scan.proofs.ScanLemmas.{ok_then}
 use Rattle.qd_query.proofs.Asked.{ready, show_low, told_asked, told_refused, told_same, told_shown}
+use Rattle.qd_query.specs.Needs.{Needs}
+use Rattle.qd_query.proofs.NeedLemmas.{plan_needed, show_needed}
 use Rattle.qd_query.proofs.queries.run_query.Goals as goal
 
 pub run_plan-requires : goal.run_plan-requires
@@ -63,3 +66,27 @@ returns-in-Err-Refused-clause-answer g c =
     told_same s.database _ (answer.Refused (number_of why) place) (λ db. answer_of db c.args.stmt.now)
     (ap₂ (λ (n p : ℕ). answer.Refused n p) (c.number.ensures.number ∙ ap number_of c.in-Err-Refused.code-is) c.in-Err-Refused.place-is)
     (told_refused c.plans_answer.ensures.law s s.database c.args.stmt.now why place c.requires.asks h c.keeps_its_law.ensures.law.told)
+
+pub returns-in-Ok-Ask-clause-asked : goal.returns-in-Ok-Ask-clause-asked
+returns-in-Ok-Ask-clause-asked g c =
+    let s : SourceView = g.P.PartSource.shown c.args.source.now in
+    let made : AskPlan = c.in-Ok-Ask.made in
+    let h : Planned s.schemas c.args.stmt.now (Ok (plan.Ask made)) =
+    subst (λ (ss : List Schema). Planned ss c.args.stmt.now (Ok (plan.Ask made))) c.schemas.ensures.schemas
+    (subst (λ (p : Plan). Planned c.schemas.result.now c.args.stmt.now (Ok p)) c.in-Ok-Ask.field-0-is c.in-Ok-Ask.ensures.answers) in
+    plan_needed s c.args.stmt.now made (g.P.PartSource.asked c.args.source.now) (g.P.PartSource.asked c.run_plan.new.source) c.requires.asks h c.run_plan.ensures.asked
+
+pub returns-in-Ok-Show-clause-asked : goal.returns-in-Ok-Show-clause-asked
+returns-in-Ok-Show-clause-asked g c =
+    let s : SourceView = g.P.PartSource.shown c.args.source.now in
+    let table : ℕ = c.in-Ok-Show.table in
+    let h : Planned s.schemas c.args.stmt.now (Ok (plan.Show table)) =
+    subst (λ (ss : List Schema). Planned ss c.args.stmt.now (Ok (plan.Show table))) c.schemas.ensures.schemas
+    (subst (λ (p : Plan). Planned c.schemas.result.now c.args.stmt.now (Ok p)) c.in-Ok-Show.field-0-is c.in-Ok-Show.ensures.answers) in
+    show_needed s c.args.stmt.now table (g.P.PartSource.asked c.args.source.now) (g.P.PartSource.asked c.show_partitions.new.source) c.requires.asks h c.show_partitions.ensures.asked
+
+pub returns-in-Err-Refused-clause-asked : goal.returns-in-Err-Refused-clause-asked
+returns-in-Err-Refused-clause-asked g c = asked_nothing (Needs (g.P.PartSource.shown c.args.source.now) c.args.stmt.now) (g.P.PartSource.asked c.args.source.now)
+
+pub returns-in-Err-Memory-clause-asked : goal.returns-in-Err-Memory-clause-asked
+returns-in-Err-Memory-clause-asked g c = asked_nothing (Needs (g.P.PartSource.shown c.args.source.now) c.args.stmt.now) (g.P.PartSource.asked c.args.source.now)

@@ -8,3 +8,9 @@ pub mod Splits
 pub mod IntervalLemmas
 pub mod KeptLemmas
 pub mod NeedLemmas
+pub mod TypedValues
+pub mod TypedTrees
+pub mod TypedItems
+pub mod TypedRows
+pub mod TypedOperators
+pub mod TypedAnswers

@@ -3,3 +3,4 @@ pub mod Counted
 pub mod Intervals
 pub mod Needs
 pub mod Times
+pub mod Typed

@@ -9,7 +9,8 @@ use Rattle.qd_meaning.specs.declared.parts.AskPlan.{AskPlan}
 use Rattle.qd_meaning.specs.declared.parts.JoinSpec.{JoinSpec}
 use Rattle.qd_manifest.specs.Spelling.{no_part}
 use Rattle.qd_plan.specs.declared.asked.Plan.TheVariants as plan
-use Rattle.qd_plan.specs.Plans.{Asks, Planned}
+use Rattle.qd_plan.specs.Plans.{Planned}
+use Rattle.qd_sql_ast.specs.Kinds.{IsQuestion as Asks}
 use Rattle.qd_scan.specs.Asked.{AskedOnly, IsPartBetween, Overlaps, PartAt}
 use Rattle.qd_scan.specs.Sources.{SourceView, parts_at, schema_at, Stays}
 use Rattle.qd_scan.proofs.AskedLemmas.{asked_then, asked_wider}

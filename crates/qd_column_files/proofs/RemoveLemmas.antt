@@ -111,23 +111,26 @@ module _ (T E : Type 0) (block col : ℕ) where
 -- the first columns of a block are removed
 pub record RemovesFirst (n block : ℕ) (before after : Disk) : Type 0 where
   pub elsewhere : Moves (SameBut (is_file_of block)) before after
+  pub others : SameBut (is_file_of block) (reads_of before) (reads_of after)
   pub gone : (col half : ℕ) → col < n → half < 2 → reads_of after (column_file block col half) ≡ []
 
 module _ (T E : Type 0) (block : ℕ) where
   pub none_removed : (old : Option Disk) → Told old old (RemovesFirst 0 block)
-  none_removed old = told_still (RemovesFirst 0 block) old (λ disk. record { elsewhere = moves_still (SameBut (is_file_of block)) disk (but_same (is_file_of block)); gone = λ col half low small. absurd (omega (arith, low)) })
+  none_removed old = told_still (RemovesFirst 0 block) old (λ disk. record { elsewhere = moves_still (SameBut (is_file_of block)) disk (but_same (is_file_of block)); others = but_same (is_file_of block) (reads_of disk); gone = λ col half low small. absurd (omega (arith, low)) })
+
+  more_same : (n : ℕ) → n < 512 → (x y z : Image) → SameBut (is_file_of block) x y → SameBut (is_column_file block n) y z → SameBut (is_file_of block) x z
+  more_same n few x y z one two = but_both (is_file_of block) x y z one (λ file out. two file (no_column_of block n file few out))
 
   more_moved : (n : ℕ) (before mid after : Disk) → n < 512 → Moves (SameBut (is_file_of block)) before mid → Moves (SameBut (is_column_file block n)) mid after → Moves (SameBut (is_file_of block)) before after
   more_moved n before mid after few first second =
       moves_both (SameBut (is_file_of block)) (SameBut (is_column_file block n)) (SameBut (is_file_of block)) before mid after
-      (λ x y r. r)
-      (λ x y z one two. but_both (is_file_of block) x y z one (λ file out. two file (no_column_of block n file few out)))
+      (λ x y r. r) (more_same n few)
       first second
 
   pub more_removed : (n : ℕ) (old mid new : Option Disk) (done : T) → n < 512 → Told old mid (RemovesFirst n block) → Told mid new (RemovesColumn {T = T} {E = E} (Ok done) block n) → Told old new (RemovesFirst (n + 1) block)
   more_removed n old mid new done few first second =
       told_both (RemovesFirst n block) (RemovesColumn {T = T} {E = E} (Ok done) block n) (RemovesFirst (n + 1) block) old mid new
-      (λ a m c one two. record { elsewhere = more_moved n a m c few one.elsewhere two.elsewhere; gone = λ col half low small. gone m c one.gone two col half low small })
+      (λ a m c one two. record { elsewhere = more_moved n a m c few one.elsewhere two.elsewhere; others = more_same n few (reads_of a) (reads_of m) (reads_of c) one.others two.others; gone = λ col half low small. gone m c one.gone two col half low small })
       first second
     where
       gone : (m c : Disk) → ((col half : ℕ) → col < n → half < 2 → reads_of m (column_file block col half) ≡ []) → RemovesColumn {T = T} {E = E} (Ok done) block n m c → (col half : ℕ) → col < n + 1 → half < 2 → reads_of c (column_file block col half) ≡ []
@@ -142,11 +145,11 @@ module _ (T E : Type 0) (block : ℕ) where
   pub some_left : (n : ℕ) (old mid new : Option Disk) (fault answer : E) → n < 512 → Told old mid (RemovesFirst n block) → Told mid new (RemovesColumn {T = T} {E = E} (Err fault) block n) → Told old new (RemovesBlock {T = T} {E = E} (Err answer) block)
   some_left n old mid new fault answer few first second =
       told_both (RemovesFirst n block) (RemovesColumn {T = T} {E = E} (Err fault) block n) (RemovesBlock {T = T} {E = E} (Err answer) block) old mid new
-      (λ a m c one two. record { elsewhere = more_moved n a m c few one.elsewhere two.elsewhere; gone = tt })
+      (λ a m c one two. record { elsewhere = more_moved n a m c few one.elsewhere two.elsewhere; others = more_same n few (reads_of a) (reads_of m) (reads_of c) one.others two.others; gone = tt })
       first second
 
   pub all_removed : (n : ℕ) (old new : Option Disk) (done : T) → 256 ≤ n → Told old new (RemovesFirst n block) → Told old new (RemovesBlock {T = T} {E = E} (Ok done) block)
   all_removed n old new done all told =
       told_map (RemovesFirst n block) (RemovesBlock {T = T} {E = E} (Ok done) block) old new
-      (λ before after removes. record { elsewhere = removes.elsewhere; gone = λ col half low small. removes.gone col half (omega arith) small })
+      (λ before after removes. record { elsewhere = removes.elsewhere; others = removes.others; gone = λ col half low small. removes.gone col half (omega arith) small })
       told

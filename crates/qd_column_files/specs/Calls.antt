@@ -69,7 +69,8 @@ abbrev pub IsGone : {T E : Type 0} → Result T E → ℕ → Disk → Type 0
 IsGone (Ok done) block after = (col half : ℕ) → col < MAX_COLUMNS → half < 2 → reads_of after (column_file block col half) ≡ []
 IsGone (Err fault) block after = Unit {0}
 
--- The files of a block are removed. Each image of the call is one from before it in all files that aren't the block's.
+-- The files of a block are removed: nothing changes of the others.
 pub record RemovesBlock {T E : Type 0} (result : Result T E) (block : ℕ) (before after : Disk) : Type 0 where
   pub elsewhere : Moves (SameBut (is_file_of block)) before after
+  pub others : SameBut (is_file_of block) (reads_of before) (reads_of after)
   pub gone : IsGone result block after

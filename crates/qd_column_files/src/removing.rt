@@ -13,9 +13,9 @@ use qd_volume::Volume;
 /// Removes each file that a column of a block may have: two calls for each of 256 columns. It takes no memory, and
 /// waits for no disk.
 ///
-/// At every moment, and whatever it answers, a crash leaves all files but the block's as they were. After an `Ok` the
-/// block's files read as empty; a crash may still leave what they had. After an `Err` some of them may be removed,
-/// and the call may be made again.
+/// At every moment, and whatever it answers, a crash leaves all files but the block's as they were, and they read as
+/// they did. After an `Ok` the block's files read as empty; a crash may still leave what they had. After an `Err` some
+/// of them may be removed, and the call may be made again.
 pub fn remove_block<V: Volume>(volume: &mut V, block: u64) -> Result<(), IoFault>
     requires block { block < 2 ^ 52 }
     ensures told { Told (V.storage volume.old).disk (V.storage volume.new).disk (RemovesBlock result block) }

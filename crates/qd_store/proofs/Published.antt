@@ -10,6 +10,7 @@ use Rattle.qd_sequencer.specs.Calls.{PendsAsBefore}
 use Rattle.qd_sequencer.specs.Laws.{OtherFilesLeaveTheSequence}
 use Rattle.qd_sequencer.specs.Sequences.{Sequence}
 use Rattle.qd_txnfile.specs.Versions.{Version}
+use Rattle.qd_versions.specs.declared.fault.PublishFault.{PublishFault}
 use Rattle.qd_versions.specs.declared.published.NewBlock.{NewBlock}
 use Rattle.qd_versions.specs.Calls as roots
 use Rattle.qd_versions.specs.Publishing.{MayPublish, is_published_file}
@@ -21,7 +22,7 @@ use Rattle.qd_store.specs.Stores.{AreLimits, IsBook, IsStore, Store}
 use Rattle.qd_store.proofs.Publishing.{failed_at_gate, failed_clean, failed_in_repair, is_published, publish_elsewhere, publish_moments, set_some}
 use Rattle.qd_base.specs.declared.limits.TheConstants.{MAX_TXNS}
 
-module _ {E : Type 0} (result : Result ℕ E) (old new : Store) (n : ℕ) (shape : List TableParts) (blocks : List NewBlock) (v : Version) (before after : Disk) (law : versions.IsStore old.versions) (logs : OtherFilesLeaveTheSequence)
+module _ (result : Result ℕ PublishFault) (old new : Store) (n : ℕ) (shape : List TableParts) (blocks : List NewBlock) (v : Version) (before after : Disk) (law : versions.IsStore old.versions) (logs : OtherFilesLeaveTheSequence)
     (v_is : v ≡ stored n (old.versions.versions.next_block + length blocks) shape) (may : MayPublish old.versions.versions n shape (length blocks))
     (numbered : (i : ℕ) (d : NewBlock) → i < length blocks → (get_or blocks i d).block ≡ old.versions.versions.next_block + i)
     (logs_same : new.sequence ≡ old.sequence) (added : IfOk result (λ row. Adds old.versions.versions new.versions.versions n shape row)) (same : OnErr result (SameVersions old.versions.versions new.versions.versions))
@@ -35,14 +36,14 @@ module _ {E : Type 0} (result : Result ℕ E) (old new : Store) (n : ℕ) (shape
         (logs (is_published_file old.versions.versions.next_block) old.sequence h before after (publish_elsewhere old.versions.versions.next_block) p.elsewhere is.sequence).2;
   }
     where
-      by : (h : List Entry) (last : Version) → IsStore old h last before → StandsNext old h n shape blocks → (r : Result ℕ E) → IfOk r (λ row. Adds old.versions.versions new.versions.versions n shape row) → OnErr r (SameVersions old.versions.versions new.versions.versions)
+      by : (h : List Entry) (last : Version) → IsStore old h last before → StandsNext old h n shape blocks → (r : Result ℕ PublishFault) → IfOk r (λ row. Adds old.versions.versions new.versions.versions n shape row) → OnErr r (SameVersions old.versions.versions new.versions.versions)
           → roots.IsPublished r old.versions new.versions last v blocks before after → IsPublished r new h last v after
       by h last is next (Ok row) adds other (whole, rooted) = λ later. is_published old n shape blocks v before after law logs v_is may numbered p.elsewhere h last is next new logs_same row adds whole rooted later
       by h last is next (Err fault) other rows_same (inl (dirty, (rooted, alone))) = inl (failed_in_repair old n shape blocks v before after law logs v_is may numbered p.elsewhere h last is next new logs_same rows_same dirty rooted alone)
       by h last is next (Err fault) other rows_same (inr (inl (rooted, clean))) = inl (failed_clean old n shape blocks v before after law logs v_is may numbered p.elsewhere h last is next new logs_same rows_same clean rooted)
       by h last is next (Err fault) other rows_same (inr (inr (rooted, all))) = inr (failed_at_gate old n shape blocks v before after law logs v_is may numbered p.elsewhere h last is next new logs_same rows_same rooted all)
 
-pub published_told : {E : Type 0} (result : Result ℕ E) (old inside new : Store) (n : ℕ) (shape : List TableParts) (blocks : List NewBlock) (before after : Option Disk) → old ≡ inside → versions.IsStore inside.versions → OtherFilesLeaveTheSequence
+pub published_told : (result : Result ℕ PublishFault) (old inside new : Store) (n : ℕ) (shape : List TableParts) (blocks : List NewBlock) (before after : Option Disk) → old ≡ inside → versions.IsStore inside.versions → OtherFilesLeaveTheSequence
     → MayPublish inside.versions.versions n shape (length blocks) → ((i : ℕ) (d : NewBlock) → i < length blocks → (get_or blocks i d).block ≡ inside.versions.versions.next_block + i) → new.sequence ≡ inside.sequence
     → IfOk result (λ row. Adds inside.versions.versions new.versions.versions n shape row) → OnErr result (SameVersions inside.versions.versions new.versions.versions)
     → Told before after (roots.Publishes result inside.versions new.versions (stored n (inside.versions.versions.next_block + length blocks) shape) blocks)

@@ -83,6 +83,8 @@ abbrev pub root_fault : root.PublishFault → PublishFault
 root_fault rooted.NoRow = publish.NoRow
 root_fault rooted.Vol = publish.Vol
 root_fault rooted.Memory = publish.Memory
+root_fault (rooted.Unremoved io.Failed) = publish.Vol
+root_fault (rooted.Unremoved io.Memory) = publish.Memory
 
 -- The current version isn't the one that was merged into, and is of so many transactions.
 abbrev pub IsMoved : Versions → ℕ → ℕ → Type 0

@@ -97,8 +97,12 @@ impl From<versions::PublishFault> for PublishFault {
     fn from(cause: versions::PublishFault) -> PublishFault {
         match cause {
             versions::PublishFault::NoRow => PublishFault::NoRow,
-            versions::PublishFault::Vol => PublishFault::Vol,
-            versions::PublishFault::Memory => PublishFault::Memory,
+            versions::PublishFault::Vol | versions::PublishFault::Unremoved(IoFault::Failed) => {
+                PublishFault::Vol
+            }
+            versions::PublishFault::Memory | versions::PublishFault::Unremoved(IoFault::Memory) => {
+                PublishFault::Memory
+            }
         }
     }
 }

@@ -1,5 +1,5 @@
 -- Which files are those of blocks, and which those of versions.
-use Rattle.std.proofs.Common.{◌≡◌, ℕ, ◌+◌, ◌*◌, ◌^◌, ◌<◌, ◌≤◌, nat_eq, nat_le, nat_lt, Bool, true, false, ◌&&◌, ◌||◌, List, length, refl, sym, ◌∙◌, ap, subst, arith}
+use Rattle.std.proofs.Common.{◌≡◌, ℕ, ◌+◌, ◌^◌, ◌<◌, ◌≤◌, nat_eq, nat_le, nat_lt, Bool, true, false, ◌&&◌, ◌||◌, List, length, refl, sym, subst, arith}
 use Rattle.std.proofs.lemmas.Bool.Decides.{nat_tests}
 use Rattle.qd_base.specs.declared.limits.TheConstants.{MAX_COLUMNS}
 use Rattle.qd_block.specs.Blocks.{Block, column_in}
@@ -8,7 +8,7 @@ use Rattle.qd_volume.specs.Disk.{Image}
 use Rattle.qd_durable.specs.Moments.{SameBut}
 use Rattle.qd_txnfile.specs.Versions.{is_version_file}
 use Rattle.qd_column_files.specs.Files.{HoldsBlock, column_file, is_file_of}
-use Rattle.qd_versions.specs.Publishing.{is_file_from, is_published_file}
+use Rattle.qd_versions.specs.Publishing.{is_file_from}
 
 -- a file between two numbers
 abbrev within : ℕ → ℕ → ℕ → Bool

@@ -1,6 +1,6 @@
 -- What is known of version files stays through calls that change other files.
-use Rattle.std.proofs.Common.{◌≡◌, ◌⊎◌, inl, inr, ℕ, Bool, true, false, List, sym, subst, arith}
-use Rattle.qd_volume.specs.Disk.{Disk, Image, images_since, moment}
+use Rattle.std.proofs.Common.{◌≡◌, ◌⊎◌, inl, inr, ℕ, Bool, false, List, sym, subst}
+use Rattle.qd_volume.specs.Disk.{Disk, Image, images_since}
 use Rattle.qd_durable.specs.Moments.{EachNow, LeavesOnly, Moves, SameBut}
 use Rattle.qd_durable.proofs.Moved.{moments_have, now_has}
 use Rattle.qd_txnfile.specs.declared.half.Half.{Half}

@@ -1,25 +1,25 @@
 -- What an opening finds, and why a version is refused.
-use Rattle.std.proofs.Common.{◌≡◌, ◌⊎◌, inl, inr, ℕ, ◌+◌, ◌^◌, ◌<◌, ◌≤◌, List, Option, Result, Ok, Err, refl, sym, ap, ◌∙◌, subst, arith}
+use Rattle.std.proofs.Common.{◌≡◌, ◌⊎◌, inl, inr, ℕ, ◌+◌, ◌<◌, ◌≤◌, List, Option, Ok, Err, sym, ap, ◌∙◌, subst, arith}
 use Rattle.qd_volume.specs.Disk.{Disk, Image, images_now, file_of, reads_of}
 use Rattle.qd_volume.proofs.Sound.{image_of_reads, sound_file}
-use Rattle.qd_durable.specs.Moments.{EachNow, LeavesEarlier, Told}
+use Rattle.qd_durable.specs.Moments.{EachNow, Told}
 use Rattle.qd_durable.specs.declared.fault.LogFault.{LogFault}
 use Rattle.qd_durable.specs.declared.fault.LogFault.TheVariants as fault
 use Rattle.qd_durable.proofs.Writes.{told_map}
 use Rattle.qd_txnfile.specs.declared.opening.Found.{Found}
 use Rattle.qd_txnfile.specs.Opening as root
-use Rattle.qd_txnfile.specs.States.{GivesKnown, Knows, Root}
+use Rattle.qd_txnfile.specs.States.{Knows}
 use Rattle.qd_txnfile.specs.Versions as txn
 use Rattle.qd_txnfile.specs.Versions.{GivesVersion, Version}
 use Rattle.qd_txnfile.proofs.LawLemmas.{damaged_none, one_version}
 use Rattle.qd_manifest.specs.declared.shape.Manifest.{Manifest}
 use Rattle.qd_manifest.specs.Reading.{IsDamagedAt}
-use Rattle.qd_manifest.specs.Spelling.{IsManifest, SpellsManifest, manifest_bytes}
+use Rattle.qd_manifest.specs.Spelling.{SpellsManifest, manifest_bytes}
 use Rattle.qd_manifest.proofs.ManifestLaws.{damaged_spells_none}
 use Rattle.qd_catalog.specs.Versions as catalog
 use Rattle.qd_catalog.specs.Versions.{Versions}
 use Rattle.qd_versions.specs.Opening.{IsDamaged, IsIn, IsOpened, IsRefused, NoManifest, NoVersion, Opens, TooNew}
-use Rattle.qd_versions.specs.Stores.{IsRooted, Store, current_version, stored}
+use Rattle.qd_versions.specs.Stores.{Store, current_version}
 use Rattle.qd_versions.proofs.Stores.{version_opened}
 
 -- what files read is one of the images

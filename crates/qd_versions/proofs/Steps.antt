@@ -1,45 +1,31 @@
 -- What the writing of a version leaves at each moment, from what its calls leave.
-use Rattle.std.proofs.Common.{◌≡◌, ◌⊎◌, inl, inr, ℕ, zero, suc, ◌+◌, ◌^◌, ◌<◌, ◌≤◌, Bool, true, false, List, [], ◌∷◌, map, length, slice_index_or, Result, Ok, Err, refl, sym, ap, ◌∙◌, subst, ◌||◌, arith}
+use Rattle.std.proofs.Common.{◌≡◌, ◌⊎◌, inl, inr, ℕ, zero, suc, ◌+◌, ◌^◌, ◌<◌, ◌≤◌, Bool, true, false, List, [], ◌∷◌, map, length, slice_index_or, Result, Ok, Err, OnOk, refl, sym, ap, ◌∙◌, subst, ◌||◌, arith}
 use Rattle.std.specs.Arc.{arc_value}
 use Rattle.std.proofs.lemmas.List.FromFn.{get_or-range_with_len}
 use Rattle.qd_base.specs.declared.limits.TheConstants.{MAX_COLUMNS}
-use Rattle.qd_volume.specs.Disk.{Disk, Image}
+use Rattle.qd_io.specs.Ends.{Counts, HasRisen}
+use Rattle.qd_io.specs.declared.fault.IoFault.{IoFault}
+use Rattle.qd_io.specs.declared.fault.IoFault.TheVariants as io
+use Rattle.qd_volume.specs.Disk.{Disk, Image, reads_of}
 use Rattle.qd_durable.specs.Moments.{ComesFrom, EachNow, LeavesOnly, Moves, SameBut}
 use Rattle.qd_durable.proofs.Moved.{but_both, but_same, leaves_both, leaves_weaker, moments_have, moves_both, moves_still, moves_weaker, now_has}
-use Rattle.qd_txnfile.specs.Calls.{Flips, IsFlipped, Repairs, WritesBody}
+use Rattle.qd_txnfile.specs.Calls.{Flips, Repairs, WritesBody}
 use Rattle.qd_txnfile.specs.States.{GivesKnown, GivesOneOf, IsDirty, Knows, Root, with_other}
+use Rattle.qd_txnfile.specs.declared.half.Half.{Half}
+use Rattle.qd_txnfile.specs.declared.half.Other.{Other}
 use Rattle.qd_txnfile.specs.declared.half.Other.TheVariants as other
 use Rattle.qd_txnfile.specs.Versions.{GivesVersion, Version, is_version_file}
-use Rattle.qd_txnfile.proofs.Steps.{elsewhere_both}
-use Rattle.qd_column_files.specs.Calls.{PutsBlock, RemovesBlock}
-use Rattle.qd_column_files.specs.Files.{HoldsBlock, is_file_of}
+use Rattle.qd_txnfile.proofs.Steps.{known_given}
+use Rattle.qd_column_files.specs.Calls.{IsGone, PutsBlock, RemovesBlock}
+use Rattle.qd_column_files.specs.Files.{HoldsBlock, column_file, is_file_of}
+use Rattle.qd_versions.specs.declared.fault.PublishFault.{PublishFault}
+use Rattle.qd_versions.specs.declared.fault.PublishFault.TheVariants as publish
 use Rattle.qd_versions.specs.declared.published.NewBlock.{NewBlock}
+use Rattle.qd_versions.specs.Faults.{CountsPublish, graver, publish_fault, together}
 use Rattle.qd_versions.specs.Publishing.{AreNumbered, GivesBefore, GivesWhole, HoldsAll, is_file_from, is_published_file}
-use Rattle.qd_versions.specs.Writing.{Clears, IsLaid, IsTurned, LaysDown, PutsBlocks, Turns}
-use Rattle.qd_versions.proofs.Files.{but_more, but_version, held_kept, low_from, low_of, of_is_from, of_not_later, of_not_version}
+use Rattle.qd_versions.specs.Writing.{Clears, GivesUp, LaysDown, PutsBeside, PutsBlocks, RemovesBlocks}
+use Rattle.qd_versions.proofs.Files.{but_more, but_version, column_of, held_kept, low_from, low_of, of_is_from, of_not_later, of_not_version}
 use Rattle.qd_versions.proofs.Kept.{knows_kept, leaves_and, version_kept}
-
--- ---- a version, and its gate
-
-pub turn_not_begun : {T E : Type 0} (fault : E) (old new : Root) (next : Version) (before after : Disk) → WritesBody old new next before after → Turns {T = T} {E = E} (Err fault) old new next before after
-turn_not_begun fault old new next before after wrote = record {
-  any_moment = λ current last knows. leaves_weaker (GivesVersion current) (GivesOneOf current next) before after (λ image gives. inl gives) (wrote.any_moment current last knows);
-  behind = λ current last knows. wrote.known current last knows;
-  elsewhere = wrote.elsewhere;
-}
-
-turned_as : {T E : Type 0} (result : Result T E) (new : Root) (current next : Version) (disk : Disk) → IsFlipped result new current next disk → IsTurned result new current next disk
-turned_as (Ok done) new current next disk flipped = flipped
-turned_as (Err fault) new current next disk flipped = flipped
-
-pub turn_flipped : {T E : Type 0} (result : Result T E) (old mid new : Root) (next : Version) (a b c : Disk) → WritesBody old mid next a b → Flips result mid new b c → Turns result old new next a c
-turn_flipped result old mid new next a b c wrote flips = record {
-  any_moment = λ current last knows. leaves_both a b c (GivesOneOf current next)
-      (leaves_weaker (GivesVersion current) (GivesOneOf current next) a b (λ image gives. inl gives) (wrote.any_moment current last knows))
-      (flips.any_moment current next (wrote.known current last knows));
-  behind = λ current last knows. turned_as result new current next c (flips.behind current next (wrote.known current last knows));
-  elsewhere = elsewhere_both a b c wrote.elsewhere flips.elsewhere;
-}
 
 -- ---- the files of new blocks
 
@@ -60,6 +46,10 @@ item_same (x ∷ xs) (suc k) d e less = item_same xs k d e (omega (arith, less))
 
 pub item_is : {X : Type 0} (xs : List X) (k : ℕ) (x : X) → k < length xs → x ≡ slice_index_or xs k x → (d : X) → slice_index_or xs k d ≡ x
 item_is xs k x less is d = item_same xs k d x less ∙ sym is
+
+-- the number of a block of so many behind a first one
+pub block_at : (next count : ℕ) (blocks : List NewBlock) (new : NewBlock) → AreAt next blocks → count < length blocks → ((d : NewBlock) → slice_index_or blocks count d ≡ new) → new.block ≡ next + count
+block_at next count blocks new at here is = sym (ap (λ (b : NewBlock). b.block) (is new)) ∙ at count new here
 
 number_at : (blocks : List NewBlock) (k : ℕ) (d : NewBlock) → slice_index_or (map (λ (b : NewBlock). b.block) blocks) k d.block ≡ (slice_index_or blocks k d).block
 number_at [] k d = refl
@@ -141,18 +131,43 @@ pub repaired_clean : (old new : Root) → (IsDirty old.other × (new ≡ with_ot
 repaired_clean old new (inl was) dirty = subst (λ (r : Root). IsDirty r.other) was.1 dirty
 repaired_clean old new (inr clean) dirty = clean.0 (subst (λ (r : Root). IsDirty r.other) clean.1 dirty)
 
--- ---- all of it
+-- ---- a version beside the current one
 
-module _ (old new : Root) (next : ℕ) (v : Version) (blocks : List NewBlock) where
-  -- what a crash may leave
-  abbrev Left : Version → Version → Disk → Image → Type 0
-  Left current last before image = GivesBefore old.other current last before image ⊎ GivesVersion current image ⊎ GivesWhole v blocks image
+-- nothing is known of a version beside the current one
+abbrev pub IsAlone : Other → Type 0
+IsAlone other.Older = Unit {0}
+IsAlone other.Closed = Unit {0}
+IsAlone (other.Written n) = ⊥
+IsAlone (other.Opening n) = ⊥
 
-  -- while the root is repaired
-  repair_moments : {T E : Type 0} (result : Result T E) (mid : Root) (before after : Disk) → Repairs result old mid before after → (current last : Version) → Knows old current last before → LeavesOnly before after (GivesBefore old.other current last before)
-  repair_moments result mid before after repairs current last knows =
-      leaves_and (GivesKnown old.other current last) (ComesFrom (SameBut is_version_file) before) before after (repairs.any_moment current last knows) repairs.elsewhere.moments
+-- what is known of the current version alone
+knows_any : (half : Half) (n : ℕ) (known : Other) → IsAlone known → (current last next : Version) (disk : Disk) → Knows (record { current = half; n = n; other = known }) current last disk → Knows (record { current = half; n = n; other = known }) current next disk
+knows_any half n other.Older alone current last next disk knows = record { number = knows.number; follows = tt; holds = knows.holds; known = knows.known }
+knows_any half n other.Closed alone current last next disk knows = record { number = knows.number; follows = tt; holds = knows.holds; known = knows.known }
+knows_any half n (other.Written m) alone current last next disk knows = absurd alone
+knows_any half n (other.Opening m) alone current last next disk knows = absurd alone
 
+pub alone_behind : (old new : Root) → (new ≡ with_other old other.Older) ⊎ (new ≡ with_other old other.Closed) → IsAlone new.other
+alone_behind old new (inl is) = subst (λ (r : Root). IsAlone r.other) (sym is) tt
+alone_behind old new (inr is) = subst (λ (r : Root). IsAlone r.other) (sym is) tt
+
+alone_clean : (known : Other) → IsAlone known → IsDirty known → ⊥
+alone_clean other.Older alone dirty = dirty
+alone_clean other.Closed alone dirty = dirty
+alone_clean (other.Written n) alone dirty = dirty
+alone_clean (other.Opening n) alone dirty = alone
+
+pub clean_behind : (old new : Root) → (new ≡ with_other old other.Older) ⊎ (new ≡ with_other old other.Closed) → IsDirty new.other → ⊥
+clean_behind old new is dirty = alone_clean new.other (alone_behind old new is) dirty
+
+-- a root that isn't dirty gives the current version
+clean_given : (known : Other) (current last : Version) (image : Image) → (IsDirty known → ⊥) → GivesKnown known current last image → GivesVersion current image
+clean_given other.Older current last image clean gives = gives
+clean_given other.Closed current last image clean gives = gives
+clean_given (other.Written n) current last image clean gives = gives
+clean_given (other.Opening n) current last image clean gives = absurd (clean tt)
+
+module _ (next : ℕ) where
   version_files : (before after : Disk) → Moves (SameBut is_version_file) before after → Moves (SameBut (is_published_file next)) before after
   version_files before after moves = moves_weaker (SameBut is_version_file) (SameBut (is_published_file next)) before after (but_version (is_file_from next)) moves
 
@@ -162,48 +177,202 @@ module _ (old new : Root) (next : ℕ) (v : Version) (blocks : List NewBlock) wh
   both_files : (a b c : Disk) → Moves (SameBut (is_published_file next)) a b → Moves (SameBut (is_published_file next)) b c → Moves (SameBut (is_published_file next)) a c
   both_files a b c first second = moves_both (SameBut (is_published_file next)) (SameBut (is_published_file next)) (SameBut (is_published_file next)) a b c (λ x y r. r) (but_both (is_published_file next)) first second
 
-  pub lay_not_repaired : {T E : Type 0} (fault answer : E) (before after : Disk) → (IsDirty new.other → IsDirty old.other) → Repairs {T = T} {E = E} (Err fault) old new before after → LaysDown {T = T} {E = E} (Err answer) old new next v blocks before after
-  lay_not_repaired {T} {E} fault answer before after dirty repairs = record {
-    any_moment = λ current last knows. leaves_weaker (GivesBefore old.other current last before) (Left current last before) before after (λ image gives. inl gives) (repair_moments {T = T} {E = E} (Err fault) new before after repairs current last knows);
-    behind = λ current last knows. inl (dirty, (repairs.behind current last knows, repairs.elsewhere));
-    elsewhere = version_files before after repairs.elsewhere;
+  -- calls for files of blocks from a number on leave what is known of versions
+  module _ (a b : Disk) (moves : Moves (SameBut (is_file_from next)) a b) where
+    blocks_leave : (v : Version) → EachNow a (GivesVersion v) → LeavesOnly a b (GivesVersion v)
+    blocks_leave v gives = version_kept (is_file_from next) (low_from next 2 (omega arith)) (low_from next 3 (omega arith)) a b moves v gives
+
+    blocks_known : (r : Root) (current last : Version) → Knows r current last a → Knows r current last b
+    blocks_known r current last knows = knows_kept (is_file_from next) (low_from next 2 (omega arith)) (low_from next 3 (omega arith)) a b moves r current last knows
+
+-- the files of blocks stay while version files change
+module _ (blocks : List NewBlock) (few : AreFew (length blocks) blocks) (a b : Disk) (moves : Moves (SameBut is_version_file) a b) (held : EachNow a (HoldsAll blocks)) where
+  all_kept : (earlier image : Image) → HoldsAll blocks earlier → SameBut is_version_file earlier image → HoldsAll blocks image
+  all_kept earlier image holds same k d less =
+      let x = slice_index_or blocks k d in
+      held_kept x.block (arc_value x.of) is_version_file earlier image (few k d less) (λ file of. of_not_version x.block file of) same (holds k d less)
+
+  held_moments : LeavesOnly a b (HoldsAll blocks)
+  held_moments = moments_have (SameBut is_version_file) (HoldsAll blocks) (HoldsAll blocks) a b moves held all_kept
+
+  held_now : EachNow b (HoldsAll blocks)
+  held_now = now_has (SameBut is_version_file) (HoldsAll blocks) (HoldsAll blocks) a b moves held all_kept
+
+module _ (old : Root) (next : ℕ) (v : Version) (blocks : List NewBlock) where
+  pub beside_not_put : {T E : Type 0} (fault answer : E) (a b : Disk) → PutsBlocks {T = T} {E = E} (Err fault) next blocks a b → PutsBeside {T = T} {E = E} (Err answer) old old next v blocks a b
+  beside_not_put fault answer a b puts = record {
+    any_moment = λ current last knows gives. blocks_leave next a b puts.elsewhere current gives;
+    behind = λ current last knows. blocks_known next a b puts.elsewhere old current last knows;
+    held = tt;
+    elsewhere = block_files next a b puts.elsewhere;
   }
 
-  -- the root is repaired, and the files of blocks were put, whether that failed or not
-  module _ {T E : Type 0} (mid : Root) (done : T) (a b c : Disk) (repairs : Repairs {T = T} {E = E} (Ok done) old mid a b) (moves : Moves (SameBut (is_file_from next)) b c) where
+  module _ {T E : Type 0} (new : Root) (few : AreFew (length blocks) blocks) (done : T) (a b c : Disk) (puts : PutsBlocks {T = T} {E = E} (Ok done) next blocks a b) (wrote : WritesBody old new v b c) where
+    beside_moments : (current last : Version) → Knows old current last a → EachNow a (GivesVersion current) → LeavesOnly a c (GivesVersion current)
+    beside_moments current last knows gives =
+        leaves_both a b c (GivesVersion current) (blocks_leave next a b puts.elsewhere current gives)
+        (wrote.any_moment current last (blocks_known next a b puts.elsewhere old current last knows))
+
+    beside_known : (current last : Version) → Knows old current last a → Knows new current v c
+    beside_known current last knows = wrote.known current last (blocks_known next a b puts.elsewhere old current last knows)
+
+    beside_files : Moves (SameBut (is_published_file next)) a c
+    beside_files = both_files next a b c (block_files next a b puts.elsewhere) (version_files next b c wrote.elsewhere)
+
+    pub beside_written : (answer : T) → PutsBeside {T = T} {E = E} (Ok answer) old new next v blocks a c
+    beside_written answer = record {
+      any_moment = beside_moments;
+      behind = beside_known;
+      held = held_now blocks few b c wrote.elsewhere puts.held;
+      elsewhere = beside_files;
+    }
+
+    pub beside_not_written : (answer : E) → IsAlone new.other → PutsBeside {T = T} {E = E} (Err answer) old new next v blocks a c
+    beside_not_written answer alone = record {
+      any_moment = beside_moments;
+      behind = λ current last knows. knows_any new.current new.n new.other alone current v last c (beside_known current last knows);
+      held = tt;
+      elsewhere = beside_files;
+    }
+
+-- ---- what was put is removed
+
+-- of the first blocks the files are removed, where all calls succeeded
+pub record HasRemoved (outcome : Result (Unit {0}) IoFault) (next count : ℕ) (blocks : List NewBlock) (before after : Disk) : Type 0 where
+  pub elsewhere : Moves (SameBut (is_file_from next)) before after
+  pub gone : OnOk outcome ((k : ℕ) (d : NewBlock) → k < count → IsGone {T = Unit {0}} {E = Unit {0}} (Ok tt) (slice_index_or blocks k d).block after)
+
+pub removed_none : (next : ℕ) (blocks : List NewBlock) (disk : Disk) → HasRemoved (Ok tt) next 0 blocks disk disk
+removed_none next blocks disk = record {
+  elsewhere = moves_still (SameBut (is_file_from next)) disk (but_same (is_file_from next));
+  gone = λ k d less. absurd (omega arith);
+}
+
+module _ (next count : ℕ) (blocks : List NewBlock) (at : AreAt next blocks) (small : next + length blocks ≤ 2 ^ 52) (here : count < length blocks) (a b c : Disk) (new : NewBlock) (is : (d : NewBlock) → slice_index_or blocks count d ≡ new) where
+  removed_number : (d : NewBlock) → new.block ≡ next + count
+  removed_number d = let e = is d in let f = at count d here in cc
+
+  removed_elsewhere : Moves (SameBut (is_file_from next)) a b → Moves (SameBut (is_file_of new.block)) b c → Moves (SameBut (is_file_from next)) a c
+  removed_elsewhere first second =
+      moves_both (SameBut (is_file_from next)) (SameBut (is_file_from next)) (SameBut (is_file_from next)) a b c (λ x y r. r) (but_both (is_file_from next)) first
+      (one_elsewhere next new.block b c (omega (arith, removed_number new)) (omega (arith, removed_number new, small, here)) second)
+
+  -- an earlier block's files stay removed
+  gone_kept : (k : ℕ) (d : NewBlock) → k < count → SameBut (is_file_of new.block) (reads_of b) (reads_of c) → IsGone {T = Unit {0}} {E = Unit {0}} (Ok tt) (slice_index_or blocks k d).block b → IsGone {T = Unit {0}} {E = Unit {0}} (Ok tt) (slice_index_or blocks k d).block c
+  gone_kept k d less same gone col half low two =
+      let block = (slice_index_or blocks k d).block in
+      let before : block < new.block = omega (arith, at k d (omega (arith, less, here)), removed_number d, less) in
+      let file = column_file block col half in
+      same file (of_not_later block new.block file before (column_of block col half (omega (arith, low)) two)) ∙ gone col half low two
+
+  gone_more : (done : Unit {0}) (first : (k : ℕ) (d : NewBlock) → k < count → IsGone {T = Unit {0}} {E = Unit {0}} (Ok tt) (slice_index_or blocks k d).block b) → RemovesBlock {E = IoFault} (Ok done) new.block b c
+      → (k : ℕ) (d : NewBlock) → k < count + 1 → IsGone {T = Unit {0}} {E = Unit {0}} (Ok tt) (slice_index_or blocks k d).block c
+  gone_more done first removes k d less = by (cases k less)
+    where
+      cases : (k : ℕ) → k < count + 1 → (k < count) ⊎ (k ≡ count)
+      cases k less = grind arith
+
+      by : (k < count) ⊎ (k ≡ count) → IsGone {T = Unit {0}} {E = Unit {0}} (Ok tt) (slice_index_or blocks k d).block c
+      by (inl lower) = gone_kept k d lower removes.others (first k d lower)
+      by (inr same) =
+          subst (λ (x : NewBlock). IsGone {T = Unit {0}} {E = Unit {0}} (Ok tt) x.block c) (sym (ap (λ n. slice_index_or blocks n d) same ∙ is d))
+          (λ col half low two. removes.gone col half low two)
+
+  pub removed_more : (outcome removed : Result (Unit {0}) IoFault) → HasRemoved outcome next count blocks a b → RemovesBlock removed new.block b c → HasRemoved (together outcome removed) next (count + 1) blocks a c
+  removed_more (Ok done) (Ok again) had removes = record { elsewhere = removed_elsewhere had.elsewhere removes.elsewhere; gone = gone_more again had.gone removes }
+  removed_more (Ok done) (Err fault) had removes = record { elsewhere = removed_elsewhere had.elsewhere removes.elsewhere; gone = tt }
+  removed_more (Err first) (Ok again) had removes = record { elsewhere = removed_elsewhere had.elsewhere removes.elsewhere; gone = tt }
+  removed_more (Err first) (Err second) had removes = record { elsewhere = removed_elsewhere had.elsewhere removes.elsewhere; gone = tt }
+
+pub removed_all : (outcome : Result (Unit {0}) IoFault) (next : ℕ) (blocks : List NewBlock) (before after : Disk) → HasRemoved outcome next (length blocks) blocks before after → RemovesBlocks outcome next blocks before after
+removed_all (Ok done) next blocks before after had = record { elsewhere = had.elsewhere; gone = λ k d less. had.gone k d less }
+removed_all (Err fault) next blocks before after had = record { elsewhere = had.elsewhere; gone = tt }
+
+pub given_up : (cause : IoFault) (done : Unit {0}) (next : ℕ) (blocks : List NewBlock) (before after : Disk) → RemovesBlocks {E = IoFault} (Ok done) next blocks before after → GivesUp (publish_fault cause) next blocks before after
+given_up io.Failed done next blocks before after removes = record { elsewhere = removes.elsewhere; cleared = removes.gone }
+given_up io.Memory done next blocks before after removes = record { elsewhere = removes.elsewhere; cleared = removes.gone }
+
+pub left_over : (cause fault : IoFault) (next : ℕ) (blocks : List NewBlock) (before after : Disk) → RemovesBlocks {T = Unit {0}} (Err fault) next blocks before after → GivesUp (publish.Unremoved cause) next blocks before after
+left_over cause fault next blocks before after removes = record { elsewhere = removes.elsewhere; cleared = tt }
+
+pub not_full : (cause : IoFault) → publish_fault cause ≡ publish.NoRow → ⊥
+not_full io.Failed e = cc
+not_full io.Memory e = cc
+
+-- counts of faults of two calls, one behind the other
+pub counts_graver : (a b c : ℕ) (first second : IoFault) → Counts {T = Unit {0}} a b (Err first) → Counts {T = Unit {0}} b c (Err second) → Counts {T = Unit {0}} a c (Err (graver first second))
+counts_graver a b c io.Failed io.Failed rose again = (omega (arith, rose.0, again.0), by again.1)
+  where
+    by : HasRisen b c → HasRisen a c
+    by (inl less) = inl (omega (arith, rose.0, less))
+    by (inr last) = inr last
+counts_graver a b c io.Failed io.Memory rose same = subst (λ n. (a ≤ n) × HasRisen a n) (sym same) rose
+counts_graver a b c io.Memory io.Failed same rose = subst (λ n. (n ≤ c) × HasRisen n c) same rose
+counts_graver a b c io.Memory io.Memory same again = again ∙ same
+
+pub counts_together : (a b c : ℕ) (first second : Result (Unit {0}) IoFault) → Counts a b first → Counts b c second → Counts a c (together first second)
+counts_together a b c (Ok done) (Ok again) same rest = rest ∙ same
+counts_together a b c (Ok done) (Err io.Failed) same rose = subst (λ n. (n ≤ c) × HasRisen n c) same rose
+counts_together a b c (Ok done) (Err io.Memory) same rest = rest ∙ same
+counts_together a b c (Err io.Failed) (Ok again) rose same = subst (λ n. (a ≤ n) × HasRisen a n) (sym same) rose
+counts_together a b c (Err io.Memory) (Ok again) same rest = rest ∙ same
+counts_together a b c (Err first) (Err second) one other = counts_graver a b c first second one other
+
+pub counts_given_up : (a b c : ℕ) (cause : IoFault) → Counts {T = Unit {0}} a b (Err cause) → c ≡ b → CountsPublish {T = Unit {0}} a c (Err (publish_fault cause))
+counts_given_up a b c io.Failed rose same = subst (λ n. (a ≤ n) × HasRisen a n) (sym same) rose
+counts_given_up a b c io.Memory first same = same ∙ first
+
+-- ---- all of it
+
+-- while the root is repaired
+repair_moments : {T E : Type 0} (result : Result T E) (old mid : Root) (before after : Disk) → Repairs result old mid before after → (current last : Version) → Knows old current last before → LeavesOnly before after (GivesBefore old.other current last before)
+repair_moments result old mid before after repairs current last knows =
+    leaves_and (GivesKnown old.other current last) (ComesFrom (SameBut is_version_file) before) before after (repairs.any_moment current last knows) repairs.elsewhere.moments
+
+module _ (old new : Root) (next : ℕ) (v : Version) (blocks : List NewBlock) where
+  -- what a crash may leave
+  abbrev Left : Version → Version → Disk → Image → Type 0
+  Left current last before image = GivesBefore old.other current last before image ⊎ GivesVersion current image ⊎ GivesWhole v blocks image
+
+  pub lay_not_repaired : {T E : Type 0} (fault : E) (answer : PublishFault) (before after : Disk) → (IsDirty new.other → IsDirty old.other) → Repairs {T = T} {E = E} (Err fault) old new before after → LaysDown {T = T} (Err answer) old new next v blocks before after
+  lay_not_repaired {T} {E} fault answer before after dirty repairs = record {
+    any_moment = λ current last knows. leaves_weaker (GivesBefore old.other current last before) (Left current last before) before after (λ image gives. inl gives) (repair_moments {T = T} {E = E} (Err fault) old new before after repairs current last knows);
+    behind = λ current last knows. inl (dirty, (repairs.behind current last knows, repairs.elsewhere));
+    elsewhere = version_files next before after repairs.elsewhere;
+    removed = inl repairs.elsewhere;
+  }
+
+  -- the root is repaired, and a version is written beside the current one, whether that failed or not
+  module _ {T E : Type 0} (mid late : Root) (done : T) (result : Result T E) (a b c : Disk) (repairs : Repairs {T = T} {E = E} (Ok done) old mid a b) (beside : PutsBeside result mid late next v blocks b c) where
     first_moments : (current last : Version) → Knows old current last a → LeavesOnly a c (Left current last a)
     first_moments current last knows =
+        let repaired = repairs.behind current last knows in
         leaves_both a b c (Left current last a)
-        (leaves_weaker (GivesBefore old.other current last a) (Left current last a) a b (λ image gives. inl gives) (repair_moments {T = T} {E = E} (Ok done) mid a b repairs current last knows))
-        (leaves_weaker (GivesVersion current) (Left current last a) b c (λ image gives. inr (inl gives))
-        (version_kept (is_file_from next) (low_from next 2 (omega arith)) (low_from next 3 (omega arith)) b c moves current (repairs.behind current last knows).0))
-
-    first_knows : (current last : Version) → Knows old current last a → Knows mid current last c
-    first_knows current last knows = knows_kept (is_file_from next) (low_from next 2 (omega arith)) (low_from next 3 (omega arith)) b c moves mid current last (repairs.behind current last knows).1
+        (leaves_weaker (GivesBefore old.other current last a) (Left current last a) a b (λ image gives. inl gives) (repair_moments {T = T} {E = E} (Ok done) old mid a b repairs current last knows))
+        (leaves_weaker (GivesVersion current) (Left current last a) b c (λ image gives. inr (inl gives)) (beside.any_moment current last repaired.1 repaired.0))
 
     first_files : Moves (SameBut (is_published_file next)) a c
-    first_files = both_files a b c (version_files a b repairs.elsewhere) (block_files b c moves)
+    first_files = both_files next a b c (version_files next a b repairs.elsewhere) beside.elsewhere
 
-  pub lay_not_put : {T E : Type 0} (done : T) (fault answer : E) (a b c : Disk) → (IsDirty new.other → ⊥) → Repairs {T = T} {E = E} (Ok done) old new a b → PutsBlocks {T = T} {E = E} (Err fault) next blocks b c → LaysDown {T = T} {E = E} (Err answer) old new next v blocks a c
-  lay_not_put {T} {E} done fault answer a b c clean repairs puts = record {
-    any_moment = first_moments {T = T} {E = E} new done a b c repairs puts.elsewhere;
-    behind = λ current last knows. inr (inl (first_knows {T = T} {E = E} new done a b c repairs puts.elsewhere current last knows, clean));
-    elsewhere = first_files {T = T} {E = E} new done a b c repairs puts.elsewhere;
+  pub lay_given_up : {T E : Type 0} (mid : Root) (done : T) (fault : E) (answer : PublishFault) (a b c d : Disk) → (IsDirty new.other → ⊥) → Repairs {T = T} {E = E} (Ok done) old mid a b
+      → PutsBeside {T = T} {E = E} (Err fault) mid new next v blocks b c → GivesUp answer next blocks c d → LaysDown {T = T} (Err answer) old new next v blocks a d
+  lay_given_up {T} {E} mid done fault answer a b c d clean repairs beside gives_up = record {
+    any_moment = λ current last knows. leaves_both a c d (Left current last a) (first_moments {T = T} {E = E} mid new done (Err fault) a b c repairs beside current last knows)
+        (leaves_weaker (GivesVersion current) (Left current last a) c d (λ image gives. inr (inl gives))
+        (blocks_leave next c d gives_up.elsewhere current (λ image now. clean_given new.other current last image clean (known_given new current last c (stands current last knows) image now))));
+    behind = λ current last knows. inr (inl (blocks_known next c d gives_up.elsewhere new current last (stands current last knows), clean));
+    elsewhere = both_files next a c d (first_files {T = T} {E = E} mid new done (Err fault) a b c repairs beside) (block_files next c d gives_up.elsewhere);
+    removed = inr (inr gives_up.cleared);
   }
-
-  module _ {T E : Type 0} (mid : Root) (few : AreFew (length blocks) blocks) (done again : T) (result : Result T E) (a b c d : Disk)
-      (repairs : Repairs {T = T} {E = E} (Ok done) old mid a b) (puts : PutsBlocks {T = T} {E = E} (Ok again) next blocks b c) (turns : Turns result mid new v c d)
     where
-      all_kept : (earlier image : Image) → HoldsAll blocks earlier → SameBut is_version_file earlier image → HoldsAll blocks image
-      all_kept earlier image holds same k d less =
-          let x = slice_index_or blocks k d in
-          held_kept x.block (arc_value x.of) is_version_file earlier image (few k d less) (λ file of. of_not_version x.block file of) same (holds k d less)
+      stands : (current last : Version) → Knows old current last a → Knows new current last c
+      stands current last knows = beside.behind current last (repairs.behind current last knows).1
 
-      held_moments : LeavesOnly c d (HoldsAll blocks)
-      held_moments = moments_have (SameBut is_version_file) (HoldsAll blocks) (HoldsAll blocks) c d turns.elsewhere puts.held all_kept
-
-      held_now : EachNow d (HoldsAll blocks)
-      held_now = now_has (SameBut is_version_file) (HoldsAll blocks) (HoldsAll blocks) c d turns.elsewhere puts.held all_kept
+  module _ {T E : Type 0} (mid late : Root) (few : AreFew (length blocks) blocks) (done again : T) (result : Result T E) (a b c d : Disk)
+      (repairs : Repairs {T = T} {E = E} (Ok done) old mid a b) (beside : PutsBeside {T = T} {E = E} (Ok again) mid late next v blocks b c) (flips : Flips result late new c d)
+    where
+      stands_beside : (current last : Version) → Knows old current last a → Knows late current v c
+      stands_beside current last knows = beside.behind current last (repairs.behind current last knows).1
 
       left : (current last : Version) (image : Image) → GivesOneOf current v image × HoldsAll blocks image → Left current last a image
       left current last image both = by both.0
@@ -212,17 +381,40 @@ module _ (old new : Root) (next : ℕ) (v : Version) (blocks : List NewBlock) wh
           by (inl gives) = inr (inl gives)
           by (inr gives) = inr (inr (gives, both.1))
 
-      laid : (answer : Result T E) (current last : Version) → IsTurned answer new current v d → IsLaid answer old new current last v blocks a d
-      laid (Ok done) current last turned = (λ image now. (turned.0 image now, held_now image now), turned.1)
-      laid (Err fault) current last turned = inr (inr (turned, held_now))
+      all_moments : (current last : Version) → Knows old current last a → LeavesOnly a d (Left current last a)
+      all_moments current last knows =
+          leaves_both a c d (Left current last a) (first_moments {T = T} {E = E} mid late done (Ok again) a b c repairs beside current last knows)
+          (leaves_weaker (λ image. GivesOneOf current v image × HoldsAll blocks image) (Left current last a) c d (left current last)
+          (leaves_and (GivesOneOf current v) (HoldsAll blocks) c d (flips.any_moment current v (stands_beside current last knows)) (held_moments blocks few c d flips.elsewhere beside.held)))
 
-      pub lay_turned : LaysDown result old new next v blocks a d
-      lay_turned = record {
-        any_moment = λ current last knows. leaves_both a c d (Left current last a) (first_moments {T = T} {E = E} mid done a b c repairs puts.elsewhere current last knows)
-            (leaves_weaker (λ image. GivesOneOf current v image × HoldsAll blocks image) (Left current last a) c d (left current last)
-            (leaves_and (GivesOneOf current v) (HoldsAll blocks) c d (turns.any_moment current last (first_knows {T = T} {E = E} mid done a b c repairs puts.elsewhere current last knows)) held_moments));
-        behind = λ current last knows. laid result current last (turns.behind current last (first_knows {T = T} {E = E} mid done a b c repairs puts.elsewhere current last knows));
-        elsewhere = both_files a c d (first_files {T = T} {E = E} mid done a b c repairs puts.elsewhere) (version_files c d turns.elsewhere);
+      all_files : Moves (SameBut (is_published_file next)) a d
+      all_files = both_files next a c d (first_files {T = T} {E = E} mid late done (Ok again) a b c repairs beside) (version_files next c d flips.elsewhere)
+
+      now_held : EachNow d (HoldsAll blocks)
+      now_held = held_now blocks few c d flips.elsewhere beside.held
+
+  module _ {T E : Type 0} (mid late : Root) (few : AreFew (length blocks) blocks) (done again : T) (a b c d : Disk)
+      (repairs : Repairs {T = T} {E = E} (Ok done) old mid a b) (beside : PutsBeside {T = T} {E = E} (Ok again) mid late next v blocks b c)
+    where
+      pub lay_flipped : (flipped answer : T) → Flips {T = T} {E = E} (Ok flipped) late new c d → LaysDown {T = T} (Ok answer) old new next v blocks a d
+      lay_flipped flipped answer flips = record {
+        any_moment = all_moments {T = T} {E = E} mid late few done again (Ok flipped) a b c d repairs beside flips;
+        behind = λ current last knows.
+            let turned = flips.behind current v (stands_beside {T = T} {E = E} mid late few done again (Ok flipped) a b c d repairs beside flips current last knows) in
+            (λ image now. (turned.0 image now, now_held {T = T} {E = E} mid late few done again (Ok flipped) a b c d repairs beside flips image now), turned.1);
+        elsewhere = all_files {T = T} {E = E} mid late few done again (Ok flipped) a b c d repairs beside flips;
+        removed = tt;
+      }
+
+      pub lay_not_flipped : (fault : E) (answer : PublishFault) → IsDirty new.other → Flips {T = T} {E = E} (Err fault) late new c d → LaysDown {T = T} (Err answer) old new next v blocks a d
+      lay_not_flipped fault answer dirty flips = record {
+        any_moment = all_moments {T = T} {E = E} mid late few done again (Err fault) a b c d repairs beside flips;
+        behind = λ current last knows. inr (inr (
+          flips.behind current v (stands_beside {T = T} {E = E} mid late few done again (Err fault) a b c d repairs beside flips current last knows),
+          now_held {T = T} {E = E} mid late few done again (Err fault) a b c d repairs beside flips,
+        ));
+        elsewhere = all_files {T = T} {E = E} mid late few done again (Err fault) a b c d repairs beside flips;
+        removed = inr (inl dirty);
       }
 
 -- ---- the removal of a block's files

@@ -1,7 +1,7 @@
 -- What the calls of a store make of a volume, told or not, from what its root's make of it.
-use Rattle.std.proofs.Common.{◌≡◌, ◌⊎◌, inl, inr, ℕ, Bool, true, false, List, [], ◌∷◌, Option, Result, Ok, Err, OnOk, OnErr, refl, sym, ap, ◌∙◌, subst}
+use Rattle.std.proofs.Common.{◌≡◌, ◌⊎◌, inl, inr, ℕ, true, false, List, ◌∷◌, Option, Result, Ok, Err, OnOk, OnErr, sym, ap, ◌∙◌, subst}
 use Rattle.qd_io.specs.declared.fault.IoFault.{IoFault}
-use Rattle.qd_volume.specs.Disk.{Disk, Image}
+use Rattle.qd_volume.specs.Disk.{Disk}
 use Rattle.qd_durable.specs.Moments.{EachNow, Moves, SameBut, Told}
 use Rattle.qd_durable.proofs.Moved.{but_same, leaves_still, moves_still}
 use Rattle.qd_durable.proofs.Writes.{told_map, told_still}
@@ -10,9 +10,10 @@ use Rattle.qd_txnfile.specs.States.{IsDirty, Knows, Root, with_other}
 use Rattle.qd_txnfile.specs.declared.half.Other.TheVariants as other
 use Rattle.qd_txnfile.specs.Versions.{GivesVersion, Version, is_version_file}
 use Rattle.qd_txnfile.proofs.Steps.{known_given}
+use Rattle.qd_versions.specs.declared.fault.PublishFault.{PublishFault}
 use Rattle.qd_versions.specs.declared.published.NewBlock.{NewBlock}
 use Rattle.qd_versions.specs.Calls.{Creates, IsPublished, IsRepaired, IsSwept, Publishes, Repairs, SweepsFront, is_swept_file, no_tables}
-use Rattle.qd_versions.specs.Publishing.{GivesBefore, GivesWhole, HoldsAll, is_published_file}
+use Rattle.qd_versions.specs.Publishing.{GivesBefore, GivesWhole, is_published_file}
 use Rattle.qd_versions.specs.Stores.{IsRooted, Store, current_version}
 use Rattle.qd_versions.specs.Writing.{Clears, IsLaid, LaysDown}
 
@@ -25,66 +26,55 @@ knows_as : (r : Root) (v w next : Version) (disk : Disk) → v ≡ w → Knows r
 knows_as r v w next disk same knows = subst (λ (x : Version). Knows r x next disk) same knows
 
 module _ (old new : Store) (v : Version) (blocks : List NewBlock) where
-  laid_failed : {T E : Type 0} (fault answer : E) (before after : Disk) → current_version new.versions ≡ current_version old.versions → LaysDown {T = T} {E = E} (Err fault) old.root new.root old.versions.next_block v blocks before after → Publishes {T = ℕ} {E = E} (Err answer) old new v blocks before after
-  laid_failed {T} {E} fault answer before after same laid = record {
+  laid_failed : {T : Type 0} (fault : PublishFault) (before after : Disk) → current_version new.versions ≡ current_version old.versions → LaysDown {T = T} (Err fault) old.root new.root old.versions.next_block v blocks before after → Publishes {T = ℕ} (Err fault) old new v blocks before after
+  laid_failed {T} fault before after same laid = record {
     any_moment = λ last rooted. laid.any_moment (current_version old.versions) last rooted.root;
     behind = λ last rooted. by last (laid.behind (current_version old.versions) last rooted.root);
     elsewhere = laid.elsewhere;
+    removed = laid.removed;
   }
     where
       rooted : (last : Version) → Knows new.root (current_version old.versions) last after → IsRooted new last after
       rooted last knows = record { root = knows_as new.root (current_version old.versions) (current_version new.versions) last after (sym same) knows }
 
-      by : (last : Version) → IsLaid {T = T} {E = E} (Err fault) old.root new.root (current_version old.versions) last v blocks before after → IsPublished {T = ℕ} {E = E} (Err answer) old new last v blocks before after
+      by : (last : Version) → IsLaid {T = T} {E = PublishFault} (Err fault) old.root new.root (current_version old.versions) last v blocks before after → IsPublished {T = ℕ} {E = PublishFault} (Err fault) old new last v blocks before after
       by last (inl touched) = inl (touched.0, (rooted last touched.1.0, touched.1.1))
       by last (inr (inl clean)) = inr (inl (rooted last clean.0, clean.1))
       by last (inr (inr held)) = inr (inr (rooted v held.0, held.1))
 
-  laid_done : {T E : Type 0} (done : T) (row : ℕ) (before after : Disk) → current_version new.versions ≡ v → LaysDown {T = T} {E = E} (Ok done) old.root new.root old.versions.next_block v blocks before after → Publishes {T = ℕ} {E = E} (Ok row) old new v blocks before after
+  laid_done : {T : Type 0} (done : T) (row : ℕ) (before after : Disk) → current_version new.versions ≡ v → LaysDown {T = T} (Ok done) old.root new.root old.versions.next_block v blocks before after → Publishes {T = ℕ} (Ok row) old new v blocks before after
   laid_done done row before after is laid = record {
     any_moment = λ last rooted. laid.any_moment (current_version old.versions) last rooted.root;
     behind = λ last rooted.
         let knows = laid.behind (current_version old.versions) last rooted.root in
         (knows.0, λ later. record { root = knows_as new.root v (current_version new.versions) later after (sym is) (knows.1 later) });
     elsewhere = laid.elsewhere;
+    removed = tt;
   }
 
 -- nothing was begun
-publish_none : {E : Type 0} (fault : E) (old new : Store) (v : Version) (blocks : List NewBlock) (disk : Disk) → new.root ≡ old.root → current_version new.versions ≡ current_version old.versions → Publishes {T = ℕ} {E = E} (Err fault) old new v blocks disk disk
+publish_none : (fault : PublishFault) (old new : Store) (v : Version) (blocks : List NewBlock) (disk : Disk) → new.root ≡ old.root → current_version new.versions ≡ current_version old.versions → Publishes {T = ℕ} (Err fault) old new v blocks disk disk
 publish_none fault old new v blocks disk root same = record {
   any_moment = λ last rooted. leaves_still (λ image. GivesBefore old.root.other (current_version old.versions) last disk image ⊎ GivesVersion (current_version old.versions) image ⊎ GivesWhole v blocks image) disk
       (λ image now. inl (known_given old.root (current_version old.versions) last disk rooted.root image now, (image, now, but_same is_version_file image)));
   behind = λ last rooted. inl (λ dirty. subst (λ (r : Root). IsDirty r.other) root dirty, (record { root = subst (λ (r : Root). Knows r (current_version new.versions) last disk) (sym root) (knows_as old.root (current_version old.versions) (current_version new.versions) last disk (sym same) rooted.root) }, moves_still (SameBut is_version_file) disk (but_same is_version_file)));
   elsewhere = moves_still (SameBut (is_published_file old.versions.next_block)) disk (but_same (is_published_file old.versions.next_block));
+  removed = inl (moves_still (SameBut is_version_file) disk (but_same is_version_file));
 }
 
-module _ (E : Type 0) (before after : Store) (v : Version) (blocks : List NewBlock) where
-  pub publish_none_told : (fault : E) (old : Option Disk) → after.root ≡ before.root → current_version after.versions ≡ current_version before.versions → Told old old (Publishes {T = ℕ} {E = E} (Err fault) before after v blocks)
-  publish_none_told fault old root same = told_still (Publishes {T = ℕ} {E = E} (Err fault) before after v blocks) old (λ disk. publish_none fault before after v blocks disk root same)
+module _ (before after : Store) (v : Version) (blocks : List NewBlock) where
+  pub publish_none_told : (fault : PublishFault) (old : Option Disk) → after.root ≡ before.root → current_version after.versions ≡ current_version before.versions → Told old old (Publishes {T = ℕ} (Err fault) before after v blocks)
+  publish_none_told fault old root same = told_still (Publishes {T = ℕ} (Err fault) before after v blocks) old (λ disk. publish_none fault before after v blocks disk root same)
 
-  pub publish_failed_told : (fault : IoFault) (answer : E) (old new : Option Disk) → current_version after.versions ≡ current_version before.versions → Told old new (LaysDown {T = Unit {0}} (Err fault) before.root after.root before.versions.next_block v blocks) → Told old new (Publishes {T = ℕ} {E = E} (Err answer) before after v blocks)
-  publish_failed_told fault answer old new same told =
-      told_map (LaysDown {T = Unit {0}} (Err fault) before.root after.root before.versions.next_block v blocks) (Publishes {T = ℕ} {E = E} (Err answer) before after v blocks) old new
-      (λ a b laid. failed a b laid) told
-    where
-      failed : (a b : Disk) → LaysDown {T = Unit {0}} (Err fault) before.root after.root before.versions.next_block v blocks a b → Publishes {T = ℕ} {E = E} (Err answer) before after v blocks a b
-      failed a b laid = record {
-        any_moment = (laid_failed before after v blocks {T = Unit {0}} {E = IoFault} fault fault a b same laid).any_moment;
-        behind = (laid_failed before after v blocks {T = Unit {0}} {E = IoFault} fault fault a b same laid).behind;
-        elsewhere = laid.elsewhere;
-      }
+  pub publish_failed_told : (fault : PublishFault) (old new : Option Disk) → current_version after.versions ≡ current_version before.versions → Told old new (LaysDown {T = Unit {0}} (Err fault) before.root after.root before.versions.next_block v blocks) → Told old new (Publishes {T = ℕ} (Err fault) before after v blocks)
+  publish_failed_told fault old new same told =
+      told_map (LaysDown {T = Unit {0}} (Err fault) before.root after.root before.versions.next_block v blocks) (Publishes {T = ℕ} (Err fault) before after v blocks) old new
+      (λ a b laid. laid_failed before after v blocks {T = Unit {0}} fault a b same laid) told
 
-  pub publish_done_told : (done : Unit {0}) (row : ℕ) (old new : Option Disk) → current_version after.versions ≡ v → Told old new (LaysDown {E = IoFault} (Ok done) before.root after.root before.versions.next_block v blocks) → Told old new (Publishes {E = E} (Ok row) before after v blocks)
+  pub publish_done_told : (done : Unit {0}) (row : ℕ) (old new : Option Disk) → current_version after.versions ≡ v → Told old new (LaysDown (Ok done) before.root after.root before.versions.next_block v blocks) → Told old new (Publishes (Ok row) before after v blocks)
   publish_done_told done row old new is told =
-      told_map (LaysDown {E = IoFault} (Ok done) before.root after.root before.versions.next_block v blocks) (Publishes {E = E} (Ok row) before after v blocks) old new
-      (λ a b laid. finished a b laid) told
-    where
-      finished : (a b : Disk) → LaysDown {E = IoFault} (Ok done) before.root after.root before.versions.next_block v blocks a b → Publishes {E = E} (Ok row) before after v blocks a b
-      finished a b laid = record {
-        any_moment = (laid_done before after v blocks {E = IoFault} done row a b is laid).any_moment;
-        behind = (laid_done before after v blocks {E = IoFault} done row a b is laid).behind;
-        elsewhere = laid.elsewhere;
-      }
+      told_map (LaysDown (Ok done) before.root after.root before.versions.next_block v blocks) (Publishes (Ok row) before after v blocks) old new
+      (λ a b laid. laid_done before after v blocks done row a b is laid) told
 
 -- ---- making, repair and sweeping
 

@@ -1,8 +1,7 @@
 -- What every store of versions keeps, through each change of its catalogue.
-use Rattle.std.proofs.Common.{◌≡◌, ◌≢◌, ◌⊎◌, inl, inr, ℕ, zero, suc, ◌+◌, ◌*◌, ◌^◌, ◌<◌, ◌≤◌, max, Bool, true, false, cond, nat_eq, not, List, [], ◌∷◌, ◌++◌, length, get_or, set, replicate, Option, Some, None, is_some, All, Contains, slice_get, ◌||◌, refl, sym, ap, subst, ◌∙◌, arith, true≢false, eq-eqb}
-use Rattle.std.specs.List.{list_any, IsDistinct}
+use Rattle.std.proofs.Common.{◌≡◌, ◌≢◌, ◌⊎◌, inl, inr, ℕ, zero, suc, ◌+◌, ◌^◌, ◌<◌, ◌≤◌, Bool, true, false, cond, nat_eq, not, List, [], ◌∷◌, length, get_or, set, replicate, Option, Some, None, is_some, All, Contains, slice_get, ◌||◌, refl, sym, ap, subst, ◌∙◌, arith, true≢false, eq-eqb}
+use Rattle.std.specs.List.{list_any}
 use Rattle.std.proofs.lemmas.Bool.{eqb-true, eqb-false}
-use Rattle.std.proofs.lemmas.Bool.Decides.{nat_tests}
 use Rattle.std.proofs.lemmas.List.{get_or-set_same, get_or-set_other, length-set}
 use Rattle.std.proofs.lemmas.List.Elements.{All-nil, All-contains, All-weaker, Contains-append_cases}
 use Rattle.std.proofs.lemmas.Option.{get_or_from_slice_get, none-some, same_Some, slice_get_within}
@@ -16,11 +15,11 @@ use Rattle.qd_manifest.specs.declared.shape.TableParts.{TableParts}
 use Rattle.qd_manifest.specs.Spelling.{AreParts, IsManifest, IsPart, blocks_in, blocks_of, rows_shown, schemas_in}
 use Rattle.qd_txnfile.specs.States.{Root}
 use Rattle.qd_catalog.specs.declared.version.Version.{Version}
-use Rattle.qd_catalog.specs.Versions.{Adds, IsListed, IsLive, IsOpened, MayAdd, Retires, SameVersions, Sweeps, Versions, current_n, first_row, is_kept, lists, n_of, new_blocks, next_after, parts_of, rows_in, shown, version_at, written_of}
+use Rattle.qd_catalog.specs.Versions.{Adds, IsListed, IsLive, IsOpened, MayAdd, Retires, SameVersions, Sweeps, Versions, first_row, is_kept, lists, n_of, next_after, rows_in, version_at, written_of}
 use Rattle.qd_versions.specs.Publishing.{MayPublish}
 use Rattle.qd_versions.specs.Reading.{IsPartAt}
 use Rattle.qd_versions.specs.Stores.{AreTables, IsCurrent, IsStore, Store, current_version, manifest_in, stored, stored_version}
-use Rattle.qd_versions.proofs.Blocks.{after_all, few_new, in_listed, listed_in, shown_listed, written_kept}
+use Rattle.qd_versions.proofs.Blocks.{after_all, few_new, listed_in, shown_listed, written_kept}
 
 -- two numbers are one or not
 apart_or_same : (a b : ℕ) → (a ≡ b) ⊎ (a ≢ b)

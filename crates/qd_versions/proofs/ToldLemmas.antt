@@ -1,5 +1,5 @@
 -- What the writing of a version makes of a volume, told or not, from what its steps make of it.
-use Rattle.std.proofs.Common.{◌≡◌, ℕ, ◌+◌, ◌^◌, ◌<◌, ◌≤◌, List, length, slice_index_or, Option, Result, Ok, Err}
+use Rattle.std.proofs.Common.{◌≡◌, ◌⊎◌, ℕ, ◌+◌, ◌^◌, ◌<◌, ◌≤◌, List, length, slice_index_or, Option, Result, Ok, Err, OnErr}
 use Rattle.std.specs.Arc.{arc_value}
 use Rattle.qd_io.specs.declared.fault.IoFault.{IoFault}
 use Rattle.qd_volume.specs.Disk.{Disk}
@@ -7,26 +7,20 @@ use Rattle.qd_durable.specs.Moments.{Told}
 use Rattle.qd_durable.proofs.Writes.{told_both, told_map, told_still}
 use Rattle.qd_txnfile.specs.Calls.{Flips, WritesBody}
 use Rattle.qd_txnfile.specs.Calls as root
-use Rattle.qd_txnfile.specs.States.{IsDirty, Root}
+use Rattle.qd_txnfile.specs.declared.half.Other.TheVariants as other
+use Rattle.qd_txnfile.specs.States.{IsDirty, Root, with_other}
 use Rattle.qd_txnfile.specs.Versions.{Version}
 use Rattle.qd_column_files.specs.Calls.{PutsBlock, RemovesBlock}
+use Rattle.qd_versions.specs.declared.fault.PublishFault.{PublishFault}
+use Rattle.qd_versions.specs.declared.fault.PublishFault.TheVariants as publish
 use Rattle.qd_versions.specs.declared.published.NewBlock.{NewBlock}
-use Rattle.qd_versions.specs.Writing.{Clears, LaysDown, PutsBlocks, Turns}
-use Rattle.qd_versions.proofs.Steps.{AreAt, AreFew, HasPut, all_put, clear_not_repaired, clear_removed, lay_not_put, lay_not_repaired, lay_turned, put_failed, put_more, put_none, turn_flipped, turn_not_begun}
+use Rattle.qd_versions.specs.Faults.{publish_fault, together}
+use Rattle.qd_versions.specs.Writing.{Clears, GivesUp, LaysDown, PutsBeside, PutsBlocks, RemovesBlocks}
+use Rattle.qd_versions.proofs.Steps.{AreAt, AreFew, HasPut, HasRemoved, all_put, alone_behind, beside_not_put, beside_not_written, beside_written, clear_not_repaired, clear_removed, given_up, lay_flipped, lay_given_up, lay_not_flipped, lay_not_repaired, left_over, put_failed, put_more, put_none, removed_all, removed_more, removed_none}
 
 -- what a call of this crate answers
 abbrev pub Answer : Type 0
 Answer = Result (Unit {0}) IoFault
-
--- ---- a version, and its gate
-
-pub turn_failed_told : (fault : IoFault) (before after : Root) (next : Version) (old new : Option Disk) → Told old new (WritesBody before after next) → Told old new (Turns {T = Unit {0}} (Err fault) before after next)
-turn_failed_told fault before after next old new told =
-    told_map (WritesBody before after next) (Turns {T = Unit {0}} (Err fault) before after next) old new (λ a b wrote. turn_not_begun fault before after next a b wrote) told
-
-pub turn_told : (result : Answer) (before between after : Root) (next : Version) (old mid new : Option Disk) → Told old mid (WritesBody before between next) → Told mid new (Flips result between after) → Told old new (Turns result before after next)
-turn_told result before between after next old mid new wrote flips =
-    told_both (WritesBody before between next) (Flips result between after) (Turns result before after next) old mid new (λ a b c w f. turn_flipped result before between after next a b c w f) wrote flips
 
 -- ---- the files of new blocks
 
@@ -48,28 +42,87 @@ pub all_put_told : (done : Unit {0}) (next : ℕ) (blocks : List NewBlock) (old 
 all_put_told done next blocks old new told =
     told_map (HasPut next (length blocks) blocks) (PutsBlocks {E = IoFault} (Ok done) next blocks) old new (λ a b had. all_put done next blocks a b had) told
 
+-- ---- a version beside the current one
+
+module _ (before : Root) (next : ℕ) (v : Version) (blocks : List NewBlock) where
+  pub beside_not_put_told : (fault answer : IoFault) (old new : Option Disk) → Told old new (PutsBlocks {T = Unit {0}} (Err fault) next blocks) → Told old new (PutsBeside {T = Unit {0}} (Err answer) before before next v blocks)
+  beside_not_put_told fault answer old new puts =
+      told_map (PutsBlocks {T = Unit {0}} (Err fault) next blocks) (PutsBeside {T = Unit {0}} (Err answer) before before next v blocks) old new
+      (λ a b p. beside_not_put before next v blocks fault answer a b p) puts
+
+  pub beside_told : (after : Root) (few : AreFew (length blocks) blocks) (done : Unit {0}) (result : Answer) (old mid new : Option Disk) → OnErr result ((after ≡ with_other before other.Older) ⊎ (after ≡ with_other before other.Closed))
+      → Told old mid (PutsBlocks {E = IoFault} (Ok done) next blocks) → Told mid new (WritesBody before after v) → Told old new (PutsBeside result before after next v blocks)
+  beside_told after few done (Ok answer) old mid new stays puts wrote =
+      told_both (PutsBlocks {E = IoFault} (Ok done) next blocks) (WritesBody before after v) (PutsBeside {E = IoFault} (Ok answer) before after next v blocks) old mid new
+      (λ a b c p w. beside_written before next v blocks {E = IoFault} after few done a b c p w answer) puts wrote
+  beside_told after few done (Err fault) old mid new stays puts wrote =
+      told_both (PutsBlocks {E = IoFault} (Ok done) next blocks) (WritesBody before after v) (PutsBeside {T = Unit {0}} (Err fault) before after next v blocks) old mid new
+      (λ a b c p w. beside_not_written before next v blocks after few done a b c p w fault (alone_behind before after stays)) puts wrote
+
+-- ---- what was put is removed
+
+pub removed_none_told : (next : ℕ) (blocks : List NewBlock) (old : Option Disk) → Told old old (HasRemoved (Ok tt) next 0 blocks)
+removed_none_told next blocks old = told_still (HasRemoved (Ok tt) next 0 blocks) old (removed_none next blocks)
+
+pub removed_more_told : (next count : ℕ) (blocks : List NewBlock) → AreAt next blocks → next + length blocks ≤ 2 ^ 52 → count < length blocks → (new : NewBlock) → ((d : NewBlock) → slice_index_or blocks count d ≡ new)
+    → (outcome removed : Answer) (old mid now : Option Disk) → Told old mid (HasRemoved outcome next count blocks) → Told mid now (RemovesBlock removed new.block) → Told old now (HasRemoved (together outcome removed) next (count + 1) blocks)
+removed_more_told next count blocks at small here new is outcome removed old mid now had removes =
+    told_both (HasRemoved outcome next count blocks) (RemovesBlock removed new.block) (HasRemoved (together outcome removed) next (count + 1) blocks) old mid now
+    (λ a b c h r. removed_more next count blocks at small here a b c new is outcome removed h r) had removes
+
+pub removed_all_told : (outcome : Answer) (next : ℕ) (blocks : List NewBlock) (old new : Option Disk) → Told old new (HasRemoved outcome next (length blocks) blocks) → Told old new (RemovesBlocks outcome next blocks)
+removed_all_told outcome next blocks old new told =
+    told_map (HasRemoved outcome next (length blocks) blocks) (RemovesBlocks outcome next blocks) old new (λ a b had. removed_all outcome next blocks a b had) told
+
+pub given_up_told : (cause : IoFault) (done : Unit {0}) (next : ℕ) (blocks : List NewBlock) (old new : Option Disk) → Told old new (RemovesBlocks {E = IoFault} (Ok done) next blocks) → Told old new (GivesUp (publish_fault cause) next blocks)
+given_up_told cause done next blocks old new told =
+    told_map (RemovesBlocks {E = IoFault} (Ok done) next blocks) (GivesUp (publish_fault cause) next blocks) old new (λ a b removes. given_up cause done next blocks a b removes) told
+
+pub left_over_told : (cause fault : IoFault) (next : ℕ) (blocks : List NewBlock) (old new : Option Disk) → Told old new (RemovesBlocks {T = Unit {0}} (Err fault) next blocks) → Told old new (GivesUp (publish.Unremoved cause) next blocks)
+left_over_told cause fault next blocks old new told =
+    told_map (RemovesBlocks {T = Unit {0}} (Err fault) next blocks) (GivesUp (publish.Unremoved cause) next blocks) old new (λ a b removes. left_over cause fault next blocks a b removes) told
+
 -- ---- all of it
 
 module _ (before after : Root) (next : ℕ) (v : Version) (blocks : List NewBlock) where
-  pub lay_not_repaired_told : (fault answer : IoFault) (old new : Option Disk) → (IsDirty after.other → IsDirty before.other) → Told old new (root.Repairs {T = Unit {0}} (Err fault) before after) → Told old new (LaysDown {T = Unit {0}} (Err answer) before after next v blocks)
+  -- what an Err of all of it tells
+  abbrev Fails : PublishFault → Disk → Disk → Type 0
+  Fails answer = LaysDown {T = Unit {0}} (Err answer) before after next v blocks
+
+  pub lay_not_repaired_told : (fault : IoFault) (answer : PublishFault) (old new : Option Disk) → (IsDirty after.other → IsDirty before.other) → Told old new (root.Repairs {T = Unit {0}} (Err fault) before after) → Told old new (Fails answer)
   lay_not_repaired_told fault answer old new dirty told =
-      told_map (root.Repairs {T = Unit {0}} (Err fault) before after) (LaysDown {T = Unit {0}} (Err answer) before after next v blocks) old new
+      told_map (root.Repairs {T = Unit {0}} (Err fault) before after) (Fails answer) old new
       (λ a b r. lay_not_repaired before after next v blocks fault answer a b dirty r) told
 
-  pub lay_not_put_told : (done : Unit {0}) (fault answer : IoFault) (old mid new : Option Disk) → (IsDirty after.other → ⊥) → Told old mid (root.Repairs {E = IoFault} (Ok done) before after) → Told mid new (PutsBlocks {T = Unit {0}} (Err fault) next blocks) → Told old new (LaysDown {T = Unit {0}} (Err answer) before after next v blocks)
-  lay_not_put_told done fault answer old mid new clean repairs puts =
-      told_both (root.Repairs {E = IoFault} (Ok done) before after) (PutsBlocks {T = Unit {0}} (Err fault) next blocks) (LaysDown {T = Unit {0}} (Err answer) before after next v blocks) old mid new
-      (λ a b c r p. lay_not_put before after next v blocks done fault answer a b c clean r p) repairs puts
+  -- the root is repaired, and a version stands beside the current one, or not
+  module _ (mid late : Root) (done : Unit {0}) (result : Answer) (old from to : Option Disk) (repairs : Told old from (root.Repairs {E = IoFault} (Ok done) before mid)) (beside : Told from to (PutsBeside result mid late next v blocks)) where
+    abbrev Both : Disk → Disk → Type 0
+    Both a c = (b : Disk) × root.Repairs {E = IoFault} (Ok done) before mid a b × PutsBeside result mid late next v blocks b c
 
-  pub lay_told : (between : Root) (few : AreFew (length blocks) blocks) (done again : Unit {0}) (result : Answer) (old mid late new : Option Disk) → Told old mid (root.Repairs {E = IoFault} (Ok done) before between) → Told mid late (PutsBlocks {E = IoFault} (Ok again) next blocks) → Told late new (Turns result between after v) → Told old new (LaysDown result before after next v blocks)
-  lay_told between few done again result old mid late new repairs puts turns =
-      told_both Both (Turns result between after v) (LaysDown result before after next v blocks) old late new
-      (λ a c d both t. lay_turned before after next v blocks between few done again result a both.0 c d both.1 both.2 t)
-      (told_both (root.Repairs {E = IoFault} (Ok done) before between) (PutsBlocks {E = IoFault} (Ok again) next blocks) Both old mid late (λ a b c r p. (b, r, p)) repairs puts)
-      turns
+    both_told : Told old to Both
+    both_told = told_both (root.Repairs {E = IoFault} (Ok done) before mid) (PutsBeside result mid late next v blocks) Both old from to (λ a b c r p. (b, r, p)) repairs beside
+
+  pub lay_given_up_told : (mid : Root) (done : Unit {0}) (fault : IoFault) (answer : PublishFault) (old from to new : Option Disk) → (IsDirty after.other → ⊥) → Told old from (root.Repairs {E = IoFault} (Ok done) before mid)
+      → Told from to (PutsBeside {T = Unit {0}} (Err fault) mid after next v blocks) → Told to new (GivesUp answer next blocks) → Told old new (Fails answer)
+  lay_given_up_told mid done fault answer old from to new clean repairs beside gives_up =
+      told_both (Both mid after done (Err fault) old from to repairs beside) (GivesUp answer next blocks) (Fails answer) old to new
+      (λ a c d both g. lay_given_up before after next v blocks mid done fault answer a both.0 c d clean both.1 both.2 g)
+      (both_told mid after done (Err fault) old from to repairs beside) gives_up
+
+  module _ (mid late : Root) (few : AreFew (length blocks) blocks) (done again : Unit {0}) (old from to new : Option Disk) (repairs : Told old from (root.Repairs {E = IoFault} (Ok done) before mid))
+      (beside : Told from to (PutsBeside {E = IoFault} (Ok again) mid late next v blocks))
     where
-      Both : Disk → Disk → Type 0
-      Both a c = (b : Disk) × root.Repairs {E = IoFault} (Ok done) before between a b × PutsBlocks {E = IoFault} (Ok again) next blocks b c
+      pub lay_told : (flipped answer : Unit {0}) → Told to new (Flips {E = IoFault} (Ok flipped) late after) → Told old new (LaysDown (Ok answer) before after next v blocks)
+      lay_told flipped answer flips =
+          told_both (Both mid late done (Ok again) old from to repairs beside) (Flips {E = IoFault} (Ok flipped) late after) (LaysDown (Ok answer) before after next v blocks) old to new
+          (λ a c d both f. lay_flipped before after next v blocks mid late few done again a both.0 c d both.1 both.2 flipped answer f)
+          (both_told mid late done (Ok again) old from to repairs beside) flips
+
+      pub lay_not_flipped_told : (fault : IoFault) (answer : PublishFault) → IsDirty after.other → Told to new (Flips {T = Unit {0}} (Err fault) late after) → Told old new (Fails answer)
+      lay_not_flipped_told fault answer dirty flips =
+          told_both (Both mid late done (Ok again) old from to repairs beside) (Flips {T = Unit {0}} (Err fault) late after) (Fails answer) old to new
+          (λ a c d both f. lay_not_flipped before after next v blocks mid late few done again a both.0 c d both.1 both.2 fault answer dirty f)
+          (both_told mid late done (Ok again) old from to repairs beside) flips
 
 -- ---- the removal of a block's files
 

@@ -1,5 +1,5 @@
 -- What each call makes of a told volume: at every moment inside it, and behind it.
-use Rattle.std.specs.Prelude.{◌≡◌, ◌⊎◌, ℕ, ◌<◌, Bool, ◌||◌, true, false, List, [], ◌∷◌, Option, Some, None, IfSome, slice_get, Result, Ok, Err}
+use Rattle.std.specs.Prelude.{◌⊎◌, ℕ, Bool, ◌||◌, true, List, [], ◌∷◌, IfSome, slice_get, Result, Ok, Err}
 use Rattle.qd_volume.specs.Disk.{Disk}
 use Rattle.qd_durable.specs.Moments.{EachNow, LeavesOnly, Moves, SameBut}
 use Rattle.qd_txnfile.specs.Calls.{ChangesVersionFiles}
@@ -7,9 +7,10 @@ use Rattle.qd_txnfile.specs.States.{GivesKnown, IsDirty}
 use Rattle.qd_txnfile.specs.Versions.{GivesVersion, Version, is_version_file}
 use Rattle.qd_column_files.specs.Calls.{IsGone}
 use Rattle.qd_column_files.specs.Files.{is_file_of}
+use Rattle.qd_versions.specs.declared.fault.PublishFault.{PublishFault}
 use Rattle.qd_versions.specs.declared.published.NewBlock.{NewBlock}
 use Rattle.qd_versions.specs.Stores.{IsRooted, Store, current_version, stored}
-use Rattle.qd_versions.specs.Publishing.{GivesBefore, GivesWhole, HoldsAll, is_published_file}
+use Rattle.qd_versions.specs.Publishing.{GivesBefore, GivesWhole, HoldsAll, IsUndone, is_published_file}
 
 -- version 0, of no table
 abbrev pub no_tables : Version
@@ -45,11 +46,12 @@ IsPublished (Err fault) old new last v blocks before after = ((IsDirty new.root.
 
 -- A version is published: at each moment a crash leaves what it might have left before, with all but the
 -- version files as before; or the current version, behind the repair; or the new version with all of its new
--- blocks.
-pub record Publishes {T E : Type 0} (result : Result T E) (old new : Store) (v : Version) (blocks : List NewBlock) (before after : Disk) : Type 0 where
+-- blocks. Where it failed before the flip, the files of its new blocks are removed, or it says that some may be left.
+pub record Publishes {T : Type 0} (result : Result T PublishFault) (old new : Store) (v : Version) (blocks : List NewBlock) (before after : Disk) : Type 0 where
   pub any_moment : (last : Version) → IsRooted old last before → LeavesOnly before after (λ image. GivesBefore old.root.other (current_version old.versions) last before image ⊎ GivesVersion (current_version old.versions) image ⊎ GivesWhole v blocks image)
   pub behind : (last : Version) → IsRooted old last before → IsPublished result old new last v blocks before after
   pub elsewhere : Moves (SameBut (is_published_file old.versions.next_block)) before after
+  pub removed : IsUndone result new.root.other blocks before after
 
 -- a version file, or one of the block at the front of the queue
 abbrev pub is_swept_file : List ℕ → ℕ → Bool

@@ -1,6 +1,6 @@
 -- The versions of a store, and what is known of them on a told volume. The rule is this project's own: the
 -- current version stands in the version files, and the columns of its parts in the files of their blocks.
-use Rattle.std.specs.Prelude.{◌≡◌, ℕ, ◌^◌, ◌<◌, ◌≤◌, true, List, [], length, is_some, All, Option, Some, None, Contains}
+use Rattle.std.specs.Prelude.{◌≡◌, ℕ, ◌^◌, ◌<◌, ◌≤◌, List, [], length, All, Option, Some, None, Contains}
 use Rattle.qd_base.specs.Lawful.{AreSchemas}
 use Rattle.qd_volume.specs.Disk.{Disk}
 use Rattle.qd_txnfile.specs.States.{Knows, Root}

@@ -5,24 +5,13 @@ use Rattle.qd_base.specs.declared.limits.TheConstants.{MAX_COLUMNS}
 use Rattle.qd_block.specs.Blocks.{Block}
 use Rattle.qd_volume.specs.Disk.{Disk}
 use Rattle.qd_durable.specs.Moments.{EachNow, LeavesOnly, Moves, SameBut}
-use Rattle.qd_txnfile.specs.Calls.{ChangesVersionFiles}
-use Rattle.qd_txnfile.specs.States.{GivesOneOf, IsDirty, Knows, Root}
+use Rattle.qd_txnfile.specs.States.{IsDirty, Knows, Root}
 use Rattle.qd_txnfile.specs.Versions.{GivesVersion, Version, is_version_file}
 use Rattle.qd_column_files.specs.Calls.{IsGone}
 use Rattle.qd_column_files.specs.Files.{is_file_of}
+use Rattle.qd_versions.specs.declared.fault.PublishFault.{PublishFault}
 use Rattle.qd_versions.specs.declared.published.NewBlock.{NewBlock}
-use Rattle.qd_versions.specs.Publishing.{GivesBefore, GivesWhole, HoldsAll, is_file_from, is_published_file}
-
--- what is known behind a turn to the next version
-abbrev pub IsTurned : {T E : Type 0} → Result T E → Root → Version → Version → Disk → Type 0
-IsTurned (Ok done) new current next disk = EachNow disk (GivesVersion next) × ((later : Version) → Knows new next later disk)
-IsTurned (Err fault) new current next disk = Knows new current next disk
-
--- A version is written beside the current one, and made the current one.
-pub record Turns {T E : Type 0} (result : Result T E) (old new : Root) (next : Version) (before after : Disk) : Type 0 where
-  pub any_moment : (current last : Version) → Knows old current last before → LeavesOnly before after (GivesOneOf current next)
-  pub behind : (current last : Version) → Knows old current last before → IsTurned result new current next after
-  pub elsewhere : ChangesVersionFiles before after
+use Rattle.qd_versions.specs.Publishing.{AreCleared, AreGone, GivesBefore, GivesWhole, HoldsAll, IsUndone, is_file_from, is_published_file}
 
 -- a new block has at most as many columns as a table may
 abbrev pub IsNarrow : NewBlock → Type 0
@@ -38,16 +27,46 @@ pub record PutsBlocks {T E : Type 0} (result : Result T E) (next : ℕ) (blocks 
   pub elsewhere : Moves (SameBut (is_file_from next)) before after
   pub held : AreHeld result blocks after
 
+-- what is known behind the writing of a version beside the current one
+abbrev pub IsBeside : {T E : Type 0} → Result T E → Root → Version → Version → Version → Disk → Type 0
+IsBeside (Ok done) new current last v disk = Knows new current v disk
+IsBeside (Err fault) new current last v disk = Knows new current last disk
+
+-- The files of blocks from a number on are put, and a version is written beside the current one: each moment leaves
+-- the current one.
+pub record PutsBeside {T E : Type 0} (result : Result T E) (old new : Root) (next_block : ℕ) (v : Version) (blocks : List NewBlock) (before after : Disk) : Type 0 where
+  pub any_moment : (current last : Version) → Knows old current last before → EachNow before (GivesVersion current) → LeavesOnly before after (GivesVersion current)
+  pub behind : (current last : Version) → Knows old current last before → IsBeside result new current last v after
+  pub held : AreHeld result blocks after
+  pub elsewhere : Moves (SameBut (is_published_file next_block)) before after
+
+-- after an Ok the files of blocks are removed
+abbrev pub AreRemoved : {T E : Type 0} → Result T E → List NewBlock → Disk → Type 0
+AreRemoved (Ok done) blocks disk = AreGone blocks disk
+AreRemoved (Err fault) blocks disk = Unit {0}
+
+-- The files of blocks from a number on are removed.
+pub record RemovesBlocks {T E : Type 0} (result : Result T E) (next : ℕ) (blocks : List NewBlock) (before after : Disk) : Type 0 where
+  pub elsewhere : Moves (SameBut (is_file_from next)) before after
+  pub gone : AreRemoved result blocks after
+
+-- The files of blocks from a number on are removed, as the fault of their publication says.
+pub record GivesUp (cause : PublishFault) (next : ℕ) (blocks : List NewBlock) (before after : Disk) : Type 0 where
+  pub elsewhere : Moves (SameBut (is_file_from next)) before after
+  pub cleared : AreCleared cause blocks after
+
 -- what is known behind the writing of a version
 abbrev pub IsLaid : {T E : Type 0} → Result T E → Root → Root → Version → Version → Version → List NewBlock → Disk → Disk → Type 0
 IsLaid (Ok done) old new current last v blocks before after = EachNow after (GivesWhole v blocks) × ((later : Version) → Knows new v later after)
 IsLaid (Err fault) old new current last v blocks before after = ((IsDirty new.other → IsDirty old.other) × (Knows new current last after × Moves (SameBut is_version_file) before after)) ⊎ (Knows new current last after × (IsDirty new.other → ⊥)) ⊎ (Knows new current v after × EachNow after (HoldsAll blocks))
 
--- The root is repaired, the files of new blocks are put, and a version is written and made the current one.
-pub record LaysDown {T E : Type 0} (result : Result T E) (old new : Root) (next_block : ℕ) (v : Version) (blocks : List NewBlock) (before after : Disk) : Type 0 where
+-- The root is repaired, the files of new blocks are put, and a version is written and made the current one. Where that
+-- fails before the flip, the files of new blocks are removed.
+pub record LaysDown {T : Type 0} (result : Result T PublishFault) (old new : Root) (next_block : ℕ) (v : Version) (blocks : List NewBlock) (before after : Disk) : Type 0 where
   pub any_moment : (current last : Version) → Knows old current last before → LeavesOnly before after (λ image. GivesBefore old.other current last before image ⊎ GivesVersion current image ⊎ GivesWhole v blocks image)
   pub behind : (current last : Version) → Knows old current last before → IsLaid result old new current last v blocks before after
   pub elsewhere : Moves (SameBut (is_published_file next_block)) before after
+  pub removed : IsUndone result new.other blocks before after
 
 -- The root is repaired, and the files of a block are removed.
 pub record Clears {T E : Type 0} (result : Result T E) (old new : Root) (block : ℕ) (before after : Disk) : Type 0 where

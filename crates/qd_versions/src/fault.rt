@@ -18,6 +18,10 @@ pub enum PublishFault {
     /// There was no memory.
     #[error("out of memory")]
     Memory,
+    /// The publication failed, and so did the removal of the files that it had put: some of them may be left.
+    /// The volume failed at one or the other where this says so, and there was no memory else.
+    #[error("files of blocks that are in no version may be left")]
+    Unremoved(IoFault),
 }
 
 impl From<IoFault> for PublishFault {

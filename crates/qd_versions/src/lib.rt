@@ -13,6 +13,7 @@ mod laws;
 mod opening;
 mod published;
 mod store;
+mod undoing;
 mod writing;
 
 pub use fault::PublishFault;

@@ -161,9 +161,10 @@ impl VersionStore {
     ///
     /// At every moment a crash leaves what it might have left before, or the new version with all of its new
     /// blocks; after an `Ok` only that. After an `Err` the versions are as before. [`PublishFault::NoRow`]
-    /// comes exactly where all rows are live, and before any call of the volume. Behind [`PublishFault::Vol`]
-    /// and [`PublishFault::Memory`] the call may be made again; where the store is [dirty] a crash may leave
-    /// the new version.
+    /// comes exactly where all rows are live, and before any call of the volume. Behind the others the call may
+    /// be made again; where the store is [dirty] a crash may leave the new version. Where it isn't, and the call
+    /// came behind the repair, the files of new blocks read as empty: they were removed, at two calls for each of
+    /// 256 columns of a block. [`PublishFault::Unremoved`] says that a removal failed, and some may be left.
     ///
     /// [dirty]: VersionStore::dirty
     pub fn publish<V: Volume>(
@@ -184,7 +185,7 @@ impl VersionStore {
         ensures untouched { result ≡ Err fault.NoRow → (V.storage volume.new ≡ V.storage volume.old) × (self.new ≡ self.old) }
         ensures told { Told (V.storage volume.old).disk (V.storage volume.new).disk (Publishes result self.old self.new (stored n (self.old.versions.next_block + length blocks.now) shape.now) blocks.now) }
 
-        // The count of faults rises exactly where `Vol` is answered.
+        // The count of faults rises exactly where `Vol` is answered, or `Unremoved` with a fault of the volume.
         ensures counted { CountsPublish (V.storage volume.old).faults (V.storage volume.new).faults result }
     {
         if !has_free_row(&self.catalog) {

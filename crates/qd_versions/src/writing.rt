@@ -2,35 +2,21 @@
 ghost use Rattle.qd_durable.specs.Moments.{Told};
 ghost use Rattle.qd_io.specs.Ends.{Counts};
 ghost use Rattle.qd_txnfile.specs.declared.half.Other.TheVariants as other;
-ghost use Rattle.qd_txnfile.specs.States.{IsDirty};
+ghost use Rattle.qd_txnfile.specs.States.{IsDirty, with_other};
 ghost use Rattle.qd_versions.specs.Publishing.{AreNumbered};
-ghost use Rattle.qd_versions.specs.Writing.{Clears, IsNarrow, LaysDown, PutsBlocks, Turns};
-ghost use Rattle.std.specs.Prelude.{◌≡◌, ◌+◌, ◌^◌, ◌<◌, ◌≤◌, length, All, OnErr, OnOk};
+ghost use Rattle.qd_versions.specs.Faults.{CountsPublish};
+ghost use Rattle.qd_versions.specs.Writing.{Clears, IsNarrow, LaysDown, PutsBeside, PutsBlocks};
+ghost use Rattle.qd_versions.specs.declared.fault.PublishFault.TheVariants as fault;
+ghost use Rattle.std.specs.Prelude.{◌≡◌, ◌≢◌, ◌+◌, ◌^◌, ◌<◌, ◌≤◌, length, All, IfErr, OnErr, OnOk};
 
+use crate::fault::PublishFault;
 use crate::published::NewBlock;
+use crate::undoing::give_up;
 use qd_column_files::{put_block, remove_block};
 use qd_io::IoFault;
 use qd_txnfile::TxnFile;
 use qd_volume::Volume;
 use std::alloc::Global;
-
-/// Writes a version beside the current one, and makes it the current one.
-fn turn<V: Volume>(
-    root: &mut TxnFile,
-    volume: &mut V,
-    n: u64,
-    manifest: &[u8],
-) -> Result<(), IoFault>
-    requires newer { root.old.n < n }
-    requires clean { IsDirty root.old.other → ⊥ }
-    ensures turned { OnOk result (root.new.n ≡ n) }
-    ensures stays { OnErr result (root.new.n ≡ root.old.n) }
-    ensures told { Told (V.storage volume.old).disk (V.storage volume.new).disk (Turns result root.old root.new (record { n = n; manifest = manifest.now })) }
-    ensures counted { Counts (V.storage volume.old).faults (V.storage volume.new).faults result }
-{
-    root.write_body(volume, n, manifest)?;
-    root.flip(volume)
-}
 
 /// Puts the files of new blocks, which are numbered upwards.
 fn put_blocks<V: Volume>(
@@ -52,9 +38,8 @@ fn put_blocks<V: Volume>(
     Ok(())
 }
 
-/// Closes the gate that a failed publication may have left open, puts the files of new blocks, and writes the
-/// version and makes it the current one.
-pub(crate) fn lay_down<V: Volume>(
+/// Puts the files of new blocks, and writes a version beside the current one.
+fn put_beside<V: Volume>(
     root: &mut TxnFile,
     alloc: Global,
     volume: &mut V,
@@ -64,16 +49,46 @@ pub(crate) fn lay_down<V: Volume>(
     blocks: &[NewBlock],
 ) -> Result<(), IoFault>
     requires newer { root.old.n < n }
+    requires clean { IsDirty root.old.other → ⊥ }
+    requires numbered { AreNumbered next blocks.now }
+    requires small { next + length blocks.now ≤ 2 ^ 52 }
+    ensures few { OnOk result (All IsNarrow blocks.now) }
+    ensures written { OnOk result (root.new ≡ with_other root.old (other.Written n)) }
+    ensures clean { IsDirty root.new.other → ⊥ }
+    ensures number { root.new.n ≡ root.old.n }
+    ensures told { Told (V.storage volume.old).disk (V.storage volume.new).disk (PutsBeside result root.old root.new next (record { n = n; manifest = manifest.now }) blocks.now) }
+    ensures counted { Counts (V.storage volume.old).faults (V.storage volume.new).faults result }
+{
+    put_blocks(alloc, volume, next, blocks)?;
+    root.write_body(volume, n, manifest)
+}
+
+/// Closes the gate that a failed publication may have left open, puts the files of new blocks, and writes the
+/// version and makes it the current one. Where that fails before the flip, the files of new blocks are removed.
+pub(crate) fn lay_down<V: Volume>(
+    root: &mut TxnFile,
+    alloc: Global,
+    volume: &mut V,
+    n: u64,
+    manifest: &[u8],
+    next: u64,
+    blocks: &[NewBlock],
+) -> Result<(), PublishFault>
+    requires newer { root.old.n < n }
     requires numbered { AreNumbered next blocks.now }
     requires small { next + length blocks.now ≤ 2 ^ 52 }
     ensures turned { OnOk result (root.new.n ≡ n) }
     ensures stays { OnErr result (root.new.n ≡ root.old.n) }
+    ensures row { IfErr result (λ cause. cause ≢ fault.NoRow) }
     ensures told { Told (V.storage volume.old).disk (V.storage volume.new).disk (LaysDown result root.old root.new next (record { n = n; manifest = manifest.now }) blocks.now) }
-    ensures counted { Counts (V.storage volume.old).faults (V.storage volume.new).faults result }
+    ensures counted { CountsPublish (V.storage volume.old).faults (V.storage volume.new).faults result }
 {
     root.repair(volume)?;
-    put_blocks(alloc, volume, next, blocks)?;
-    turn(root, volume, n, manifest)
+    if let Err(cause) = put_beside(root, alloc, volume, n, manifest, next, blocks) {
+        return Err(give_up(volume, next, blocks, cause));
+    }
+    root.flip(volume)?;
+    Ok(())
 }
 
 /// Closes the gate that a failed publication may have left open, and removes the files of a block.

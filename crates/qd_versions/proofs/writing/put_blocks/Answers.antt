@@ -1,4 +1,4 @@
-use Rattle.std.proofs.Common.{◌≡◌, ◌+◌, ◌<◌, ◌≤◌, ℕ, List, length, slice_index_or, Err, Ok, ap, sym, refl, ◌∙◌, subst, arith}
+use Rattle.std.proofs.Common.{◌≡◌, ◌<◌, ◌≤◌, length, Err, Ok, refl, ◌∙◌, subst, arith}
 use Rattle.std.proofs.lemmas.Result.{err_from_is_err_and}
 use Rattle.std.specs.Arc.{arc_value}
 use Rattle.qd_base.specs.declared.limits.TheConstants.{MAX_COLUMNS}
@@ -6,17 +6,12 @@ use Rattle.qd_block.specs.Blocks.{Block}
 use Rattle.qd_io.specs.declared.fault.IoFault.{IoFault}
 use Rattle.qd_durable.specs.Moments.{Told}
 use Rattle.qd_column_files.specs.Calls.{PutsBlock}
-use Rattle.qd_versions.specs.declared.published.NewBlock.{NewBlock}
-use Rattle.qd_versions.proofs.Steps.{AreAt, few_more, item_is, numbered_at}
+use Rattle.qd_versions.proofs.Steps.{block_at, few_more, item_is, numbered_at}
 use Rattle.qd_versions.proofs.ToldLemmas.{put_failed_told, put_more_told, put_none_told}
 use Rattle.qd_versions.proofs.writing.put_blocks.Goals as goal
 
 pub loop-added-init : goal.loop-added-init
 loop-added-init g c = (put_none_told c.args.next c.args.blocks.now _, λ k d less. absurd (omega arith), refl)
-
--- the number of a block of so many behind a first one
-block_at : (next count : ℕ) (blocks : List NewBlock) (new : NewBlock) → AreAt next blocks → count < length blocks → ((d : NewBlock) → slice_index_or blocks count d ≡ new) → new.block ≡ next + count
-block_at next count blocks new at here is = sym (ap (λ (b : NewBlock). b.block) (is new)) ∙ at count new here
 
 pub put_block-requires : goal.put_block-requires
 put_block-requires g c =

@@ -1,6 +1,5 @@
-use Rattle.std.proofs.Common.{◌≡◌, ℕ, ◌+◌, ◌<◌, List, length, Ok, Err, refl, sym, ap, ◌∙◌, subst, arith}
+use Rattle.std.proofs.Common.{◌≡◌, ℕ, ◌+◌, List, length, Ok, Err, refl, sym, ◌∙◌, subst}
 use Rattle.std.proofs.lemmas.Result.{err_from_is_err_and}
-use Rattle.qd_io.specs.declared.fault.IoFault.{IoFault}
 use Rattle.qd_durable.specs.Moments.{Told}
 use Rattle.qd_txnfile.specs.Versions.{Version}
 use Rattle.qd_manifest.specs.declared.shape.TableParts.{TableParts}
@@ -18,7 +17,7 @@ use Rattle.qd_versions.proofs.store.VersionStore.publish.Goals as goal
 
 pub returns-then-not-has_free_row-clause-told : goal.returns-then-not-has_free_row-clause-told
 returns-then-not-has_free_row-clause-told g c =
-    publish_none_told PublishFault c.args.self.now c.args.self.now (stored c.args.n (c.args.self.now.versions.next_block + length c.args.blocks.now) c.args.shape.now) c.args.blocks.now fault.NoRow _ refl refl
+    publish_none_told c.args.self.now c.args.self.now (stored c.args.n (c.args.self.now.versions.next_block + length c.args.blocks.now) c.args.shape.now) c.args.blocks.now fault.NoRow _ refl refl
 
 pub invariant_of-self : goal.invariant_of-self
 invariant_of-self g c =
@@ -34,8 +33,8 @@ returns-in_err-manifest-clause-told g c =
     let n = c.args.n in
     let after : Store = record { root = c.self.inside.root; versions = c.prepare.new.catalog } in
     rw p.1
-    (subst (λ (s : Store). Told (g.V.Volume.storage c.args.volume.now).disk (g.V.Volume.storage c.args.volume.now).disk (Publishes {T = ℕ} {E = PublishFault} (Err p.0) s after (stored n (s.versions.next_block + length blocks) shape) blocks)) c.self.view_is
-    (publish_none_told PublishFault before after (stored n (next + length blocks) shape) blocks p.0 _ refl (version_same before after c.self.invariant c.prepare.ensures.same refl)))
+    (subst (λ (s : Store). Told (g.V.Volume.storage c.args.volume.now).disk (g.V.Volume.storage c.args.volume.now).disk (Publishes {T = ℕ} (Err p.0) s after (stored n (s.versions.next_block + length blocks) shape) blocks)) c.self.view_is
+    (publish_none_told before after (stored n (next + length blocks) shape) blocks p.0 _ refl (version_same before after c.self.invariant c.prepare.ensures.same refl)))
 
 pub lay_down-requires-clause-newer : goal.lay_down-requires-clause-newer
 lay_down-requires-clause-newer g c =
@@ -64,11 +63,11 @@ returns-in_err-lay_down-clause-told g c =
     let whole : c.bytes.result.now ≡ manifest_bytes (manifest_in (next + length blocks) shape) = c.bytes.ensures.same ∙ c.in_ok-manifest.ensures.manifest in
     let old = (g.V.Volume.storage c.args.volume.now).disk in
     let new = (g.V.Volume.storage c.lay_down.new.volume).disk in
-    let told = subst (λ (m : List ℕ). Told old new (LaysDown {T = Unit {0}} {E = IoFault} (Err c.in_err-lay_down.field-0.0) c.self.inside.root c.lay_down.new.root next (record { n = n; manifest = m }) blocks)) whole
-    (subst (λ (k : ℕ). Told old new (LaysDown {T = Unit {0}} {E = IoFault} (Err c.in_err-lay_down.field-0.0) c.self.inside.root c.lay_down.new.root k (record { n = n; manifest = c.bytes.result.now }) blocks)) c.next_block-next.ensures.next c.in_err-lay_down.ensures.told) in
+    let told = subst (λ (m : List ℕ). Told old new (LaysDown {T = Unit {0}} (Err c.in_err-lay_down.field-0.0) c.self.inside.root c.lay_down.new.root next (record { n = n; manifest = m }) blocks)) whole
+    (subst (λ (k : ℕ). Told old new (LaysDown {T = Unit {0}} (Err c.in_err-lay_down.field-0.0) c.self.inside.root c.lay_down.new.root k (record { n = n; manifest = c.bytes.result.now }) blocks)) c.next_block-next.ensures.next c.in_err-lay_down.ensures.told) in
     rw p.1
-    (subst (λ (s : Store). Told (g.V.Volume.storage c.args.volume.now).disk (g.V.Volume.storage c.lay_down.new.volume).disk (Publishes {T = ℕ} {E = PublishFault} (Err p.0) s after (stored n (s.versions.next_block + length blocks) shape) blocks)) c.self.view_is
-    (publish_failed_told PublishFault before after v blocks c.in_err-lay_down.field-0.0 p.0 _ _ (version_same before after c.self.invariant c.prepare.ensures.same c.in_err-lay_down.ensures.stays) told))
+    (subst (λ (s : Store). Told (g.V.Volume.storage c.args.volume.now).disk (g.V.Volume.storage c.lay_down.new.volume).disk (Publishes {T = ℕ} (Err p.0) s after (stored n (s.versions.next_block + length blocks) shape) blocks)) c.self.view_is
+    (publish_failed_told before after v blocks p.0 _ _ (version_same before after c.self.invariant c.prepare.ensures.same c.in_err-lay_down.ensures.stays) (subst (λ (f : PublishFault). Told old new (LaysDown {T = Unit {0}} (Err f) c.self.inside.root c.lay_down.new.root next v blocks)) (sym p.2) told)))
 
 pub add_row-requires-clause-may : goal.add_row-requires-clause-may
 add_row-requires-clause-may g c =
@@ -106,8 +105,8 @@ returns-clause-told g c =
     let whole : c.bytes.result.now ≡ manifest_bytes (manifest_in (next + length blocks) shape) = c.bytes.ensures.same ∙ c.in_ok-manifest.ensures.manifest in
     let old = (g.V.Volume.storage c.args.volume.now).disk in
     let new = (g.V.Volume.storage c.lay_down.new.volume).disk in
-    let told = subst (λ (m : List ℕ). Told old new (LaysDown {T = Unit {0}} {E = IoFault} (Ok c.in_ok-lay_down.field-0) c.self.inside.root c.lay_down.new.root next (record { n = n; manifest = m }) blocks)) whole
-    (subst (λ (k : ℕ). Told old new (LaysDown {T = Unit {0}} {E = IoFault} (Ok c.in_ok-lay_down.field-0) c.self.inside.root c.lay_down.new.root k (record { n = n; manifest = c.bytes.result.now }) blocks)) c.next_block-next.ensures.next c.in_ok-lay_down.ensures.told) in
-    subst (λ (s : Store). Told (g.V.Volume.storage c.args.volume.now).disk (g.V.Volume.storage c.lay_down.new.volume).disk (Publishes {T = ℕ} {E = PublishFault} (Ok c.add_row.result) s after (stored n (s.versions.next_block + length blocks) shape) blocks)) c.self.view_is
-    (publish_done_told PublishFault before after v blocks c.in_ok-lay_down.field-0 c.add_row.result _ _
+    let told = subst (λ (m : List ℕ). Told old new (LaysDown {T = Unit {0}} (Ok c.in_ok-lay_down.field-0) c.self.inside.root c.lay_down.new.root next (record { n = n; manifest = m }) blocks)) whole
+    (subst (λ (k : ℕ). Told old new (LaysDown {T = Unit {0}} (Ok c.in_ok-lay_down.field-0) c.self.inside.root c.lay_down.new.root k (record { n = n; manifest = c.bytes.result.now }) blocks)) c.next_block-next.ensures.next c.in_ok-lay_down.ensures.told) in
+    subst (λ (s : Store). Told (g.V.Volume.storage c.args.volume.now).disk (g.V.Volume.storage c.lay_down.new.volume).disk (Publishes {T = ℕ} (Ok c.add_row.result) s after (stored n (s.versions.next_block + length blocks) shape) blocks)) c.self.view_is
+    (publish_done_told before after v blocks c.in_ok-lay_down.field-0 c.add_row.result _ _
     (version_added before c.self.invariant n shape (length blocks) may c.prepare.new.catalog c.prepare.ensures.same after c.add_row.result adds c.in_ok-lay_down.ensures.turned) told)

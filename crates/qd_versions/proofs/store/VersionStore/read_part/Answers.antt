@@ -4,7 +4,6 @@ use Rattle.qd_base.specs.declared.part.Part.{Part}
 use Rattle.qd_base.specs.Lawful.{IsSchema}
 use Rattle.qd_manifest.specs.declared.shape.TableParts.{TableParts}
 use Rattle.qd_manifest.specs.Spelling.{IsPart}
-use Rattle.qd_catalog.specs.Versions.{Versions}
 use Rattle.qd_versions.specs.Reading.{IsPartAt}
 use Rattle.qd_versions.specs.Stores.{Store}
 use Rattle.qd_versions.proofs.Stores.{part_lawful}

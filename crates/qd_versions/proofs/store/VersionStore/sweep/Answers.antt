@@ -1,4 +1,4 @@
-use Rattle.std.proofs.Common.{◌≡◌, Bool, true, Ok, Err, [], refl, sym, subst}
+use Rattle.std.proofs.Common.{◌≡◌, true, Ok, Err, [], refl, subst}
 use Rattle.std.proofs.lemmas.Result.{err_from_is_err_and}
 use Rattle.qd_io.specs.declared.fault.IoFault.{IoFault}
 use Rattle.qd_durable.specs.Moments.{Told}

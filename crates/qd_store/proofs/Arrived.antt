@@ -29,7 +29,7 @@ use Rattle.qd_store.specs.Damage.{IsDamagedOver}
 use Rattle.qd_store.specs.Drafting.{AreArrived, AreSomeTaken, AreTaken, HasArrived, HasTaken, IsArrived, IsArrivedFrom}
 use Rattle.qd_store.specs.Drafts.{between}
 use Rattle.qd_store.specs.Prefixes.{IsShown}
-use Rattle.qd_store.specs.Stores.{IsStore, Store}
+use Rattle.qd_store.specs.Stores.{Book, IsStore}
 use Rattle.qd_store.proofs.Between.{lawful_between, no_break, spelled_between, spelled_one}
 
 -- a draft over a version, in which nothing has arrived
@@ -50,7 +50,7 @@ has_arrived next x es count upto draft d is reaches has =
 
 -- ---- of a history
 
-module _ (s : Store) (h : List Entry) (next : root.Version) (disk : Disk) (is : IsStore s h next disk) (x : Version) (at : version_at s.versions.versions s.versions.versions.current ≡ Some x) where
+module _ (s : Book) (h : List Entry) (next : root.Version) (disk : Disk) (is : IsStore s h next disk) (x : Version) (at : version_at s.versions.versions s.versions.versions.current ≡ Some x) where
   pub shown_now : IsShown h x.n x.shape disk
   shown_now = is.versions.live s.versions.versions.current x at
 
@@ -122,7 +122,7 @@ module _ (x : Version) (n : ℕ) (shape : List TableParts) (number : n ≡ x.n) 
             subst (λ (k : ℕ). HasArrived k x some.0 upto d) (sym block) (has_arrived next x some.0 (length (slice_range list n upto)) upto draft d begins reaches some.1),
           )) taken
 
-      pub arrived_told : (s : Store) → s.versions.versions.next_block ≡ next → s.sequence.refs ≡ refs
+      pub arrived_told : (s : Book) → s.versions.versions.next_block ≡ next → s.sequence.refs ≡ refs
           → version_at s.versions.versions s.versions.versions.current ≡ Some x → OneEntryIsRead → (o : Option Disk)
           → IfSome o (λ disk. AreTaken result (slice_range list n upto) draft (reads_of disk))
           → IfSome o (λ disk. (h : List Entry) (last : root.Version) → IsStore s h last disk → IsArrivedFrom result s h upto)
@@ -132,7 +132,7 @@ module _ (x : Version) (n : ℕ) (shape : List TableParts) (number : n ≡ x.n) 
           (are ∙ ap (λ (l : List WalRef). slice_range l x.n upto) (sym refs_same)) (omega (arith, few, ap length refs_same)) taken
 
       -- whatever the files hold
-      module _ (s : Store) (block : s.versions.versions.next_block ≡ next) (refs_same : s.sequence.refs ≡ refs) (at : version_at s.versions.versions s.versions.versions.current ≡ Some x) where
+      module _ (s : Book) (block : s.versions.versions.next_block ≡ next) (refs_same : s.sequence.refs ≡ refs) (at : version_at s.versions.versions s.versions.versions.current ≡ Some x) where
         places : slice_range list n upto ≡ slice_range s.sequence.refs x.n upto
         places = are ∙ ap (λ (l : List WalRef). slice_range l x.n upto) (sym refs_same)
 

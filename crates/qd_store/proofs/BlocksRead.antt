@@ -20,7 +20,7 @@ use Rattle.qd_txnfile.specs.Versions.{Version}
 use Rattle.qd_volume.specs.Disk.{Disk, Image, reads_of}
 use Rattle.qd_store.specs.Damage.{IsPartRead, IsThere, LosesBlock}
 use Rattle.qd_store.specs.Drafting.{block_there, AreRead, AreReadFrom, IsReadOf, IsTouchedFrom}
-use Rattle.qd_store.specs.Stores.{IsStore, Store}
+use Rattle.qd_store.specs.Stores.{Book, IsStore}
 use Rattle.qd_store.proofs.TouchedParts.{all_read, all_there}
 
 -- one more of each
@@ -31,12 +31,12 @@ zipped_more R (z ∷ zs) [] x y all r = absurd all
 zipped_more R (w ∷ ws) (z ∷ zs) x y all r = (all.0, zipped_more R ws zs x y all.1 r)
 
 -- What is read of a told volume, where the version stands for a history over some blocks: those of the parts.
-abbrev pub AreOf : Store → List TableParts → List Touched → List Block → Disk → Type 0
+abbrev pub AreOf : Book → List TableParts → List Touched → List Block → Disk → Type 0
 AreOf s shape tos blocks disk =
     (h : List Entry) (next : Version) → IsStore s h next disk → (x : catalog.Version) → version_at s.versions.versions s.versions.versions.current ≡ Some x
     → (contents : ℕ → Block) → StandsFor contents shape (first h x.n) → blocks ≡ map (block_there contents shape) tos
 
-module _ (s : Store) (shape : List TableParts) (tables : List StoredTable) (tos : List Touched) (is : tos ≡ all_touched 0 shape tables)
+module _ (s : Book) (shape : List TableParts) (tables : List StoredTable) (tos : List Touched) (is : tos ≡ all_touched 0 shape tables)
     (y : catalog.Version) (found : version_at s.versions.versions s.versions.versions.current ≡ Some y) (same : shape ≡ y.shape) where
   shape_is : (x : catalog.Version) → version_at s.versions.versions s.versions.versions.current ≡ Some x → shape ≡ x.shape
   shape_is x at = same ∙ ap (λ (z : catalog.Version). z.shape) (same_Some y x (sym found ∙ at))

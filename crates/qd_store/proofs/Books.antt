@@ -5,10 +5,10 @@ use Rattle.qd_catalog.specs.declared.version.Version as catalog
 use Rattle.qd_catalog.specs.Versions.{version_at}
 use Rattle.qd_sequencer.specs.Sequences.{IsAsBefore}
 use Rattle.qd_versions.specs.Stores as versions
-use Rattle.qd_store.specs.Stores.{AreLimits, IsBook, Store}
+use Rattle.qd_store.specs.Stores.{AreLimits, Book, IsBook}
 use Rattle.qd_base.specs.declared.limits.TheConstants.{MAX_TXNS}
 
-module _ (old new : Store) (book : IsBook old) (limits : new.limits ≡ old.limits) where
+module _ (old new : Book) (book : IsBook old) (limits : new.limits ≡ old.limits) where
   -- as many transactions as before, and no more versions
   pub book_same : new.sequence.refs ≡ old.sequence.refs
       → ((row : ℕ) (x : catalog.Version) → version_at new.versions.versions row ≡ Some x → version_at old.versions.versions row ≡ Some x) → IsBook new

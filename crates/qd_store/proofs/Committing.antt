@@ -20,7 +20,7 @@ use Rattle.qd_txnfile.specs.Versions.{Version}
 use Rattle.qd_versions.specs.Stores as versions
 use Rattle.qd_versions.proofs.Kept.{leaves_and}
 use Rattle.qd_volume.specs.Disk.{Disk}
-use Rattle.qd_store.specs.Stores.{HasVersions, IsStore, Store}
+use Rattle.qd_store.specs.Stores.{Book, HasVersions, IsStore}
 use Rattle.qd_store.specs.Calls.{Commits, IsCommitted, MayShow, ShowsOneOf}
 use Rattle.qd_store.proofs.Sides.{Shows, Spares, versions_at_each_moment, versions_kept, versions_longer}
 use Rattle.qd_store.proofs.OneOf.{shows_one_of}
@@ -40,7 +40,7 @@ pub the_current : (o : Option catalog.Version) → is_some o ≡ true → (x : c
 the_current (Some x) live = (x, refl)
 the_current None live = cc
 
-module _ {T E : Type 0} (result : Result T E) (old new : Store) (Own : Entry → Type 0) (before after : Disk)
+module _ {T E : Type 0} (result : Result T E) (old new : Book) (Own : Entry → Type 0) (before after : Disk)
     (law : versions.IsStore old.versions) (same : new.versions ≡ old.versions) (accepts : Accepts result old.sequence new.sequence Own before after) where
   module _ (h : List Entry) (next : Version) (is : IsStore old h next before) where
     left_spared : (d : IsDirty old.versions.root.other) → All (Spares is_log_file) (blocks_of (is.versions.pending d).left.manifest.shape)

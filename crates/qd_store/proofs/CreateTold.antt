@@ -20,7 +20,7 @@ use Rattle.qd_versions.specs.Stores.{manifest_in}
 use Rattle.qd_volume.specs.Disk.{Disk}
 use Rattle.qd_store.specs.Marks.{Marks}
 use Rattle.qd_store.specs.Found.{nothing}
-use Rattle.qd_store.specs.Stores.{AreLimits, IsBook, Store}
+use Rattle.qd_store.specs.Stores.{AreLimits, Book, IsBook}
 use Rattle.qd_store.specs.Calls.{Creates, IsBeingMade}
 use Rattle.qd_store.proofs.Creating.{any_moment, behind, being_made, made_whole, unmade_moments, unmade_now}
 use Rattle.qd_store.proofs.OpenedStore.{one_of_it, row_of_it}
@@ -33,7 +33,7 @@ sound_of v law opened = subst (λ (n : ℕ). IsManifest 0 (manifest_in n [])) op
 pub none_shown : (v : versions.Store) → versions.IsStore v → rows.IsOpened v.versions 0 0 [] → v.root.n ≡ 0
 none_shown v law opened = sym (law.current (record { n = 0; shape = [] }) (row_of_it v.versions 0 0 [] opened)).number
 
-pub book_of_none : (s : Store) → AreLimits s.limits → s.sequence.refs ≡ [] → rows.IsOpened s.versions.versions 0 0 [] → IsBook s
+pub book_of_none : (s : Book) → AreLimits s.limits → s.sequence.refs ≡ [] → rows.IsOpened s.versions.versions 0 0 [] → IsBook s
 book_of_none s limits empty opened = record {
   limits = limits;
   few = rw empty (omega arith);
@@ -62,7 +62,7 @@ module _ (sequence : Sequence) where
   not_rooted_told fault answer before between after first second =
       told_both (logs.Makes {E = IoFault} (Ok sequence)) (roots.Creates {E = IoFault} (Err fault)) (Creates {E = IoFault} (Err answer)) before between after (λ a b c made rooted. not_rooted fault answer a b c made rooted) first second
 
-module _ (s : Store) where
+module _ (s : Book) where
   module _ (law : OtherFilesLeaveTheSequence) (sound : IsManifest 0 nothing.manifest) (clean : IsDirty s.versions.root.other → ⊥) (opened : rows.IsOpened s.versions.versions 0 0 []) where
     abbrev Both : Disk → Disk → Type 0
     Both a c = (b : Disk) × logs.Makes {E = IoFault} (Ok s.sequence) a b × roots.Creates {E = IoFault} (Ok s.versions) b c
@@ -92,5 +92,5 @@ module _ (s : Store) where
 
 -- ---- a store that was made is made, whatever the faults are called
 
-pub made_told : (E F : Type 0) (s : Store) (before after : Option Disk) → Told before after (Creates {E = E} (Ok s)) → Told before after (Creates {E = F} (Ok s))
+pub made_told : (E F : Type 0) (s : Book) (before after : Option Disk) → Told before after (Creates {E = E} (Ok s)) → Told before after (Creates {E = F} (Ok s))
 made_told E F s before after told = told_map (Creates {E = E} (Ok s)) (Creates {E = F} (Ok s)) before after (λ a b made. record { any_moment = made.any_moment; created = made.created }) told

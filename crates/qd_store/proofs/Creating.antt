@@ -27,7 +27,7 @@ use Rattle.qd_volume.specs.Disk.{Disk, Image}
 use Rattle.qd_store.specs.Marks.{IsMade, Marks}
 use Rattle.qd_store.specs.Prefixes.{HoldsTables, IsShown}
 use Rattle.qd_store.specs.Found.{Finds, IsUnmade, nothing}
-use Rattle.qd_store.specs.Stores.{HasVersions, IsStore, Store}
+use Rattle.qd_store.specs.Stores.{Book, HasVersions, IsStore}
 use Rattle.qd_store.specs.Calls.{IsBeingMade}
 
 -- ---- the mark
@@ -157,7 +157,7 @@ row_is x y (suc row) (suc count) at = by row count at
     by (suc row) zero e = cc
     by (suc row) (suc count) e = by row count e
 
-module _ {T E : Type 0} (result : Result T E) (s : Store) (law : OtherFilesLeaveTheSequence) (sound : IsManifest 0 nothing.manifest)
+module _ {T E : Type 0} (result : Result T E) (s : Book) (law : OtherFilesLeaveTheSequence) (sound : IsManifest 0 nothing.manifest)
     (clean : IsDirty s.versions.root.other → ⊥) (opened : rows.IsOpened s.versions.versions 0 0 [])
     (d0 d1 d2 d3 : Disk) (logged : logs.Makes {E = E} (Ok s.sequence) d0 d1) (rooted : roots.Creates {E = E} (Ok s.versions) d1 d2) (marks : Marks result d2 d3) where
   ready : EachNow d2 IsReady

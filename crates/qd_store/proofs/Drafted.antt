@@ -27,7 +27,7 @@ use Rattle.qd_store.specs.Damage.{IsDamagedOver, IsDraftDamage, LosesBlock}
 use Rattle.qd_store.specs.Drafting.{AreArrived, AreRead, AreReadFrom, HasArrived, IsArrived, IsArrivedFrom}
 use Rattle.qd_store.specs.Drafts.{Drafted, IsDraftOver, IsDraftedFrom, between, plan_of}
 use Rattle.qd_store.specs.Prefixes.{IsShown}
-use Rattle.qd_store.specs.Stores.{IsStore, Store}
+use Rattle.qd_store.specs.Stores.{Book, IsStore}
 use Rattle.qd_store.proofs.Arrived.{shown_now}
 use Rattle.qd_store.proofs.Between.{replay_between}
 use Rattle.qd_store.proofs.BlocksRead.{same_cause}
@@ -61,7 +61,7 @@ module _ (v : versions.Store) (law : versions.IsStore v) (upto : ℕ) (arrived :
 
 -- ---- of a history
 
-module _ (s : Store) (law : versions.IsStore s.versions) (rows : RowsAreFew) (upto : ℕ) (h : List Entry) (next : root.Version) (disk : Disk) (is : IsStore s h next disk) where
+module _ (s : Book) (law : versions.IsStore s.versions) (rows : RowsAreFew) (upto : ℕ) (h : List Entry) (next : root.Version) (disk : Disk) (is : IsStore s h next disk) where
   pub drafted_from : (few : upto ≤ 2 ^ 30) (more : (n : ℕ) → current_n s.versions.versions ≡ Some n → n < upto) (arrived plan : Drafting)
       → IsArrivedFrom (Ok arrived) s h upto → plan ≡ record arrived { tables = map with_batch arrived.tables }
       → (list : Vec (Arc Block Global) Global)
@@ -108,7 +108,7 @@ module _ (s : Store) (law : versions.IsStore s.versions) (rows : RowsAreFew) (up
       by fault.Memory none = tt
 
 -- the same of a volume that may tell nothing
-module _ (s : Store) (law : versions.IsStore s.versions) (rows : RowsAreFew) (upto : ℕ) (few : upto ≤ 2 ^ 30) (more : (n : ℕ) → current_n s.versions.versions ≡ Some n → n < upto)
+module _ (s : Book) (law : versions.IsStore s.versions) (rows : RowsAreFew) (upto : ℕ) (few : upto ≤ 2 ^ 30) (more : (n : ℕ) → current_n s.versions.versions ≡ Some n → n < upto)
     (arrived plan : Drafting) (plan_is : plan ≡ record arrived { tables = map with_batch arrived.tables }) where
   abbrev pub HasTold : Disk → Type 0
   HasTold disk = (h : List Entry) (next : root.Version) → IsStore s h next disk → IsArrivedFrom (Ok arrived) s h upto
@@ -135,7 +135,7 @@ module _ (s : Store) (law : versions.IsStore s.versions) (rows : RowsAreFew) (up
 
 -- ---- where a draft finds damage
 
-module _ {T : Type 0} (result : Result T LogFault) (cause : LogFault) (failed : result ≡ Err cause) (s : Store) (upto : ℕ) where
+module _ {T : Type 0} (result : Result T LogFault) (cause : LogFault) (failed : result ≡ Err cause) (s : Book) (upto : ℕ) where
   -- before it plans
   pub arrives_damaged : (o : Option Disk) → IfSome o (λ disk. AreArrived (Err cause) s upto (reads_of disk))
       → IfSome o (λ disk. (file at : ℕ) → result ≡ Err (fault.Damaged file at) → IsDraftDamage s upto (reads_of disk) file at)

@@ -27,7 +27,7 @@ use Rattle.qd_store.specs.declared.fault.OpenFault.TheVariants as fault
 use Rattle.qd_store.specs.Faults.{open_damage, open_fault}
 use Rattle.qd_store.specs.Marks.{IsLooked, IsMade}
 use Rattle.qd_store.specs.Opening.{Opens}
-use Rattle.qd_store.specs.Stores.{AreLimits, IsBook, Store}
+use Rattle.qd_store.specs.Stores.{AreLimits, Book, IsBook}
 use Rattle.qd_store.proofs.OpenedStore.{one_of_it, row_of_it}
 use Rattle.qd_store.proofs.OpenTold as told
 use Rattle.qd_store.proofs.OpenTold.{HasLog, HasRoot, HasSynced, synced_none, synced_one}
@@ -105,12 +105,12 @@ module _ (lists : OneListIsGiven) (roots : OneVersionIsGiven) (manifests : OneMa
       (subst (λ (k : ℕ). IfSome between (IsTakenOver (Err e) refs k schemas)) number over)
       (λ a b root over. told.entries_failed lists roots manifests refs v m sound opened schemas schemas_are a b root e over)
 
-  pub store_opened : DamagedGivesNone → DamagedGivesNoStore → v.root.n ≤ length refs → (s : Store) → s.versions ≡ v → s.sequence.refs ≡ refs → IfSome between (IsTakenOver (Ok s.sequence) refs n schemas) → Told old now (Opens (Ok s))
+  pub store_opened : DamagedGivesNone → DamagedGivesNoStore → v.root.n ≤ length refs → (s : Book) → s.versions ≡ v → s.sequence.refs ≡ refs → IfSome between (IsTakenOver (Ok s.sequence) refs n schemas) → Told old now (Opens (Ok s))
   store_opened log_none none few s versions_are refs_same over = told_with (HasRoot refs v) (IsTakenOver (Ok s.sequence) refs v.root.n schemas) (Opens (Ok s)) old between now has same
       (subst (λ (k : ℕ). IfSome between (IsTakenOver (Ok s.sequence) refs k schemas)) number over)
       (λ a b root over. told.store_opened lists roots manifests refs v m sound opened schemas schemas_are a b root log_none none few s versions_are refs_same over)
 
-pub book_of_one : (s : Store) (m : Manifest) → AreLimits s.limits → length s.sequence.refs ≤ MAX_TXNS → rows.IsOpened s.versions.versions s.versions.root.n m.next_block m.shape → s.versions.root.n ≤ length s.sequence.refs → IsBook s
+pub book_of_one : (s : Book) (m : Manifest) → AreLimits s.limits → length s.sequence.refs ≤ MAX_TXNS → rows.IsOpened s.versions.versions s.versions.root.n m.next_block m.shape → s.versions.root.n ≤ length s.sequence.refs → IsBook s
 book_of_one s m limits few opened all = record {
   limits = limits;
   few = few;

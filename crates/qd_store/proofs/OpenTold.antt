@@ -41,7 +41,7 @@ use Rattle.qd_store.specs.Faults.{open_damage, open_fault}
 use Rattle.qd_store.specs.Marks.{IsMade}
 use Rattle.qd_store.specs.Found.{Finds, Found, IsWhole, version_of}
 use Rattle.qd_store.specs.Opening.{InEntries, InLog, InVersions, IsDamaged, IsOpened, IsUndamaged, Opens}
-use Rattle.qd_store.specs.Stores.{HasVersions, Store}
+use Rattle.qd_store.specs.Stores.{Book, HasVersions}
 use Rattle.qd_store.proofs.Opened.{logged_there, made_there, refs_are, same_found, shown_there, version_is}
 use Rattle.qd_store.proofs.OpenedStore.{number_is, opened_versions, shape_is, version_of_it}
 
@@ -259,7 +259,7 @@ module _ (lists : OneListIsGiven) (roots : OneVersionIsGiven) (manifests : OneMa
     undamaged file at (InVersions others place byte gives damaged) = versions_whole others gives place byte damaged
     undamaged file at (InEntries others n k place byte gives other given breaks) = entries_whole others gives n k place byte other given breaks
 
-  pub store_opened : DamagedGivesNone → DamagedGivesNoStore → v.root.n ≤ length refs → (s : Store) → s.versions ≡ v → s.sequence.refs ≡ refs → IsTakenOver (Ok s.sequence) refs v.root.n schemas after → Opens (Ok s) before after
+  pub store_opened : DamagedGivesNone → DamagedGivesNoStore → v.root.n ≤ length refs → (s : Book) → s.versions ≡ v → s.sequence.refs ≡ refs → IsTakenOver (Ok s.sequence) refs v.root.n schemas after → Opens (Ok s) before after
   store_opened log_none none few s versions_are refs_same over = record {
     found = (
       has.log.made,

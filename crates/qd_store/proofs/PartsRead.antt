@@ -27,7 +27,7 @@ use Rattle.qd_versions.specs.Reading.{IsPartAt}
 use Rattle.qd_volume.specs.Disk.{Disk, reads_of}
 use Rattle.qd_store.specs.Prefixes.{IsShown}
 use Rattle.qd_store.specs.Reading.{IsShownPart}
-use Rattle.qd_store.specs.Stores.{IsStore, Store}
+use Rattle.qd_store.specs.Stores.{Book, IsStore}
 use Rattle.qd_store.proofs.Opened.{in_shape}
 
 -- ---- the rows of parts that stand in order of time
@@ -176,7 +176,7 @@ module _ (one : OneBlockIsHeld) (h : List Entry) (n : ℕ) (shape : List TablePa
   pub not_damaged : (file at : ℕ) → IsBlockRead (Err (fault.Damaged file at)) t.schema p (reads_of disk) → ⊥
   not_damaged file at read = read.1 (shown.blocks p.block) held_there fits there_whole
 
-module _ (one : OneBlockIsHeld) (s : Store) (h : List Entry) (next : Version) (row table i : ℕ) (disk : Disk) (is : IsStore s h next disk) where
+module _ (one : OneBlockIsHeld) (s : Book) (h : List Entry) (next : Version) (row table i : ℕ) (disk : Disk) (is : IsStore s h next disk) where
   -- what a part of a live version shows
   live_there : (t : TableParts) (p : Part) (at : IsPartAt s.versions.versions row table i t p) → IsShown h at.version.n at.version.shape disk
   live_there t p at = is.versions.live row at.version at.live
@@ -191,7 +191,7 @@ module _ (one : OneBlockIsHeld) (s : Store) (h : List Entry) (next : Version) (r
   shown_part (Err fault.Vol) t p at read = tt
   shown_part (Err fault.Memory) t p at read = tt
 
-pub shown_told : (one : OneBlockIsHeld) (result : Result Block LogFault) (s : Store) (row table i : ℕ) (o : Option Disk) → (t : TableParts) (p : Part) → IsPartAt s.versions.versions row table i t p
+pub shown_told : (one : OneBlockIsHeld) (result : Result Block LogFault) (s : Book) (row table i : ℕ) (o : Option Disk) → (t : TableParts) (p : Part) → IsPartAt s.versions.versions row table i t p
     → ((u : TableParts) (q : Part) → IsPartAt s.versions.versions row table i u q → IfSome o (λ disk. IsBlockRead result u.schema q (reads_of disk)))
     → IfSome o (λ disk. (h : List Entry) (next : Version) → IsStore s h next disk → IsShownPart result s h row table i)
 shown_told one result s row table i None t p at read = tt

@@ -18,11 +18,11 @@ use Rattle.qd_versions.specs.Stores as versions
 use Rattle.qd_versions.specs.Stores.{IsRooted, stored}
 use Rattle.qd_volume.specs.Disk.{Disk}
 use Rattle.qd_store.specs.Calls.{IsPublished, Publishes, StandsNext}
-use Rattle.qd_store.specs.Stores.{AreLimits, IsBook, IsStore, Store}
+use Rattle.qd_store.specs.Stores.{AreLimits, Book, IsBook, IsStore}
 use Rattle.qd_store.proofs.Publishing.{failed_at_gate, failed_clean, failed_in_repair, is_published, publish_elsewhere, publish_moments, set_some}
 use Rattle.qd_base.specs.declared.limits.TheConstants.{MAX_TXNS}
 
-module _ (result : Result ℕ PublishFault) (old new : Store) (n : ℕ) (shape : List TableParts) (blocks : List NewBlock) (v : Version) (before after : Disk) (law : versions.IsStore old.versions) (logs : OtherFilesLeaveTheSequence)
+module _ (result : Result ℕ PublishFault) (old new : Book) (n : ℕ) (shape : List TableParts) (blocks : List NewBlock) (v : Version) (before after : Disk) (law : versions.IsStore old.versions) (logs : OtherFilesLeaveTheSequence)
     (v_is : v ≡ stored n (old.versions.versions.next_block + length blocks) shape) (may : MayPublish old.versions.versions n shape (length blocks))
     (numbered : (i : ℕ) (d : NewBlock) → i < length blocks → (get_or blocks i d).block ≡ old.versions.versions.next_block + i)
     (logs_same : new.sequence ≡ old.sequence) (added : IfOk result (λ row. Adds old.versions.versions new.versions.versions n shape row)) (same : OnErr result (SameVersions old.versions.versions new.versions.versions))
@@ -43,18 +43,18 @@ module _ (result : Result ℕ PublishFault) (old new : Store) (n : ℕ) (shape :
       by h last is next (Err fault) other rows_same (inr (inl (rooted, clean))) = inl (failed_clean old n shape blocks v before after law logs v_is may numbered p.elsewhere h last is next new logs_same rows_same clean rooted)
       by h last is next (Err fault) other rows_same (inr (inr (rooted, all))) = inr (failed_at_gate old n shape blocks v before after law logs v_is may numbered p.elsewhere h last is next new logs_same rows_same rooted all)
 
-pub published_told : (result : Result ℕ PublishFault) (old inside new : Store) (n : ℕ) (shape : List TableParts) (blocks : List NewBlock) (before after : Option Disk) → old ≡ inside → versions.IsStore inside.versions → OtherFilesLeaveTheSequence
+pub published_told : (result : Result ℕ PublishFault) (old inside new : Book) (n : ℕ) (shape : List TableParts) (blocks : List NewBlock) (before after : Option Disk) → old ≡ inside → versions.IsStore inside.versions → OtherFilesLeaveTheSequence
     → MayPublish inside.versions.versions n shape (length blocks) → ((i : ℕ) (d : NewBlock) → i < length blocks → (get_or blocks i d).block ≡ inside.versions.versions.next_block + i) → new.sequence ≡ inside.sequence
     → IfOk result (λ row. Adds inside.versions.versions new.versions.versions n shape row) → OnErr result (SameVersions inside.versions.versions new.versions.versions)
     → Told before after (roots.Publishes result inside.versions new.versions (stored n (inside.versions.versions.next_block + length blocks) shape) blocks)
     → Told before after (Publishes result old new n shape blocks (stored n (old.versions.versions.next_block + length blocks) shape))
 published_told result old inside new n shape blocks before after is law logs may numbered logs_same added same told =
-    subst (λ (s : Store). Told before after (Publishes result s new n shape blocks (stored n (s.versions.versions.next_block + length blocks) shape))) (sym is)
+    subst (λ (s : Book). Told before after (Publishes result s new n shape blocks (stored n (s.versions.versions.next_block + length blocks) shape))) (sym is)
     (told_map (roots.Publishes result inside.versions new.versions (stored n (inside.versions.versions.next_block + length blocks) shape) blocks) (Publishes result inside new n shape blocks (stored n (inside.versions.versions.next_block + length blocks) shape)) before after
     (λ a b p. publishes result inside new n shape blocks (stored n (inside.versions.versions.next_block + length blocks) shape) a b law logs refl may numbered logs_same added same p) told)
 
 -- no version shows more transactions than there are, behind the call
-module _ (inside new : Store) (n : ℕ) (shape : List TableParts) (book : IsBook inside) (few : n ≤ length inside.sequence.refs) (logs_same : new.sequence ≡ inside.sequence) (limits_same : new.limits ≡ inside.limits) where
+module _ (inside new : Book) (n : ℕ) (shape : List TableParts) (book : IsBook inside) (few : n ≤ length inside.sequence.refs) (logs_same : new.sequence ≡ inside.sequence) (limits_same : new.limits ≡ inside.limits) where
   in_rows : (row : ℕ) (x : catalog.Version) → x.n ≤ length inside.sequence.refs → x.n ≤ length new.sequence.refs
   in_rows row x low = subst (λ (s : Sequence). x.n ≤ length s.refs) (sym logs_same) low
 

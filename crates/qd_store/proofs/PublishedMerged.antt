@@ -23,7 +23,7 @@ use Rattle.qd_volume.specs.Disk.{Disk}
 use Rattle.qd_store.specs.Calls.{IsPublished, Publishes, StandsNext}
 use Rattle.qd_store.specs.Drafts.{between, IsMerged, IsMergedOver, IsNextOf, Merging}
 use Rattle.qd_store.specs.Merges.{next_version, PublishesMerged}
-use Rattle.qd_store.specs.Stores.{Store}
+use Rattle.qd_store.specs.Stores.{Book}
 use Rattle.qd_store.proofs.MergedVersion.{may_over, newer, new_made, old_kept, stands_after}
 
 -- ---- a merge of a history's next transactions
@@ -44,7 +44,7 @@ replay_on h n upto le =
 upto_within : (h : List Entry) (n upto : ℕ) → upto ≡ n + length (between h n upto) → 0 < length (between h n upto) → upto ≤ length h
 upto_within h n upto e some = omega (arith, e, some, length-drop n (take upto h), length-take upto h)
 
-module _ (law : MergingStands) (old : Store) (h : List Entry) (m : Merging) where
+module _ (law : MergingStands) (old : Book) (h : List Entry) (m : Merging) where
   pub stands_next : IsNextOf old h m → StandsNext old h m.upto m.shape m.blocks
   stands_next (x, contents, at, is) =
       let next = old.versions.versions.next_block in
@@ -71,7 +71,7 @@ module _ (law : MergingStands) (old : Store) (h : List Entry) (m : Merging) wher
 -- ---- a volume that may be told
 
 -- a publication of the next version is one of the merge
-module _ {T E F : Type 0} (law : MergingStands) (result : Result T E) (answer : Result T F) (old new : Store) (m : Merging) (before after : Disk)
+module _ {T E F : Type 0} (law : MergingStands) (result : Result T E) (answer : Result T F) (old new : Book) (m : Merging) (before after : Disk)
     (behind : (h : List Entry) (last v : Version) → IsPublished result new h last v after → IsPublished answer new h last v after) where
   pub publishes_merged : Publishes result old new m.upto m.shape m.blocks (next_version old m) before after → PublishesMerged answer old new m before after
   publishes_merged p = record {
@@ -80,7 +80,7 @@ module _ {T E F : Type 0} (law : MergingStands) (result : Result T E) (answer : 
     pending = λ h last is. p.pending h last is;
   }
 
-module _ (T E F : Type 0) (law : MergingStands) (old new : Store) (m : Merging) (before after : Option Disk) where
+module _ (T E F : Type 0) (law : MergingStands) (old new : Book) (m : Merging) (before after : Option Disk) where
   pub told_published : (row : T) → Told before after (Publishes {T = T} {E = E} (Ok row) old new m.upto m.shape m.blocks (next_version old m))
       → Told before after (PublishesMerged {T = T} {E = F} (Ok row) old new m)
   told_published row told =
@@ -104,15 +104,15 @@ current_number v row o n at live of is = subst (λ (r : ℕ). n_of (version_at v
     by (Some x) live of = ap Some (sym (is ∙ ap (λ (q : Option ℕ). unwrap_or q 0) of))
 
 module _ (given m : Merging) (list : List NewBlock) (m_is : m ≡ given) (list_is : list ≡ m.blocks) where
-  pub may_inside : MergingStands → (outside inside : Store) → inside ≡ outside
+  pub may_inside : MergingStands → (outside inside : Book) → inside ≡ outside
       → (current_n outside.versions.versions ≡ Some given.base → IsMergedOver outside.versions.versions given) → current_n inside.versions.versions ≡ Some m.base
       → MayPublish outside.versions.versions m.upto m.shape (length list)
   may_inside law outside inside is over here =
-      let there : current_n outside.versions.versions ≡ Some m.base = subst (λ (s : Store). current_n s.versions.versions ≡ Some m.base) is here in
+      let there : current_n outside.versions.versions ≡ Some m.base = subst (λ (s : Book). current_n s.versions.versions ≡ Some m.base) is here in
       let merged : IsMergedOver outside.versions.versions m = subst (λ (k : Merging). IsMergedOver outside.versions.versions k) (sym m_is) (over (subst (λ (k : Merging). current_n outside.versions.versions ≡ Some k.base) m_is there)) in
       subst (λ (l : List NewBlock). MayPublish outside.versions.versions m.upto m.shape (length l)) (sym list_is) (may_over law outside.versions.versions m merged)
 
-  module _ (T E F : Type 0) (law : MergingStands) (old new : Store) (before after : Option Disk) where
+  module _ (T E F : Type 0) (law : MergingStands) (old new : Book) (before after : Option Disk) where
     abbrev ToldFor : Result T E → Type 0
     ToldFor result = Told before after (Publishes result old new m.upto m.shape list (stored m.upto (old.versions.versions.next_block + length list) m.shape))
 

@@ -32,7 +32,7 @@ use Rattle.qd_versions.proofs.Kept.{leaves_and}
 use Rattle.qd_volume.specs.Disk.{Disk, Image, images_now}
 use Rattle.qd_store.specs.Marks.{IsMade}
 use Rattle.qd_store.specs.Prefixes.{HoldsBlocks, HoldsTables, IsLeft, IsShown}
-use Rattle.qd_store.specs.Stores.{IsStore, Store}
+use Rattle.qd_store.specs.Stores.{Book, IsStore}
 use Rattle.qd_store.specs.Calls.{MayShow, ShowsOneOf, StandsNext}
 use Rattle.qd_store.proofs.Committing.{the_current}
 use Rattle.qd_store.proofs.OneOf.{current_is, one_of, shows_one_of}
@@ -99,7 +99,7 @@ new_held (b ∷ bs) next k contents image at made held low =
 pub shows_weaker : (h : List Entry) (More : Entry → Type 0) (P Q : Version → Type 0) (image : Image) → ((v : Version) → P v → Q v) → ShowsOneOf h More P image → ShowsOneOf h More Q image
 shows_weaker h More P Q image weaker shows = record { found = shows.found; finds = shows.finds; history = shows.history; version = weaker _ shows.version }
 
-module _ (old : Store) (n : ℕ) (shape : List TableParts) (blocks : List NewBlock) (v : Version) (before after : Disk) (law : versions.IsStore old.versions) (logs : OtherFilesLeaveTheSequence)
+module _ (old : Book) (n : ℕ) (shape : List TableParts) (blocks : List NewBlock) (v : Version) (before after : Disk) (law : versions.IsStore old.versions) (logs : OtherFilesLeaveTheSequence)
     (v_is : v ≡ stored n (old.versions.versions.next_block + length blocks) shape) (may : MayPublish old.versions.versions n shape (length blocks))
     (numbered : (i : ℕ) (d : NewBlock) → i < length blocks → (get_or blocks i d).block ≡ old.versions.versions.next_block + i)
     (moves : Moves (SameBut (is_published_file old.versions.versions.next_block)) before after)
@@ -234,7 +234,7 @@ module _ (old : Store) (n : ℕ) (shape : List TableParts) (blocks : List NewBlo
   live_kept : (row : ℕ) (y : catalog.Version) → version_at old.versions.versions row ≡ Some y → IsShown h y.n y.shape after
   live_kept row y there = shown_kept (is_published_file from) before after moves h y.n y.shape (live_spared row y there) (is.versions.live row y there)
 
-  module _ (new : Store) (logs_same : new.sequence ≡ old.sequence) where
+  module _ (new : Book) (logs_same : new.sequence ≡ old.sequence) where
     sequence_now : IsSequence new.sequence h after
     sequence_now = subst (λ (s : _). IsSequence s h after) (sym logs_same) sequence_kept
 

@@ -29,16 +29,16 @@ use Rattle.qd_writes.specs.declared.check.StmtFault.TheVariants as stmt
 use Rattle.qd_store.specs.Calls.{Commits, IsCommitted, MayBe, MayShow, ShowsOneOf, Stands}
 use Rattle.qd_store.specs.Faults.{line_fault, stmt_fault, IsSettled}
 use Rattle.qd_store.specs.Laws.{StoresAreWhole}
-use Rattle.qd_store.specs.Stores.{Store}
+use Rattle.qd_store.specs.Stores.{Book}
 use Rattle.qd_store.proofs.Committing.{committed, settled_alone}
 
 -- ---- what an image may show
 
 -- what a crash may leave of a store before a call, and inside a commit
-abbrev MayLeave : Store → Disk → List Entry → Version → Image → Type 0
+abbrev MayLeave : Book → Disk → List Entry → Version → Image → Type 0
 MayLeave s disk h next = ShowsOneOf h (histories.IsPending s.sequence.pending disk) (MayShow s next)
 
-abbrev MayLeaveOwn : (Entry → Type 0) → Store → Disk → List Entry → Version → Image → Type 0
+abbrev MayLeaveOwn : (Entry → Type 0) → Book → Disk → List Entry → Version → Image → Type 0
 MayLeaveOwn Own s disk h next = ShowsOneOf h (λ e. Own e ⊎ histories.IsPending s.sequence.pending disk e) (MayShow s next)
 
 may_be : (h : List Entry) (P Q : Entry → Type 0) → ((e : Entry) → P e → Q e) → (other : List Entry) → MayBe h P other → MayBe h Q other
@@ -55,7 +55,7 @@ one_of_weaker h P Q V W more other image shows = record {
 }
 
 -- one's own transaction may be there too
-with_own : (Own : Entry → Type 0) (s : Store) (disk : Disk) (h : List Entry) (next : Version) (image : Image)
+with_own : (Own : Entry → Type 0) (s : Book) (disk : Disk) (h : List Entry) (next : Version) (image : Image)
     → MayLeave s disk h next image → MayLeaveOwn Own s disk h next image
 with_own Own s disk h next image shows =
     one_of_weaker h (histories.IsPending s.sequence.pending disk) (λ e. Own e ⊎ histories.IsPending s.sequence.pending disk e) (MayShow s next) (MayShow s next)
@@ -66,14 +66,14 @@ none_own : (P : Type 0) → ⊥ ⊎ P → P
 none_own P (inl none) = absurd none
 none_own P (inr p) = p
 
-without_own : (s : Store) (disk : Disk) (h : List Entry) (next : Version) (image : Image) → MayLeaveOwn (λ e. ⊥) s disk h next image → MayLeave s disk h next image
+without_own : (s : Book) (disk : Disk) (h : List Entry) (next : Version) (image : Image) → MayLeaveOwn (λ e. ⊥) s disk h next image → MayLeave s disk h next image
 without_own s disk h next image shows =
     one_of_weaker h (λ e. ⊥ ⊎ histories.IsPending s.sequence.pending disk e) (histories.IsPending s.sequence.pending disk) (MayShow s next) (MayShow s next)
     (λ e p. none_own (histories.IsPending s.sequence.pending disk e) p) (λ v w. w) image shows
 
 -- ---- a repair alone
 
-settles : (old new : Store) (before after : Disk) → versions.IsStore old.versions → new.versions ≡ old.versions
+settles : (old new : Book) (before after : Disk) → versions.IsStore old.versions → new.versions ≡ old.versions
     → Settles old.sequence new.sequence before after → Stands old new before after
 settles old new before after law same repaired = record {
   any_moment = λ h next is.
@@ -91,15 +91,15 @@ settles old new before after law same repaired = record {
     by (inl as_before) = as_before
     by (inr none) = λ e p. absurd (none e p)
 
-pub settles_told : (old inside new : Store) (before after : Option Disk) → old ≡ inside → versions.IsStore inside.versions → new.versions ≡ inside.versions
+pub settles_told : (old inside new : Book) (before after : Option Disk) → old ≡ inside → versions.IsStore inside.versions → new.versions ≡ inside.versions
     → Told before after (Settles inside.sequence new.sequence) → Told before after (Stands old new)
 settles_told old inside new before after is law same told =
-    subst (λ (s : Store). Told before after (Stands s new)) (sym is)
+    subst (λ (s : Book). Told before after (Stands s new)) (sym is)
     (told_map (Settles inside.sequence new.sequence) (Stands inside new) before after (λ a b s. settles inside new a b law same s) told)
 
 -- ---- a call that does nothing
 
-pub idle_told : StoresAreWhole → (s : Store) → versions.IsStore s.versions → (o : Option Disk) → Told o o (Stands s s)
+pub idle_told : StoresAreWhole → (s : Book) → versions.IsStore s.versions → (o : Option Disk) → Told o o (Stands s s)
 idle_told law s sound None = refl
 idle_told law s sound (Some disk) = (
   disk,
@@ -137,7 +137,7 @@ settled_stmt T stmt.Memory s clean = tt
 
 -- ---- a commit that ends with it
 
-module _ (T E : Type 0) (Own : Entry → Type 0) (fault : E) (old new : Store) where
+module _ (T E : Type 0) (Own : Entry → Type 0) (fault : E) (old new : Book) where
   stands_alone : (before after : Disk) → Stands old new before after → Commits {T = T} {E = E} (Err fault) old new Own before after
   stands_alone before after stands = record {
     any_moment = λ h next is.
@@ -152,12 +152,12 @@ module _ (T E : Type 0) (Own : Entry → Type 0) (fault : E) (old new : Store) w
 -- ---- a commit behind it
 
 -- what holds of the transaction is what the call asks for
-committed_weaker : {T E : Type 0} (result : Result T E) (new : Store) (h : List Entry) (next : Version) (P Q : Entry → Type 0) (after : Disk)
+committed_weaker : {T E : Type 0} (result : Result T E) (new : Book) (h : List Entry) (next : Version) (P Q : Entry → Type 0) (after : Disk)
     → ((e : Entry) → P e → Q e) → IsCommitted result new h next P after → IsCommitted result new h next Q after
 committed_weaker (Ok done) new h next P Q after weaker (e, p, stands) = (e, weaker e p, stands)
 committed_weaker (Err fault) new h next P Q after weaker stands = stands
 
-module _ {T E : Type 0} (result : Result T E) (P Q : Entry → Type 0) (weaker : (e : Entry) → P e → Q e) (old mid new : Store) (clean : mid.sequence.pending ≡ None)
+module _ {T E : Type 0} (result : Result T E) (P Q : Entry → Type 0) (weaker : (e : Entry) → P e → Q e) (old mid new : Book) (clean : mid.sequence.pending ≡ None)
     (same : mid.versions ≡ old.versions) where
   own_more : (a b : Disk) (e : Entry) → P e ⊎ histories.IsPending mid.sequence.pending b e → Q e ⊎ histories.IsPending old.sequence.pending a e
   own_more a b e (inl own) = inl (weaker e own)
@@ -194,7 +194,7 @@ module _ {T E : Type 0} (result : Result T E) (P Q : Entry → Type 0) (weaker :
 -- ---- a transaction that is ready
 
 -- A commit of a transaction that was made ready over the schemas behind the repair commits what the call asks for.
-module _ {T E : Type 0} (result : Result T E) (old mid new : Store) (before between after : Option Disk)
+module _ {T E : Type 0} (result : Result T E) (old mid new : Book) (before between after : Option Disk)
     (same : IsAsBefore old.sequence mid.sequence) (clean : mid.sequence.pending ≡ None) (versions_same : mid.versions ≡ old.versions)
     (stands : Told before between (Stands old mid)) (Own : List Schema → Entry → Type 0) (p : Prepared) (bytes : List ℕ) (bytes_are : bytes ≡ p.bytes)
     (told : (e : Entry) → SpellsEntry bytes e → IsLawfulOver mid.sequence.schemas e

@@ -20,7 +20,7 @@ use Rattle.qd_versions.proofs.Kept.{leaves_and}
 use Rattle.qd_versions.specs.Stores as versions
 use Rattle.qd_versions.specs.Stores.{IsRooted, current_version}
 use Rattle.qd_volume.specs.Disk.{Disk}
-use Rattle.qd_store.specs.Stores.{IsPending, IsStore, Store}
+use Rattle.qd_store.specs.Stores.{Book, IsPending, IsStore}
 use Rattle.qd_store.specs.Calls.{MayShow, ShowsOneOf}
 use Rattle.qd_store.proofs.Committing.{the_current}
 use Rattle.qd_store.proofs.OneOf.{shows_one_of}
@@ -35,7 +35,7 @@ use Rattle.std.proofs.Common.{slice_get, Result}
 abbrev pub SameRows : Versions → Versions → Type 0
 SameRows old new = (new.versions ≡ old.versions) × (new.current ≡ old.current) × (new.next_block ≡ old.next_block)
 
-module _ (touched : ℕ → Bool) (old new : Store) (h : List Entry) (next : Version) (before after : Disk) (is : IsStore old h next before) (law : versions.IsStore old.versions) (sequence : OtherFilesLeaveTheSequence)
+module _ (touched : ℕ → Bool) (old new : Book) (h : List Entry) (next : Version) (before after : Disk) (is : IsStore old h next before) (law : versions.IsStore old.versions) (sequence : OtherFilesLeaveTheSequence)
     (elsewhere : IsElsewhere touched) (zero : touched 0 ≡ false) (moves : Moves (SameBut touched) before after)
     (live : (row : ℕ) (x : catalog.Version) → version_at old.versions.versions row ≡ Some x → All (Spares touched) (blocks_of x.shape))
     (left : (d : IsDirty old.versions.root.other) → All (Spares touched) (blocks_of (is.versions.pending d).left.manifest.shape)) where
@@ -82,7 +82,7 @@ module _ (touched : ℕ → Bool) (old new : Store) (h : List Entry) (next : Ver
 
 -- ---- a told sweep
 
-module _ {E : Type 0} (result : Result Bool E) (old new : Store) (before after : Disk) (law : versions.IsStore old.versions) (sequence : OtherFilesLeaveTheSequence) (same : new.sequence ≡ old.sequence)
+module _ {E : Type 0} (result : Result Bool E) (old new : Book) (before after : Disk) (law : versions.IsStore old.versions) (sequence : OtherFilesLeaveTheSequence) (same : new.sequence ≡ old.sequence)
     (rows_same : SameRows old.versions.versions new.versions.versions) (unlisted : (block : ℕ) → slice_get old.versions.versions.retired 0 ≡ Some block → IsListed old.versions.versions block → ⊥)
     (front : SweepsFront result old.versions new.versions before after) where
   known : (next : Version) → IsRooted old.versions next before → LeavesOnly before after (GivesKnown old.versions.root.other (current_version old.versions.versions) next)

@@ -34,7 +34,7 @@ use Rattle.qd_volume.specs.Disk.{Disk, reads_of}
 use Rattle.qd_store.specs.Damage.{IsPartRead, IsThere}
 use Rattle.qd_store.specs.Drafting.{block_there, IsReadOf}
 use Rattle.qd_store.specs.Prefixes.{IsShown}
-use Rattle.qd_store.specs.Stores.{IsStore, Store}
+use Rattle.qd_store.specs.Stores.{Book, IsStore}
 use Rattle.qd_store.proofs.Opened.{in_shape}
 use Rattle.qd_store.proofs.PartsRead.{got, read_is}
 use Rattle.qd_store.proofs.Unique.{stands_one}
@@ -125,7 +125,7 @@ there_block contents (u ∷ us) zero i t p its_table its_part =
     (ap (λ (x : TableParts). slice_index_or x.parts i no_part) (get_or_from_slice_get (u ∷ us) 0 t u its_table) ∙ get_or_from_slice_get t.parts i p no_part its_part)
 there_block contents (u ∷ us) (suc table) i t p its_table its_part = there_block contents us table i t p its_table its_part
 
-module _ (s : Store) (row : ℕ) (x : catalog.Version) (at : version_at s.versions.versions row ≡ Some x) (to : Touched) (there : IsThere x.shape to) where
+module _ (s : Book) (row : ℕ) (x : catalog.Version) (at : version_at s.versions.versions row ≡ Some x) (to : Touched) (there : IsThere x.shape to) where
   pub part_there : IsPartAt s.versions.versions row to.table to.part there.table there.part
   part_there = record { version = x; live = at; its_table = there.its_table; its_part = there.its_part }
 
@@ -146,7 +146,7 @@ module _ (s : Store) (row : ℕ) (x : catalog.Version) (at : version_at s.versio
 
 -- ---- a part of the current version that is read by its row
 
-module _ (s : Store) (row : ℕ) (y : catalog.Version) (is_row : row ≡ s.versions.versions.current) (found : version_at s.versions.versions s.versions.versions.current ≡ Some y) (to : Touched) (there : IsThere y.shape to) where
+module _ (s : Book) (row : ℕ) (y : catalog.Version) (is_row : row ≡ s.versions.versions.current) (found : version_at s.versions.versions s.versions.versions.current ≡ Some y) (to : Touched) (there : IsThere y.shape to) where
   module _ (x : catalog.Version) (at : version_at s.versions.versions s.versions.versions.current ≡ Some x) where
     by_row : version_at s.versions.versions row ≡ Some x
     by_row = ap (λ r. version_at s.versions.versions r) is_row ∙ at

@@ -44,7 +44,7 @@ use Rattle.qd_wal.specs.Reading.{SpellsAt}
 use Rattle.qd_wal.specs.Segments.{file_in, part_at}
 use Rattle.qd_store.specs.Prefixes.{HoldsTables, IsLeft, IsShown}
 use Rattle.qd_store.specs.Found.{Finds, Found, IsWhole, version_of}
-use Rattle.qd_store.specs.Stores.{IsStore, Store}
+use Rattle.qd_store.specs.Stores.{Book, IsStore}
 use Rattle.qd_store.specs.Calls.{MayShow, ShowsOneOf}
 use Rattle.qd_store.specs.Laws.{AppliedIsAll, CrashedIsWhole, OneIsFound, StoresAreWhole}
 use Rattle.qd_store.proofs.Committing.{the_current}
@@ -139,7 +139,7 @@ same_bytes : (one : OneSpelling) (a b : Image) (ref : WalRef) → BothSpell a b 
 same_bytes one a b ref (e, s, t) = one (part_at (a (file_in ref)) ref) (part_at (b (file_in ref)) ref) e s.spelled t.spelled
 
 module _ (lists : OneListIsGiven) (roots : OneVersionIsGiven) (manifests : OneManifestIsSpelled) (spellings : OneSpelling) (blocks_one : OneBlockIsHeld) (what : WhatASequenceHolds) (given : known.WhatIsKnownIsGiven)
-    (s : Store) (h : List Entry) (next : Version) (disk : Disk) (law : versions.IsStore s.versions) (is : IsStore s h next disk) where
+    (s : Book) (h : List Entry) (next : Version) (disk : Disk) (law : versions.IsStore s.versions) (is : IsStore s h next disk) where
   abbrev x : catalog.Version
   x = (the_current (version_at s.versions.versions s.versions.versions.current) law.live).0
 

@@ -18,7 +18,7 @@ use Rattle.qd_manifest.specs.Spelling.{schemas_in}
 use Rattle.qd_sequencer.specs.Histories.{AreSpelled}
 use Rattle.qd_sequencer.specs.Reading.{BreaksOff}
 use Rattle.qd_volume.specs.Disk.{Image}
-use Rattle.qd_store.specs.Stores.{Store}
+use Rattle.qd_store.specs.Stores.{Book}
 
 -- ---- the blocks of parts
 
@@ -49,5 +49,5 @@ pub data IsDamagedOver (x : Version) (refs : List WalRef) (image : Image) : (fil
       → LosesBlock (all_touched 0 x.shape (map with_batch (arrivals (schemas_in x.shape) es))) x.shape image file at → IsDamagedOver x refs image file at
 
 -- that of a draft of the transactions behind a store's current version, up to a number
-abbrev pub IsDraftDamage : Store → ℕ → Image → ℕ → ℕ → Type 0
+abbrev pub IsDraftDamage : Book → ℕ → Image → ℕ → ℕ → Type 0
 IsDraftDamage s upto image file at = (x : Version) × (version_at s.versions.versions s.versions.versions.current ≡ Some x) × IsDamagedOver x (slice_range s.sequence.refs x.n upto) image file at

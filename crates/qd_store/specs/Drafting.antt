@@ -30,7 +30,7 @@ use Rattle.qd_sequencer.specs.Reading.{BreaksOff}
 use Rattle.qd_volume.specs.Disk.{Image}
 use Rattle.qd_store.specs.Damage.{IsDraftDamage, IsPartRead}
 use Rattle.qd_store.specs.Drafts.{between}
-use Rattle.qd_store.specs.Stores.{Store}
+use Rattle.qd_store.specs.Stores.{Book}
 
 -- ---- transactions that are taken
 
@@ -61,14 +61,14 @@ abbrev pub IsArrived : Versions → ℕ → Drafting → Type 0
 IsArrived v upto d = (x : Version) × (es : List Entry) × (version_at v v.current ≡ Some x) × HasArrived v.next_block x es upto d
 
 -- those of a history
-abbrev pub IsArrivedFrom : Result Drafting LogFault → Store → List Entry → ℕ → Type 0
+abbrev pub IsArrivedFrom : Result Drafting LogFault → Book → List Entry → ℕ → Type 0
 IsArrivedFrom (Ok d) s h upto = (x : Version) × (version_at s.versions.versions s.versions.versions.current ≡ Some x) × HasArrived s.versions.versions.next_block x (between h x.n upto) upto d
 IsArrivedFrom (Err (fault.Damaged file at)) s h upto = ⊥
 IsArrivedFrom (Err fault.Vol) s h upto = Unit {0}
 IsArrivedFrom (Err fault.Memory) s h upto = Unit {0}
 
 -- those at their places of a told volume, or where a draft finds damage before it plans
-abbrev pub AreArrived : Result Drafting LogFault → Store → ℕ → Image → Type 0
+abbrev pub AreArrived : Result Drafting LogFault → Book → ℕ → Image → Type 0
 AreArrived (Ok d) s upto image = (x : Version) × (es : List Entry) × (version_at s.versions.versions s.versions.versions.current ≡ Some x) × AreSpelled (slice_range s.sequence.refs x.n upto) es image × HasArrived s.versions.versions.next_block x es upto d
 AreArrived (Err (fault.Damaged file at)) s upto image = IsDraftDamage s upto image file at
 AreArrived (Err fault.Vol) s upto image = Unit {0}

@@ -20,7 +20,7 @@ use Rattle.qd_manifest.specs.Spelling.{IsManifest, schemas_in}
 use Rattle.qd_versions.specs.declared.published.NewBlock.{NewBlock}
 use Rattle.qd_versions.specs.Publishing.{AreNumbered}
 use Rattle.qd_versions.specs.Stores.{manifest_in}
-use Rattle.qd_store.specs.Stores.{Store}
+use Rattle.qd_store.specs.Stores.{Book}
 
 -- what contracts see of a draft: its plan, and the blocks of the parts that its merge reads, in order
 pub record Drafted : Type 0 where
@@ -98,12 +98,12 @@ abbrev pub between : List Entry → ℕ → ℕ → List Entry
 between h from upto = drop from (take upto h)
 
 -- The transactions of a history behind the current version, up to a number, are drafted. What the files hold is never damaged.
-abbrev pub IsDraftedFrom : Result Drafted LogFault → Store → List Entry → ℕ → Type 0
+abbrev pub IsDraftedFrom : Result Drafted LogFault → Book → List Entry → ℕ → Type 0
 IsDraftedFrom (Ok d) s h upto = (x : Version) × (contents : ℕ → Block) × (version_at s.versions.versions s.versions.versions.current ≡ Some x) × IsDraft s.versions.versions.next_block x (between h x.n upto) contents (first h x.n) d
 IsDraftedFrom (Err (fault.Damaged file at)) s h upto = ⊥
 IsDraftedFrom (Err fault.Vol) s h upto = Unit {0}
 IsDraftedFrom (Err fault.Memory) s h upto = Unit {0}
 
 -- What is merged are the transactions of a history behind the current version.
-abbrev pub IsNextOf : Store → List Entry → Merging → Type 0
+abbrev pub IsNextOf : Book → List Entry → Merging → Type 0
 IsNextOf s h m = (x : Version) × (contents : ℕ → Block) × (version_at s.versions.versions s.versions.versions.current ≡ Some x) × IsMerged s.versions.versions.next_block x (between h x.n m.upto) contents (first h x.n) m

@@ -21,7 +21,7 @@ use Rattle.qd_store.specs.declared.fault.OpenFault.{OpenFault}
 use Rattle.qd_store.specs.declared.fault.OpenFault.TheVariants as fault
 use Rattle.qd_store.specs.declared.fault.PublishFault.{PublishFault}
 use Rattle.qd_store.specs.declared.fault.PublishFault.TheVariants as publish
-use Rattle.qd_store.specs.Stores.{Store}
+use Rattle.qd_store.specs.Stores.{Book}
 
 -- An opening answers `Vol` exactly where it raises the volume's count of faults: the count is as before after every other answer.
 abbrev pub CountsOpen : {T : Type 0} → ℕ → ℕ → Result T OpenFault → Type 0
@@ -49,7 +49,7 @@ Causes Refuses full commit.Vol = Unit {0}
 Causes Refuses full commit.Memory = Unit {0}
 
 -- A transaction is there of which a fact holds, and there is no room for it.
-abbrev pub IsFullFor : Store → (Entry → Type 0) → Type 0
+abbrev pub IsFullFor : Book → (Entry → Type 0) → Type 0
 IsFullFor s Own = (s.limits.max_txns ≤ length s.sequence.refs) × (e : Entry) × Own e
 
 -- What an earlier commit left is settled before anything is answered but the fault of that, or want of memory.

@@ -15,13 +15,13 @@ use Rattle.qd_store.specs.Arriving.{IsPlaced, is_kept}
 use Rattle.qd_store.specs.Calls.{MayShow, ShowsOneOf}
 use Rattle.qd_store.specs.Prefixes.{HoldsTables}
 use Rattle.qd_store.specs.Found.{Finds, Found, IsWhole}
-use Rattle.qd_store.specs.Stores.{IsStore, Store}
+use Rattle.qd_store.specs.Stores.{Book, IsStore}
 
 -- Between two calls the volume of a store is whole: each image that a crash may leave has the history, or with it the transaction
 -- that a failed commit left, and the current version, or the one that a failed publication left.
 pub record StoresAreWhole : Type 0 where
-  pub whole : (s : Store) (h : List Entry) (next : Version) (disk : Disk) → versions.IsStore s.versions → IsStore s h next disk → IsWhole disk
-  pub shows : (s : Store) (h : List Entry) (next : Version) (disk : Disk) → versions.IsStore s.versions → IsStore s h next disk → EachNow disk (ShowsOneOf h (histories.IsPending s.sequence.pending disk) (MayShow s next))
+  pub whole : (s : Book) (h : List Entry) (next : Version) (disk : Disk) → versions.IsStore s.versions → IsStore s h next disk → IsWhole disk
+  pub shows : (s : Book) (h : List Entry) (next : Version) (disk : Disk) → versions.IsStore s.versions → IsStore s h next disk → EachNow disk (ShowsOneOf h (histories.IsPending s.sequence.pending disk) (MayShow s next))
 
 -- A volume that a crash has left as the image of a whole store, with all of it on the disk, is whole.
 abbrev pub CrashedIsWhole : Type 0
@@ -33,7 +33,7 @@ OneIsFound = (f g : Found) (image : Image) → Finds f image → Finds g image �
 
 -- Where the current version shows as many transactions as there are, each image holds the database after the whole history.
 abbrev pub AppliedIsAll : Type 0
-AppliedIsAll = (s : Store) (h : List Entry) (next : Version) (disk : Disk) (x : catalog.Version) → IsStore s h next disk → version_at s.versions.versions s.versions.versions.current ≡ Some x → x.n ≡ length s.sequence.refs
+AppliedIsAll = (s : Book) (h : List Entry) (next : Version) (disk : Disk) (x : catalog.Version) → IsStore s h next disk → version_at s.versions.versions s.versions.versions.current ≡ Some x → x.n ≡ length s.sequence.refs
     → EachNow disk (HoldsTables x.shape (after h))
 
 -- A commit by a writer that is kept goes on in its log, and no writer comes or goes. Behind each commit its writer is kept.

@@ -15,7 +15,7 @@ use Rattle.qd_store.specs.declared.fault.OpenFault.{OpenFault}
 use Rattle.qd_store.specs.declared.fault.OpenFault.TheVariants as fault
 use Rattle.qd_store.specs.Marks.{IsMade}
 use Rattle.qd_store.specs.Found.{Finds, Found, IsWhole}
-use Rattle.qd_store.specs.Stores.{IsStore, Store}
+use Rattle.qd_store.specs.Stores.{Book, IsStore}
 
 -- The damage of a store, in the order in which it is looked for: of the log; of the version files, beside a log of so many records; of
 -- the transactions behind the version: the first of them that is not spelled, or not lawful over the schemas before it.
@@ -29,14 +29,14 @@ abbrev pub IsUndamaged : Image → Type 0
 IsUndamaged image = (file at : ℕ) → IsDamaged image file at → ⊥
 
 -- what was opened of a whole volume: exactly its history, and its version
-pub record Opened (s : Store) (f : Found) (after : Disk) : Type 0 where
+pub record Opened (s : Book) (f : Found) (after : Disk) : Type 0 where
   pub refs : s.sequence.refs ≡ f.refs
   pub shown : s.versions.root.n ≡ f.n
   pub stands : (next : Version) → IsStore s f.history next after
 
 -- A volume is opened only where no place of it is damaged; a whole one takes exactly what is found. It isn't made exactly where its
 -- mark isn't there, and it is damaged at a place exactly where its files are: no whole volume is.
-abbrev pub IsOpened : Result Store OpenFault → Disk → Disk → Type 0
+abbrev pub IsOpened : Result Book OpenFault → Disk → Disk → Type 0
 IsOpened (Ok s) before after = IsMade (reads_of before) × (IsWhole before → (f : Found) → Finds f (reads_of before) → Opened s f after) × IsUndamaged (reads_of before)
 IsOpened (Err fault.NotMade) before after = IsMade (reads_of before) → ⊥
 IsOpened (Err (fault.Damaged file at)) before after = IsMade (reads_of before) × IsDamaged (reads_of before) file at × (IsWhole before → ⊥)
@@ -45,7 +45,7 @@ IsOpened (Err fault.Memory) before after = Unit {0}
 
 -- The files are synced and read. At each moment, and whatever is answered, a crash leaves only what one before the call might have
 -- left, and each file reads as it did.
-pub record Opens (result : Result Store OpenFault) (before after : Disk) : Type 0 where
+pub record Opens (result : Result Book OpenFault) (before after : Disk) : Type 0 where
   pub found : IsOpened result before after
   pub reads : (file : ℕ) → reads_of after file ≡ reads_of before file
   pub images : LeavesEarlier before after

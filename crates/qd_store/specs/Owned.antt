@@ -3,11 +3,11 @@ use Rattle.std.specs.Prelude.{Result, Ok, Err}
 use Rattle.qd_volume.specs.Calls.{Storage}
 use Rattle.qd_store.specs.declared.fault.OpenFault.{OpenFault}
 use Rattle.qd_store.specs.declared.fault.OpenFault.TheVariants as fault
-use Rattle.qd_store.specs.Stores.{Store}
+use Rattle.qd_store.specs.Stores.{Book}
 
--- what contracts see of it: the store, and what its volume shows
-pub record Owned : Type 0 where
-  pub store : Store
+-- what contracts see of it: the book, and what its volume shows
+pub record Store : Type 0 where
+  pub store : Book
   pub storage : Storage
 
 -- what they see of a volume that has no store, and why it has none
@@ -15,12 +15,12 @@ pub record Left : Type 0 where
   pub storage : Storage
   pub why : OpenFault
 
--- the store of an answer, or why there is none; and what the volume shows
-abbrev pub store_in : Result Owned Left → Result Store OpenFault
+-- the book of an answer, or why there is none; and what the volume shows
+abbrev pub store_in : Result Store Left → Result Book OpenFault
 store_in (Ok owned) = Ok owned.store
 store_in (Err left) = Err left.why
 
-abbrev pub storage_in : Result Owned Left → Storage
+abbrev pub storage_in : Result Store Left → Storage
 storage_in (Ok owned) = owned.storage
 storage_in (Err left) = left.storage
 

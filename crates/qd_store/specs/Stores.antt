@@ -17,7 +17,7 @@ use Rattle.qd_store.specs.Prefixes.{IsLeft, IsShown}
 use Rattle.qd_base.specs.declared.limits.TheConstants.{MAX_TXNS}
 
 -- what contracts see of a store, beside its volume
-pub record Store : Type 0 where
+pub record Book : Type 0 where
   pub sequence : Sequence
   pub versions : versions.Store
   pub limits : Limits
@@ -28,7 +28,7 @@ pub record AreLimits (l : Limits) : Type 0 where
   pub size : l.seg_bytes ≤ 2 ^ 62
 
 -- What holds of every store, whatever its volume tells: no version shows more transactions than there are.
-pub record IsBook (s : Store) : Type 0 where
+pub record IsBook (s : Book) : Type 0 where
   pub limits : AreLimits s.limits
   pub few : length s.sequence.refs ≤ MAX_TXNS
   pub shown : (row : ℕ) (x : catalog.Version) → version_at s.versions.versions row ≡ Some x → x.n ≤ length s.sequence.refs
@@ -47,6 +47,6 @@ pub record HasVersions (v : versions.Store) (history : List Entry) (next : Versi
   pub live : (row : ℕ) (x : catalog.Version) → version_at v.versions row ≡ Some x → IsShown history x.n x.shape disk
 
 -- The invariant of a store over a told volume: the sequencer stands behind the history, and the versions stand for it.
-pub record IsStore (s : Store) (history : List Entry) (next : Version) (disk : Disk) : Type 0 where
+pub record IsStore (s : Book) (history : List Entry) (next : Version) (disk : Disk) : Type 0 where
   pub sequence : IsSequence s.sequence history disk
   pub versions : HasVersions s.versions history next disk

@@ -25,9 +25,9 @@ pub(crate) struct Book {
 }
 
 impl Model for Book {
-    ghost use Rattle.qd_store.specs.Stores.{IsBook, Store};
+    ghost use Rattle.qd_store.specs.Stores.{Book, IsBook};
 
-    ghost Value = { Store };
+    ghost Value = { Book };
 
     ghost view = { λ b. record { sequence = b.sequencer; versions = b.versions; limits = b.limits } };
 

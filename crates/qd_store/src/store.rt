@@ -60,7 +60,7 @@ use std::marker::Model;
 /// A store, which owns its volume: it commits transactions, shows prefixes of their history as versions, and removes what no
 /// version lists.
 ///
-/// Contracts see an `Owned`. What that says of a told volume is the definition `IsStore`: the sequencer stands behind a history,
+/// Contracts see a `Store`. What that says of a told volume is the definition `IsStore`: the sequencer stands behind a history,
 /// and each live version stands for its first transactions. `specs/Calls` and `specs/Merges` say what each call may leave of the
 /// volume at every moment of it, and that `IsStore` holds behind it.
 #[derive(Drop)]
@@ -70,9 +70,9 @@ pub struct Store<V: Volume> {
 }
 
 impl<V: Volume> Model for Store<V> {
-    ghost use Rattle.qd_store.specs.Owned.{Owned};
+    ghost use Rattle.qd_store.specs.Owned.{Store};
 
-    ghost Value = { Owned };
+    ghost Value = { Store };
 
     ghost view = { λ s. record { store = s.book; storage = V.storage s.volume } };
 }

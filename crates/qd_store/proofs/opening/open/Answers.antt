@@ -4,7 +4,7 @@ use Rattle.std.proofs.lemmas.Result.{err_from_is_err_and}
 use Rattle.qd_manifest.specs.Spelling.{schemas_in}
 use Rattle.qd_manifest.specs.declared.shape.TableParts.{TableParts}
 use Rattle.qd_seq.specs.States.{Log}
-use Rattle.qd_store.specs.Stores.{Store}
+use Rattle.qd_store.specs.Stores.{Book}
 use Rattle.qd_store.proofs.OpenSteps.{book_of_one, entries_failed, log_failed, log_opened, mark_failed, no_mark, no_memory, number_here, ready, root_opened, store_opened, sync_failed, tables_here, versions_failed}
 use Rattle.qd_store.proofs.OpenedStore.{alone_of_it}
 use Rattle.qd_store.proofs.opening.open.Goals as goal
@@ -61,13 +61,13 @@ returns-in_err-sequencer-clause-told g c =
 
 pub invariant_of-result : goal.invariant_of-result
 invariant_of-result g c =
-    let s : Store = record { sequence = c.in_ok-sequencer.sequencer; versions = c.in_ok-versions.versions; limits = c.args.limits } in
+    let s : Book = record { sequence = c.in_ok-sequencer.sequencer; versions = c.in_ok-versions.versions; limits = c.args.limits } in
     let few : length s.sequence.refs ≤ MAX_TXNS = subst (λ (l : List WalRef). length l ≤ MAX_TXNS) (sym (c.in_ok-sequencer.ensures.list.0 ∙ ap (λ (k : Log). k.refs) (sym c.log.view_is))) c.log.invariant.0 in
     book_of_one s c.in_ok-versions.ensures.opened.0 c.requires.limits few c.in_ok-versions.ensures.opened.2 (rw c.in_ok-sequencer.ensures.list.0 (subst (λ (l : List WalRef). c.in_ok-versions.versions.root.n ≤ length l) c.refs.ensures.list c.in_ok-versions.ensures.shown))
 
 pub returns-clause-told : goal.returns-clause-told
 returns-clause-told g c =
-    let s : Store = record { sequence = c.in_ok-sequencer.sequencer; versions = c.in_ok-versions.versions; limits = c.args.limits } in
+    let s : Book = record { sequence = c.in_ok-sequencer.sequencer; versions = c.in_ok-versions.versions; limits = c.args.limits } in
     let o = c.in_ok-versions.ensures.opened in
     let v = c.in_ok-versions.versions in
     let m = o.0 in

@@ -3,7 +3,7 @@ use Rattle.std.proofs.lemmas.Result.{err_from_is_err_and}
 use Rattle.qd_sequencer.specs.declared.fault.CommitFault.{CommitFault}
 use Rattle.qd_sequencer.specs.declared.fault.Committed.{Committed}
 use Rattle.qd_store.specs.Arriving.{SaysLines}
-use Rattle.qd_store.specs.Stores.{Store}
+use Rattle.qd_store.specs.Stores.{Book}
 use Rattle.qd_store.proofs.Settled.{alone_told, ready_told, settled_lines, unsettled}
 use Rattle.qd_store.proofs.book.Book.accept_lines.Goals as goal
 
@@ -18,7 +18,7 @@ returns-in-Ok-clause-told g c =
     ready_told c.commit.result c.args.self.now c.settle.new.self c.commit.new.self _ _ _
     c.settle.ensures.same c.in_ok-settle.ensures.clean c.settle.ensures.versions c.settle.ensures.told
     (λ schemas e. SaysLines schemas c.args.now c.args.batch.now e) c.in-Ok.field-0 c.bytes-in-Ok.result.now c.bytes-in-Ok.ensures.same c.commit.ensures.told
-    c.schemas.result.now (c.schemas.ensures.schemas ∙ ap (λ (s : Store). s.sequence.schemas) c.self.view_is) c.in-Ok.ensures.prepared
+    c.schemas.result.now (c.schemas.ensures.schemas ∙ ap (λ (s : Book). s.sequence.schemas) c.self.view_is) c.in-Ok.ensures.prepared
 
 pub returns-in-Err-clause-told : goal.returns-in-Err-clause-told
 returns-in-Err-clause-told g c =

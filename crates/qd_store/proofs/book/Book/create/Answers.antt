@@ -1,6 +1,6 @@
 use Rattle.std.proofs.Common.{[]}
 use Rattle.std.proofs.lemmas.Result.{err_from_is_err_and}
-use Rattle.qd_store.specs.Stores.{Store}
+use Rattle.qd_store.specs.Stores.{Book}
 use Rattle.qd_store.proofs.CreateTold.{book_of_none, is_marked_told, none_shown, not_logged_told, not_marked_told, not_rooted_told, sound_of}
 use Rattle.qd_store.proofs.OpenedStore.{alone_of_it}
 use Rattle.qd_store.proofs.book.Book.create.Goals as goal
@@ -18,7 +18,7 @@ returns-in_err-versions-clause-told g c =
 pub returns-in_err-write_mark-clause-told : goal.returns-in_err-write_mark-clause-told
 returns-in_err-write_mark-clause-told g c =
     let p = err_from_is_err_and c.from_residual-in_err-write_mark.result c.from_residual-in_err-write_mark.ensures.1 in
-    let s : Store = record { sequence = c.in_ok-sequencer.sequencer; versions = c.in_ok-versions.versions; limits = c.args.limits } in
+    let s : Book = record { sequence = c.in_ok-sequencer.sequencer; versions = c.in_ok-versions.versions; limits = c.args.limits } in
     rw p.1 (not_marked_told s c.other_files_leave_the_sequence.ensures (sound_of c.in_ok-versions.versions c.keeps_its_law.ensures.law c.in_ok-versions.ensures.opened) c.in_ok-versions.ensures.clean c.in_ok-versions.ensures.opened
     c.in_err-write_mark.field-0.0 p.0 _ _ _ _ c.in_ok-sequencer.ensures.told c.in_ok-versions.ensures.told c.in_err-write_mark.ensures.told)
 
@@ -30,7 +30,7 @@ returns-clause-empty g c = (c.in_ok-sequencer.ensures.empty.0, none_shown c.in_o
 
 pub returns-clause-told : goal.returns-clause-told
 returns-clause-told g c =
-    let s : Store = record { sequence = c.in_ok-sequencer.sequencer; versions = c.in_ok-versions.versions; limits = c.args.limits } in
+    let s : Book = record { sequence = c.in_ok-sequencer.sequencer; versions = c.in_ok-versions.versions; limits = c.args.limits } in
     is_marked_told s c.other_files_leave_the_sequence.ensures (sound_of c.in_ok-versions.versions c.keeps_its_law.ensures.law c.in_ok-versions.ensures.opened) c.in_ok-versions.ensures.clean c.in_ok-versions.ensures.opened
     c.in_ok-write_mark.field-0 _ _ _ _ c.in_ok-sequencer.ensures.told c.in_ok-versions.ensures.told c.in_ok-write_mark.ensures.told
 

@@ -2,7 +2,7 @@ use Rattle.std.proofs.Common.{◌≡◌, ◌≤◌, ◌^◌, Err, refl, subst, a
 use Rattle.std.proofs.lemmas.Result.{err_from_is_err_and}
 use Rattle.qd_durable.specs.declared.fault.LogFault.{LogFault}
 use Rattle.qd_versions.specs.Stores as versions
-use Rattle.qd_store.specs.Stores.{IsBook, Store}
+use Rattle.qd_store.specs.Stores.{Book, IsBook}
 use Rattle.qd_store.proofs.Drafted.{arrives_damaged, drafted_over, drafted_told, reads_damaged, undrafted_told}
 use Rattle.qd_store.proofs.book.Book.draft.Goals as goal
 
@@ -20,24 +20,24 @@ returns-in_err-blocks-clause-damaged g c =
 pub returns-in_err-blocks-clause-told : goal.returns-in_err-blocks-clause-told
 returns-in_err-blocks-clause-told g c =
     let p = err_from_is_err_and c.from_residual-in_err-blocks.result c.from_residual-in_err-blocks.ensures.1 in
-    let s : Store = c.args.self.now in
-    let law : versions.IsStore s.versions = subst (λ (s : Store). versions.IsStore s.versions) c.self.view_is c.keeps_its_law.ensures.law in
+    let s : Book = c.args.self.now in
+    let law : versions.IsStore s.versions = subst (λ (s : Book). versions.IsStore s.versions) c.self.view_is c.keeps_its_law.ensures.law in
     let book : IsBook s = subst IsBook c.self.view_is c.self.invariant in
     let few : c.args.upto ≤ 2 ^ 30 = omega (arith, c.requires.few, book.few) in
     rw (p.1, p.2) (undrafted_told s law c.rows_are_few.ensures.law c.args.upto few c.requires.more c.in_ok-arrived.arrived c.in_ok-plan.plan c.in_ok-plan.ensures.plan c.in_err-blocks.field-0.0 _ _ c.in_ok-arrived.ensures.stays c.in_ok-arrived.ensures.told c.in_err-blocks.ensures.told)
 
 pub returns-clause-over : goal.returns-clause-over
 returns-clause-over g c =
-    let s : Store = c.args.self.now in
-    let law : versions.IsStore s.versions = subst (λ (s : Store). versions.IsStore s.versions) c.self.view_is c.keeps_its_law.ensures.law in
+    let s : Book = c.args.self.now in
+    let law : versions.IsStore s.versions = subst (λ (s : Book). versions.IsStore s.versions) c.self.view_is c.keeps_its_law.ensures.law in
     let book : IsBook s = subst IsBook c.self.view_is c.self.invariant in
     let few : c.args.upto ≤ 2 ^ 30 = omega (arith, c.requires.few, book.few) in
     drafted_over s.versions law c.args.upto c.in_ok-arrived.arrived c.in_ok-arrived.ensures.arrived c.in_ok-plan.plan c.in_ok-plan.ensures.plan few c.requires.more _ c.in_ok-blocks.ensures.read
 
 pub invariant_of-result : goal.invariant_of-result
 invariant_of-result g c =
-    let s : Store = c.args.self.now in
-    let law : versions.IsStore s.versions = subst (λ (s : Store). versions.IsStore s.versions) c.self.view_is c.keeps_its_law.ensures.law in
+    let s : Book = c.args.self.now in
+    let law : versions.IsStore s.versions = subst (λ (s : Book). versions.IsStore s.versions) c.self.view_is c.keeps_its_law.ensures.law in
     let book : IsBook s = subst IsBook c.self.view_is c.self.invariant in
     let few : c.args.upto ≤ 2 ^ 30 = omega (arith, c.requires.few, book.few) in
     let over = drafted_over s.versions law c.args.upto c.in_ok-arrived.arrived c.in_ok-arrived.ensures.arrived c.in_ok-plan.plan c.in_ok-plan.ensures.plan few c.requires.more _ c.in_ok-blocks.ensures.read in
@@ -45,8 +45,8 @@ invariant_of-result g c =
 
 pub returns-clause-told : goal.returns-clause-told
 returns-clause-told g c =
-    let s : Store = c.args.self.now in
-    let law : versions.IsStore s.versions = subst (λ (s : Store). versions.IsStore s.versions) c.self.view_is c.keeps_its_law.ensures.law in
+    let s : Book = c.args.self.now in
+    let law : versions.IsStore s.versions = subst (λ (s : Book). versions.IsStore s.versions) c.self.view_is c.keeps_its_law.ensures.law in
     let book : IsBook s = subst IsBook c.self.view_is c.self.invariant in
     let few : c.args.upto ≤ 2 ^ 30 = omega (arith, c.requires.few, book.few) in
     drafted_told s law c.rows_are_few.ensures.law c.args.upto few c.requires.more c.in_ok-arrived.arrived c.in_ok-plan.plan c.in_ok-plan.ensures.plan c.in_ok-blocks.blocks _ _ c.in_ok-arrived.ensures.stays c.in_ok-arrived.ensures.told c.in_ok-blocks.ensures.told

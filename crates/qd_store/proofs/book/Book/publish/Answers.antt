@@ -1,21 +1,21 @@
 use Rattle.std.proofs.Common.{◌≤◌, length, refl, sym, subst}
 use Rattle.qd_versions.specs.Publishing.{AreNumbered, MayPublish}
 use Rattle.qd_versions.proofs.Steps.{numbered_at}
-use Rattle.qd_store.specs.Stores.{Store}
+use Rattle.qd_store.specs.Stores.{Book}
 use Rattle.qd_store.proofs.Published.{book_of, published_told}
 use Rattle.qd_store.proofs.book.Book.publish.Goals as goal
 
 pub invariant_of-self : goal.invariant_of-self
 invariant_of-self g c =
-    let inside : Store = record { sequence = c.self.inside.sequencer; versions = c.self.inside.versions; limits = c.self.inside.limits } in
-    let new : Store = record { sequence = c.self.inside.sequencer; versions = c.publish.new.self; limits = c.self.inside.limits } in
-    book_of inside new c.args.n c.args.shape.now c.self.invariant (subst (λ (s : Store). c.args.n ≤ length s.sequence.refs) (sym c.self.view_is) c.requires.few) refl refl c.publish.result c.publish.ensures.added c.publish.ensures.same
+    let inside : Book = record { sequence = c.self.inside.sequencer; versions = c.self.inside.versions; limits = c.self.inside.limits } in
+    let new : Book = record { sequence = c.self.inside.sequencer; versions = c.publish.new.self; limits = c.self.inside.limits } in
+    book_of inside new c.args.n c.args.shape.now c.self.invariant (subst (λ (s : Book). c.args.n ≤ length s.sequence.refs) (sym c.self.view_is) c.requires.few) refl refl c.publish.result c.publish.ensures.added c.publish.ensures.same
 
 pub returns-clause-told : goal.returns-clause-told
 returns-clause-told g c =
-    let inside : Store = record { sequence = c.self.inside.sequencer; versions = c.self.inside.versions; limits = c.self.inside.limits } in
-    let new : Store = record { sequence = c.self.inside.sequencer; versions = c.publish.new.self; limits = c.self.inside.limits } in
+    let inside : Book = record { sequence = c.self.inside.sequencer; versions = c.self.inside.versions; limits = c.self.inside.limits } in
+    let new : Book = record { sequence = c.self.inside.sequencer; versions = c.publish.new.self; limits = c.self.inside.limits } in
     published_told c.publish.result c.args.self.now inside new c.args.n c.args.shape.now c.args.blocks.now _ _ (sym c.self.view_is) c.keeps_its_law.ensures.law c.other_files_leave_the_sequence.ensures
-    (subst (λ (s : Store). MayPublish s.versions.versions c.args.n c.args.shape.now (length c.args.blocks.now)) (sym c.self.view_is) c.requires.may)
-    (numbered_at c.self.inside.versions.versions.next_block c.args.blocks.now (subst (λ (s : Store). AreNumbered s.versions.versions.next_block c.args.blocks.now) (sym c.self.view_is) c.requires.numbered))
+    (subst (λ (s : Book). MayPublish s.versions.versions c.args.n c.args.shape.now (length c.args.blocks.now)) (sym c.self.view_is) c.requires.may)
+    (numbered_at c.self.inside.versions.versions.next_block c.args.blocks.now (subst (λ (s : Book). AreNumbered s.versions.versions.next_block c.args.blocks.now) (sym c.self.view_is) c.requires.numbered))
     refl c.publish.ensures.added c.publish.ensures.same c.publish.ensures.told

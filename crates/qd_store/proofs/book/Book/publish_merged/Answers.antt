@@ -4,13 +4,13 @@ use Rattle.qd_catalog.specs.Versions.{current_n}
 use Rattle.qd_versions.specs.declared.fault.PublishFault as root
 use Rattle.qd_store.specs.declared.fault.PublishFault.{PublishFault}
 use Rattle.qd_store.specs.Drafts.{Merging}
-use Rattle.qd_store.specs.Stores.{Store}
+use Rattle.qd_store.specs.Stores.{Book}
 use Rattle.qd_store.proofs.PublishedMerged.{current_number, failed_inside, may_inside, published_inside}
 use Rattle.qd_store.proofs.book.Book.publish_merged.Goals as goal
 
 pub publish-requires-clause-may : goal.publish-requires-clause-may
 publish-requires-clause-may g c =
-    let s : Store = record { sequence = c.self.inside.sequencer; versions = c.self.inside.versions; limits = c.self.inside.limits } in
+    let s : Book = record { sequence = c.self.inside.sequencer; versions = c.self.inside.versions; limits = c.self.inside.limits } in
     let i = c.merged.inside in
     let m : Merging = record { base = i.base; upto = i.upto; shape = i.shape; blocks = i.blocks.items } in
     let here : current_n s.versions.versions ≡ Some m.base = current_number s.versions.versions c.current.result c.n_of.result c.unwrap_or-n.result c.current.ensures.row c.current.ensures.live c.n_of.ensures.n c.unwrap_or-n.ensures ∙ ap Some c.if-n-merged.false in

@@ -1,5 +1,4 @@
 //! Batches and statements that are committed.
-ghost use Rattle.qd_base.specs.declared.code.Code.{Code};
 ghost use Rattle.qd_durable.specs.Moments.{Told};
 ghost use Rattle.qd_io.specs.Ends.{Counts};
 ghost use Rattle.qd_lines.specs.declared.fault.LineFault.TheVariants as lines;
@@ -19,7 +18,7 @@ use crate::fault::{of_lines, of_stmt};
 use qd_ilp::Batch;
 use qd_io::IoFault;
 use qd_prepare::{Prepared, prepare_lines, prepare_stmt};
-use qd_sequencer::{CommitFault, Committed, other_files_leave_the_sequence};
+use qd_sequencer::{CommitFault, Committed};
 use qd_sql_ast::Stmt;
 use qd_volume::Volume;
 use std::alloc::Global;

@@ -10,7 +10,7 @@ ghost use Rattle.qd_store.specs.Reading.{IsShownPart};
 ghost use Rattle.qd_store.specs.Stores.{IsStore};
 ghost use Rattle.qd_txnfile.specs.Versions.{Version};
 ghost use Rattle.qd_versions.specs.Reading.{IsPartAt};
-ghost use Rattle.qd_volume.specs.Disk.{Disk, reads_of};
+ghost use Rattle.qd_volume.specs.Disk.{reads_of};
 ghost use Rattle.std.specs.Prelude.{◌≡◌, List, IfOk, IfSome};
 
 use crate::book::Book;

@@ -1,5 +1,4 @@
 //! A store that owns its volume.
-ghost use Rattle.qd_base.specs.declared.code.Code.{Code};
 ghost use Rattle.qd_base.specs.declared.op.Entry.{Entry};
 ghost use Rattle.qd_base.specs.declared.part.Part.{Part};
 ghost use Rattle.qd_base.specs.Lawful.{AreSchemas};

@@ -30,7 +30,7 @@ use crate::published::NewBlock;
 use crate::writing::{clear, lay_down};
 use qd_block::Block;
 use qd_catalog::{Catalog, manifest_of};
-use qd_column_files::{read_block, remove_block};
+use qd_column_files::read_block;
 use qd_durable::LogFault;
 use qd_io::IoFault;
 use qd_manifest::Shape;

@@ -66,7 +66,7 @@ answers_done old time text n entry says is =
     let longer : length (old.history ++ entry ∷ []) ≡ length old.history + 1 = length_push old.history entry in
     record {
       grows = record { history = (entry ∷ [], refl); sequenced = omega (arith, longer); known = omega arith; faults = omega arith };
-      allowed = λ clock clock' later. ((is ∙ sym longer, omega (arith, is), (entry, at, subst (λ (db : Database). SaysBatch (schemas_of db) time text (Ok entry)) (sym front) says)), refl, longer, λ left. left);
+      allowed = λ clock clock' later. ((is ∙ sym longer, omega (arith, is), (entry, at, subst (λ (db : Database). SaysBatch (schemas_of db) time text (Ok entry)) (sym front) says)), refl, longer, λ e left. absurd (cc (left)));
       own = own_more old.history entry n is;
     }
 
@@ -77,7 +77,7 @@ answers_refused old time text number line c is says =
     let all : first old.history (length old.history) ≡ after old.history = ap after (take_all (length old.history) old.history (omega arith)) in
     record {
       grows = grows_still old;
-      allowed = λ clock clock' later. (inl (c, is, subst (λ (db : Database). SaysBatch (schemas_of db) time text (Err (c, line))) (sym all) says), refl, refl, λ left. absurd (cc (left)));
+      allowed = λ clock clock' later. (inl (c, is, subst (λ (db : Database). SaysBatch (schemas_of db) time text (Err (c, line))) (sym all) says), refl, refl, λ e left. absurd (cc (left)));
       own = sym (append-nil (range_with_len 1 (length old.history)));
     }
 
@@ -100,12 +100,12 @@ answers_question : (l : Listed) (time : ℕ) (text : List ℕ) (s : Stmt) (a : R
     → Answers AllowedAlone (listed_shown l) (listed_shown l) time (request.Sql text) (answered l.applied a)
 answers_question l time text s (Ok table) within asks question is = record {
   grows = grows_still l;
-  allowed = λ clock clock' later. ((s, asks, question, (omega arith, omega arith), within, is), (refl, refl), refl, λ left. left);
+  allowed = λ clock clock' later. ((s, asks, question, (omega arith, omega arith), within, is), (refl, refl), refl, λ e left. absurd (cc (left)));
   own = sym (append-nil (range_with_len 1 (length l.history)));
 }
 answers_question l time text s (Err r) within asks question is = record {
   grows = grows_still l;
-  allowed = λ clock clock' later. ((s, asks, question, (omega arith, omega arith), within, (r, is, refl, refl)), (refl, refl), refl, λ left. left);
+  allowed = λ clock clock' later. ((s, asks, question, (omega arith, omega arith), within, (r, is, refl, refl)), (refl, refl), refl, λ e left. absurd (cc (left)));
   own = sym (append-nil (range_with_len 1 (length l.history)));
 }
 
@@ -120,7 +120,7 @@ answers_written old time text s n entry asks writes says is =
     record {
       grows = record { history = (entry ∷ [], refl); sequenced = omega (arith, longer); known = omega arith; faults = omega arith };
       allowed =
-          λ clock clock' later. ((s, asks, writes, is ∙ sym longer, omega (arith, is), (entry, at, subst (λ (db : Database). write (schemas_of db) s ≡ Ok entry) (sym front) says)), refl, longer, λ left. left);
+          λ clock clock' later. ((s, asks, writes, is ∙ sym longer, omega (arith, is), (entry, at, subst (λ (db : Database). write (schemas_of db) s ≡ Ok entry) (sym front) says)), refl, longer, λ e left. absurd (cc (left)));
       own = own_more old.history entry n is;
     }
 
@@ -131,7 +131,7 @@ answers_unwritten old time text s number place r asks says is at =
     let all : first old.history (length old.history) ≡ after old.history = ap after (take_all (length old.history) old.history (omega arith)) in
     record {
       grows = grows_still old;
-      allowed = λ clock clock' later. (inr (inl (s, asks, (r, subst (λ (db : Database). write (schemas_of db) s ≡ Err r) (sym all) says, is, at))), refl, refl, λ left. absurd (cc (left)));
+      allowed = λ clock clock' later. (inr (inl (s, asks, (r, subst (λ (db : Database). write (schemas_of db) s ≡ Err r) (sym all) says, is, at))), refl, refl, λ e left. absurd (cc (left)));
       own = sym (append-nil (range_with_len 1 (length old.history)));
     }
 
@@ -166,7 +166,7 @@ answers_sql old new time text (Err (fault.Refused why place)) given within asks 
     answers_same old new time text given _ made same
     (record {
       grows = grows_still old;
-      allowed = λ clock clock' later. (inl (why, refl, asks), refl, refl, λ left. absurd (cc (left)));
+      allowed = λ clock clock' later. (inl (why, refl, asks), refl, refl, λ e left. absurd (cc (left)));
       own = sym (append-nil (range_with_len 1 (length old.history)));
     })
 answers_sql old new time text (Err fault.Memory) given within asks h = absurd h
@@ -181,7 +181,7 @@ handles_sql old new time text (Ok given) within ok same = answers_sql old new ti
 answers_applied : (l : Listed) (time : ℕ) → l.applied ≤ length l.history → Answers AllowedAlone (listed_shown l) (listed_shown (all_applied l)) time request.Apply (reply.Applied (length l.history))
 answers_applied l time within = record {
   grows = record { history = ([], ap Some (sym (append-nil l.history))); sequenced = omega arith; known = within; faults = omega arith };
-  allowed = λ clock clock' later. (((within, omega arith), omega arith, omega arith), refl, refl, λ left. left);
+  allowed = λ clock clock' later. (((within, omega arith), omega arith, omega arith), refl, refl, λ e left. absurd (cc (left)));
   own = sym (append-nil (range_with_len 1 (length l.history)));
 }
 

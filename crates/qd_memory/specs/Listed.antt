@@ -1,5 +1,5 @@
 -- What a list of transactions keeps: its history, and how many of it are applied.
-use Rattle.std.specs.Prelude.{◌≡◌, ℕ, false, ◌+◌, ◌*◌, ◌≤◌, List, [], ◌∷◌, ◌++◌, length, Some, Result, Ok, Err}
+use Rattle.std.specs.Prelude.{◌≡◌, ℕ, ◌+◌, ◌*◌, ◌≤◌, List, [], ◌∷◌, ◌++◌, length, None, Some, Result, Ok, Err}
 use Rattle.std.specs.List.{range_with_len}
 use Rattle.qd_base.specs.Codes.{number_of}
 use Rattle.qd_base.specs.declared.code.Code.{Code}
@@ -38,7 +38,7 @@ listed_shown l = record {
   own = range_with_len 1 (length l.history);
   faults = 0;
   pinned = [];
-  pending = false;
+  pending = None;
 }
 
 -- what the lines of a batch say over the tables that are there

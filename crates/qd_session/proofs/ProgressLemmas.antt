@@ -14,7 +14,7 @@ use Rattle.qd_session.specs.declared.ended.Ended.{Ended as EndedBy}
 use Rattle.qd_session.specs.declared.ended.Ended.TheVariants as ended
 use Rattle.qd_session.specs.Looks.{Extends, IsCounted, Look, Shown, look_at}
 use Rattle.qd_session.specs.Legal.{EndIsLast, GoesOn, IsLasting, LegalRun, Rule, done_in, done_numbers}
-use Rattle.qd_session.specs.Session.{Concludes, Dialogue, IsBad, IsCutShort, Moment, Moves, Progress, Serves, TakenFrom, look, refusal, requests_in, transcript, with_turns}
+use Rattle.qd_session.specs.Session.{Concludes, Dialogue, IsBad, IsCutShort, IsWrittenUpTo, Moment, Moves, Progress, Serves, TakenFrom, last_bytes, look, refusal, requests_in, transcript, with_turns}
 use Rattle.qd_session.specs.Turns.{BadEnd, CutStep, EndOf, IsBadHere, IsHandled, IsIdle, Replied, Stepped, Stopped, TurnOf, WritesFront}
 use Rattle.qd_session.proofs.HandledLemmas.{faults_rise}
 use Rattle.qd_session.proofs.WireLemmas.{moves-none, moves-put, moves-take, over-from_out}
@@ -42,6 +42,20 @@ transcript-says (Asks a p ∷ turns) (r ∷ replies) said e =
     ap (λ (x : List ℕ). p r ++ x) (transcript-says turns replies said (omega (arith, e))) ∙ sym (append_assoc (p r) (transcript turns replies) said)
 transcript-says (Says bytes ∷ turns) replies said e =
     ap (λ (x : List ℕ). bytes ++ x) (transcript-says turns replies said e) ∙ sym (append_assoc bytes (transcript turns replies) said)
+
+-- the last turn's bytes are those of one more
+pub last-asks : (these : List ℕ) (turns : List Turn) (replies : List Reply) (asked : Request) (printed : Reply → List ℕ) (given : Reply) → length replies ≡ length (requests_in turns) → last_bytes these (turns ++ Asks asked printed ∷ []) (replies ++ given ∷ []) ≡ printed given
+last-asks these [] [] asked printed given e = refl
+last-asks these [] (r ∷ replies) asked printed given e = absurd (omega (arith, e))
+last-asks these (Asks a p ∷ turns) [] asked printed given e = absurd (omega (arith, e))
+last-asks these (Asks a p ∷ turns) (r ∷ replies) asked printed given e = last-asks (p r) turns replies asked printed given (omega (arith, e))
+last-asks these (Says bytes ∷ turns) replies asked printed given e = last-asks bytes turns replies asked printed given e
+
+pub last-says : (these : List ℕ) (turns : List Turn) (replies : List Reply) (said : List ℕ) → length replies ≡ length (requests_in turns) → last_bytes these (turns ++ Says said ∷ []) replies ≡ said
+last-says these [] replies said e = refl
+last-says these (Asks a p ∷ turns) [] said e = absurd (omega (arith, e))
+last-says these (Asks a p ∷ turns) (r ∷ replies) said e = last-says (p r) turns replies said (omega (arith, e))
+last-says these (Says bytes ∷ turns) replies said e = last-says bytes turns replies said e
 
 -- a turn behind others, before a script
 pub with_turns-snoc : (turns : List Turn) (turn : Turn) (s : Script) → with_turns turns (with_turn turn s) ≡ with_turns (turns ++ turn ∷ []) s
@@ -89,6 +103,7 @@ module _ (rule : Rule) (before m now : Moment) (fed : ℕ) (lasts : IsLasting ru
   record Spoken (asked : Request) (printed : Reply → List ℕ) (given : Reply) (bytes : List ℕ) : Type 0 where
     run : LegalRun rule now.back.history (look before) (requests_in (r.progress.turns ++ Asks asked printed ∷ [])) (r.progress.replies ++ given ∷ []) (look now)
     bytes_are : transcript (r.progress.turns ++ Asks asked printed ∷ []) (r.progress.replies ++ given ∷ []) ≡ r.written ++ bytes
+    last_are : last_bytes [] (r.progress.turns ++ Asks asked printed ∷ []) (r.progress.replies ++ given ∷ []) ≡ bytes
     own : now.back.own ≡ before.back.own ++ done_numbers (r.progress.replies ++ given ∷ [])
     grows : Extends before.back.history now.back.history
 
@@ -102,6 +117,7 @@ module _ (rule : Rule) (before m now : Moment) (fed : ℕ) (lasts : IsLasting ru
             h.read
             h.allowed);
         bytes_are = transcript-asks r.progress.turns r.progress.replies asked printed given same_length ∙ ap (λ (x : List ℕ). x ++ printed given) (sym r.progress.bytes) ∙ ap (λ (x : List ℕ). r.written ++ x) (sym e);
+        last_are = last-asks [] r.progress.turns r.progress.replies asked printed given same_length ∙ sym e;
         own = h.own ∙ ap (λ (x : List ℕ). x ++ done_in given) r.progress.own ∙ append_assoc before.back.own (done_numbers r.progress.replies) (done_in given) ∙ ap (λ (x : List ℕ). before.back.own ++ x) (sym (done_numbers-snoc r.progress.replies given));
         grows = extends-on before.back.history m.back.history now.back.history r.grows h.grows.history;
       }
@@ -114,6 +130,7 @@ module _ (rule : Rule) (before m now : Moment) (fed : ℕ) (lasts : IsLasting ru
     run : LegalRun rule now.back.history (look before) (requests_in turns) replies (look now)
     goes_on : GoesOn (requests_in turns)
     bytes_are : transcript turns replies ≡ r.written ++ bytes
+    last_are : last_bytes [] turns replies ≡ bytes
     own : now.back.own ≡ before.back.own ++ done_numbers replies
     grows : Extends before.back.history now.back.history
 
@@ -146,6 +163,7 @@ module _ (rule : Rule) (before m now : Moment) (fed : ℕ) (lasts : IsLasting ru
         run = k.run;
         goes_on = subst GoesOn (sym (requests_in-snoc r.progress.turns (Asks asked printed))) (goes_on-snoc (requests_in r.progress.turns) asked r.progress.goes_on on);
         bytes_are = k.bytes_are;
+        last_are = k.last_are;
         own = k.own;
         grows = k.grows;
       }
@@ -158,6 +176,7 @@ module _ (rule : Rule) (before m now : Moment) (fed : ℕ) (lasts : IsLasting ru
         run = subst (λ (x : List Request). LegalRun rule now.back.history (look before) x r.progress.replies (look now)) (sym none) (same_run i);
         goes_on = subst GoesOn (sym none) r.progress.goes_on;
         bytes_are = transcript-says r.progress.turns r.progress.replies said same_length ∙ ap (λ (x : List ℕ). x ++ said) (sym r.progress.bytes) ∙ ap (λ (x : List ℕ). r.written ++ x) (sym e);
+        last_are = last-says [] r.progress.turns r.progress.replies said same_length ∙ sym e;
         own = same_own i;
         grows = same_grows i;
       }
@@ -232,8 +251,13 @@ module _ (rule : Rule) (before m now : Moment) (fed : ℕ) (lasts : IsLasting ru
     bad-from_here (Malformed at printed') place printed b = b
 
     -- a prefix of these bytes stands behind those so far
-    behind : (all bytes : List ℕ) (w : WritesFront m.wire now.wire bytes) → all ≡ r.written ++ bytes → all ≡ (r.written ++ w.written) ++ w.missing
-    behind all bytes w e = e ∙ ap (λ (x : List ℕ). r.written ++ x) w.front ∙ sym (append_assoc r.written w.written w.missing)
+    behind : (all last bytes : List ℕ) (w : WritesFront m.wire now.wire bytes) → all ≡ r.written ++ bytes → last ≡ bytes → IsWrittenUpTo all last (r.written ++ w.written)
+    behind all last bytes w e l = record {
+      sent = w.written;
+      missing = w.missing;
+      front = e ∙ ap (λ (x : List ℕ). r.written ++ x) w.front ∙ sym (append_assoc r.written w.written w.missing);
+      end_of_last = l ∙ w.front;
+    }
 
     -- a session that ends so
     served : (how : EndedBy) (written : List ℕ) → Moves m.wire now.wire [] written → Concludes rule before now r.taken (r.written ++ written) how → Serves rule before now how
@@ -255,8 +279,12 @@ module _ (rule : Rule) (before m now : Moment) (fed : ℕ) (lasts : IsLasting ru
               legal = record { run = same_run i; seen = seen-from_counted now.back closing; end_is_last = end_is_last-from_goes_on (requests_in r.progress.turns) r.progress.goes_on };
               own = same_own i;
             },
-            [],
-            sym (append-nil r.written ∙ r.progress.bytes),
+            record {
+              sent = last_bytes [] r.progress.turns r.progress.replies;
+              missing = [];
+              front = sym (append-nil r.written ∙ r.progress.bytes);
+              end_of_last = sym (append-nil (last_bytes [] r.progress.turns r.progress.replies));
+            },
           ));
     }
     served_cut how concludes (inr (inl (bytes, t, w))) =
@@ -272,14 +300,16 @@ module _ (rule : Rule) (before m now : Moment) (fed : ℕ) (lasts : IsLasting ru
             legal = record { run = k.run; seen = seen-from_counted now.back closing; end_is_last = end_is_last-from_goes_on (requests_in k.turns) k.goes_on };
             own = k.own;
           },
-          w.missing,
-          behind (transcript k.turns k.replies) bytes w k.bytes_are,
+          behind (transcript k.turns k.replies) (last_bytes [] k.turns k.replies) bytes w k.bytes_are k.last_are,
         )))
     served_cut how concludes (inr (inr (inl (bytes, t, w)))) =
         let k = spoken request.End t.printed t.given bytes t.handled t.printing in
         served how w.written w.moved
         (concludes r.taken (r.written ++ w.written)
-        (inr (inl (ended_by bytes t, w.missing, behind (transcript (r.progress.turns ++ Asks request.End t.printed ∷ []) (r.progress.replies ++ t.given ∷ [])) bytes w k.bytes_are))))
+        (inr (inl (
+          ended_by bytes t,
+          behind (transcript (r.progress.turns ++ Asks request.End t.printed ∷ []) (r.progress.replies ++ t.given ∷ [])) (last_bytes [] (r.progress.turns ++ Asks request.End t.printed ∷ []) (r.progress.replies ++ t.given ∷ [])) bytes w k.bytes_are k.last_are,
+        ))))
     served_cut how concludes (inr (inr (inr (place, printed, bad, w, i)))) =
         served how w.written w.moved
         (concludes r.taken (r.written ++ w.written)
@@ -287,9 +317,8 @@ module _ (rule : Rule) (before m now : Moment) (fed : ℕ) (lasts : IsLasting ru
           whole bad.ending bad.spelled i,
           place,
           printed,
-          w.missing,
           bad-from_here bad.ending place printed bad.bad,
-          behind (transcript r.progress.turns r.progress.replies ++ printed (refusal place)) (printed (refusal place)) w (ap (λ (x : List ℕ). x ++ printed (refusal place)) (sym r.progress.bytes)),
+          behind (transcript r.progress.turns r.progress.replies ++ printed (refusal place)) (printed (refusal place)) (printed (refusal place)) w (ap (λ (x : List ℕ). x ++ printed (refusal place)) (sym r.progress.bytes)) refl,
         ))))
 
     -- a step after which it is over

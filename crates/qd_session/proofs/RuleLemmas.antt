@@ -16,7 +16,7 @@ use Rattle.qd_meaning.specs.Write.{write}
 use Rattle.qd_session.specs.Allowed.{Allowed, HasNoAnswer, HasTransaction, IsRefusalOver, SaysBatch}
 
 -- the database after a prefix, where more follows
-first-append : (h more : List Entry) (n : ℕ) → n ≤ length h → first (h ++ more) n ≡ first h n
+pub first-append : (h more : List Entry) (n : ℕ) → n ≤ length h → first (h ++ more) n ≡ first h n
 first-append h more n le = ap after (take-append-le n h more le)
 
 -- an element that is there stays where more follows

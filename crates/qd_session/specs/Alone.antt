@@ -1,12 +1,18 @@
 -- The rule of a backend whose one session alone writes and applies.
-use Rattle.std.specs.Prelude.{◌≡◌, ℕ, ◌+◌, Bool, true, false, ◌==◌, ◌||◌, List, Option}
+use Rattle.std.specs.Prelude.{◌≡◌, ℕ, ◌+◌, ◌⊎◌, List, Option, Some, None, Ok}
 use Rattle.qd_base.specs.Codes.{number_of}
 use Rattle.qd_base.specs.declared.code.Code.TheVariants as code
 use Rattle.qd_base.specs.declared.op.Entry.{Entry}
 use Rattle.qd_base.specs.declared.request.Request.{Request}
+use Rattle.qd_base.specs.declared.request.Request.TheVariants as request
 use Rattle.qd_base.specs.declared.request.Reply.{Reply}
 use Rattle.qd_base.specs.declared.request.Reply.TheVariants as reply
-use Rattle.qd_session.specs.Allowed.{Allowed}
+use Rattle.qd_base.specs.Database.{schemas_of}
+use Rattle.qd_base.specs.Replay.{first}
+use Rattle.qd_meaning.specs.Write.{write}
+use Rattle.qd_sql_ast.specs.declared.tree.Stmt.{Stmt}
+use Rattle.qd_session.specs.Allowed.{Allowed, SaysBatch}
+use Rattle.qd_session.specs.Asking.{asks_for, IsWrite}
 use Rattle.qd_session.specs.Looks.{Look}
 
 -- Only an apply changes what is applied, to what its reply says; and a query is over just that.
@@ -24,17 +30,30 @@ sequenced_behind n given = n
 abbrev pub CountsAlone : (before now : Look) → Reply → Type 0
 CountsAlone before now given = now.sequenced ≡ sequenced_behind before.sequenced given
 
--- Whether a write that failed may have been left behind, after a reply: a fault of the volume and want of memory leave that open,
--- and an acknowledged write settles it.
-abbrev pub pends_behind : Bool → Reply → Bool
-pends_behind pending (reply.Done n) = false
-pends_behind pending (reply.Refused number place) = (number == number_of code.Volume || number == number_of code.Memory) || pending
-pends_behind pending given = pending
+-- The transaction that a request says, over the schemas of the first transactions: that of a batch, or of a statement that writes.
+abbrev pub SaysOwn : List Entry → (sequenced time : ℕ) → Request → Entry → Type 0
+SaysOwn h sequenced time (request.Write text) e = SaysBatch (schemas_of (first h sequenced)) time text (Ok e)
+SaysOwn h sequenced time (request.Sql text) e = (s : Stmt) × (asks_for text ≡ Ok s) × IsWrite s × (write (schemas_of (first h sequenced)) s ≡ Ok e)
+SaysOwn h sequenced time request.Apply e = ⊥
+SaysOwn h sequenced time request.End e = ⊥
 
--- none is left but by such a reply
-abbrev pub MayPend : (before now : Look) → Reply → Type 0
-MayPend before now given = now.pending ≡ true → pends_behind before.pending given ≡ true
+-- a fault of the volume, or want of memory, leaves open whether a transaction was written
+abbrev pub LeavesOpen : ℕ → Type 0
+LeavesOpen number = (number ≡ number_of code.Volume) ⊎ (number ≡ number_of code.Memory)
+
+-- Which transaction may have been left behind the others: one that may have been before, or the request's own, where a reply leaves
+-- that open. An acknowledged write settles it.
+abbrev pub MayLeave : List Entry → (before now : Look) → (time : ℕ) → Request → Reply → Entry → Type 0
+MayLeave h before now time asked (reply.Done n) e = ⊥
+MayLeave h before now time asked (reply.Refused number place) e = (before.pending ≡ Some e) ⊎ (LeavesOpen number × SaysOwn h now.sequenced time asked e)
+MayLeave h before now time asked given e = before.pending ≡ Some e
+
+-- no other is left, where the transactions are told
+abbrev pub MayPend : Option (List Entry) → (before now : Look) → (time : ℕ) → Request → Reply → Type 0
+MayPend None before now time asked given = Unit {0}
+MayPend (Some h) before now time asked given = (e : Entry) → now.pending ≡ Some e → MayLeave h before now time asked given e
 
 -- The rule of the product, and what is exact where one session alone writes and applies.
 abbrev pub AllowedAlone : Option (List Entry) → (before now : Look) → (time : ℕ) → Request → Reply → Type 0
-AllowedAlone history before now time asked given = Allowed history before now time asked given × IsOfLastApply before now given × CountsAlone before now given × MayPend before now given
+AllowedAlone history before now time asked given =
+    Allowed history before now time asked given × IsOfLastApply before now given × CountsAlone before now given × MayPend history before now time asked given

@@ -1,5 +1,5 @@
 -- What a backend shows at a moment, and what stands at a look: what a session knows, and what its clock tells.
-use Rattle.std.specs.Prelude.{◌≡◌, ℕ, Bool, ◌≤◌, List, ◌++◌, Option, Some, None, IfSome, length}
+use Rattle.std.specs.Prelude.{◌≡◌, ℕ, ◌≤◌, List, ◌++◌, Option, Some, None, IfSome, length}
 use Rattle.qd_base.specs.declared.op.Entry.{Entry}
 use Rattle.qd_io.specs.Clocks.{Timeline}
 
@@ -22,8 +22,8 @@ pub record Shown : Type 0 where
   pub faults : ℕ
   -- the versions that its last hold could not retire
   pub pinned : List PinnedRow
-  -- whether a write that failed may have been left behind the transactions in what it stores on
-  pub pending : Bool
+  -- the transaction of a write that failed, where one may have been left behind the others and they are told
+  pub pending : Option Entry
 
 -- What stands at a look: what a session knows of its backend, numbers alone, and its clock.
 pub record Look : Type 0 where
@@ -34,8 +34,8 @@ pub record Look : Type 0 where
   -- how many calls of the volume have failed
   pub volume_faults : ℕ
   pub pinned : List PinnedRow
-  -- whether a write that failed may have been left behind
-  pub pending : Bool
+  -- the transaction that a write that failed may have left behind the others, where they are told
+  pub pending : Option Entry
 
 -- a look at a backend, with a clock
 abbrev pub look_at : Timeline → Shown → Look

@@ -41,6 +41,13 @@ transcript (Asks asked printed ∷ turns) [] = []
 transcript (Asks asked printed ∷ turns) (given ∷ replies) = printed given ++ transcript turns replies
 transcript (Says bytes ∷ turns) replies = bytes ++ transcript turns replies
 
+-- the bytes of the last of some turns, with its reply; or these, where there is none
+abbrev pub last_bytes : List ℕ → List Turn → List Reply → List ℕ
+last_bytes these [] replies = these
+last_bytes these (Asks asked printed ∷ turns) [] = these
+last_bytes these (Asks asked printed ∷ turns) (given ∷ replies) = last_bytes (printed given) turns replies
+last_bytes these (Says bytes ∷ turns) replies = last_bytes bytes turns replies
+
 -- these bytes were taken from a told input
 abbrev pub TakenFrom : Option (List ℕ) → Option (List ℕ) → List ℕ → Type 0
 TakenFrom None now taken = Unit {0}
@@ -120,13 +127,21 @@ pub record Broken (rule : Rule) (before after : Moment) (taken : List ℕ) : Typ
   pub legal : Legal rule after.back.history (look before) (look after) (requests_in turns) replies
   pub own : after.back.own ≡ before.back.own ++ done_numbers replies
 
--- The bytes written are a prefix of the transcript: of that of a session cut short, of that of a whole one, or of that of a
--- whole one that ended badly, with its refusal.
+-- All of some bytes were written, but for an end of the last ones: of those before them nothing is missing.
+pub record IsWrittenUpTo (all last written : List ℕ) : Type 0 where
+  pub sent : List ℕ
+  pub missing : List ℕ
+  pub front : all ≡ written ++ missing
+  pub end_of_last : last ≡ sent ++ missing
+
+-- The bytes written are the transcript, but for an end of its last reply: of a session cut short, of a whole one, or of a whole one
+-- that ended badly, with its refusal. So behind a reply that wasn't written whole nothing more was carried out.
 abbrev pub IsCutShort : Rule → (before after : Moment) (taken written : List ℕ) → Type 0
 IsCutShort rule before after taken written =
-    ((b : Broken rule before after taken) × (missing : List ℕ) × (transcript b.turns b.replies ≡ written ++ missing))
-    ⊎ (((d : Dialogue rule before after taken) × (missing : List ℕ) × (transcript d.script.turns d.replies ≡ written ++ missing))
-    ⊎ ((d : Dialogue rule before after taken) × (place : ℕ) × (printed : Reply → List ℕ) × (missing : List ℕ) × IsBad before.wire.input taken d.script.ending place printed × (transcript d.script.turns d.replies ++ printed (refusal place) ≡ written ++ missing)))
+    ((b : Broken rule before after taken) × IsWrittenUpTo (transcript b.turns b.replies) (last_bytes [] b.turns b.replies) written)
+    ⊎ (((d : Dialogue rule before after taken) × IsWrittenUpTo (transcript d.script.turns d.replies) (last_bytes [] d.script.turns d.replies) written)
+    ⊎ ((d : Dialogue rule before after taken) × (place : ℕ) × (printed : Reply → List ℕ) × IsBad before.wire.input taken d.script.ending place printed
+    × IsWrittenUpTo (transcript d.script.turns d.replies ++ printed (refusal place)) (printed (refusal place)) written))
 
 -- what the end of a session says of what it took and wrote
 abbrev pub Concludes : Rule → (before after : Moment) (taken written : List ℕ) → EndedBy → Type 0

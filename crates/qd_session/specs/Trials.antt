@@ -1,5 +1,5 @@
 -- What the backends and the front of this crate's tests mean: they show that others than those of the product meet the traits.
-use Rattle.std.specs.Prelude.{◌≡◌, ℕ, false, ◌+◌, ◌==◌, if◌then◌else◌, ◌⊎◌, List, [], ◌∷◌, ◌++◌, length, map, drop, codes, Option, Some, None}
+use Rattle.std.specs.Prelude.{◌≡◌, ℕ, ◌+◌, ◌==◌, if◌then◌else◌, ◌⊎◌, List, [], ◌∷◌, ◌++◌, length, map, drop, codes, Option, Some, None}
 use Rattle.std.specs.List.{range_with_len}
 use Rattle.qd_base.specs.declared.op.Entry.{Entry}
 use Rattle.qd_base.specs.declared.request.Request.{Request}
@@ -20,12 +20,12 @@ silent sequenced known faults = record {
   own = range_with_len 1 sequenced;
   faults = faults;
   pinned = [];
-  pending = false;
+  pending = None;
 }
 
 -- a backend that has nothing
 abbrev pub nothing : Shown
-nothing = record { history = Some []; sequenced = 0; known = 0; own = []; faults = 0; pinned = []; pending = false }
+nothing = record { history = Some []; sequenced = 0; known = 0; own = []; faults = 0; pinned = []; pending = None }
 
 -- a statement that the product doesn't know, and its answer
 abbrev pub IsPing : (before now : Look) → Request → Reply → Type 0

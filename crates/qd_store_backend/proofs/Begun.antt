@@ -5,8 +5,7 @@ use Rattle.qd_catalog.specs.declared.version.Version as catalog
 use Rattle.qd_catalog.specs.Versions.{IsLive}
 use Rattle.qd_store.specs.Owned.{Owned}
 use Rattle.qd_store.specs.Stores.{IsBook, Store}
-use Rattle.qd_store_backend.specs.Backs.{BeginsWith, IsBack, IsTold, Parts, current, n_in}
-use Rattle.qd_base.specs.declared.limits.TheConstants.{MAX_TXNS}
+use Rattle.qd_store_backend.specs.Backs.{AreUsual, BeginsWith, IsBack, IsLeftOf, IsTold, Parts, current, n_in}
 
 -- no more is shown than there is
 pub shown_within : (s : Store) → IsBook s → n_in (current s) ≤ length s.sequence.refs
@@ -19,13 +18,13 @@ pub told_over : (o : Option (List Entry)) (owned : Owned) → BeginsWith o owned
 told_over None owned h = tt
 told_over (Some h) owned is = is
 
-begun_over : (p : Parts) → IsBook p.owned.store → p.owned.store.limits.max_txns ≡ MAX_TXNS
-    → ((row : ℕ) → IsLive p.owned.store.versions.versions row → row ≡ p.owned.store.versions.versions.current) → IsBack (record { parts = p; before = length p.owned.store.sequence.refs })
-begun_over p book usual alone = record { since = omega arith; within = shown_within p.owned.store book; usual = usual; alone = alone }
+begun_over : (p : Parts) (left : Option Entry) → IsBook p.owned.store → AreUsual p.owned.store.limits
+    → ((row : ℕ) → IsLive p.owned.store.versions.versions row → row ≡ p.owned.store.versions.versions.current) → IsLeftOf p.history p.owned left → IsBack (record { parts = p; before = length p.owned.store.sequence.refs; writer = None; left = left })
+begun_over p left book usual alone is = record { since = omega arith; within = shown_within p.owned.store book; usual = usual; alone = alone; writer = tt; left = is }
 
-pub begun : (p : Parts) (owned : Owned) (before : ℕ) → p.owned ≡ owned → before ≡ length owned.store.sequence.refs → IsBook owned.store → owned.store.limits.max_txns ≡ MAX_TXNS
-    → ((row : ℕ) → IsLive owned.store.versions.versions row → row ≡ owned.store.versions.versions.current) → IsBack (record { parts = p; before = before })
-begun p owned before is count book usual alone =
-    subst (λ (o : Owned). IsBook o.store → o.store.limits.max_txns ≡ MAX_TXNS
-    → ((row : ℕ) → IsLive o.store.versions.versions row → row ≡ o.store.versions.versions.current) → before ≡ length o.store.sequence.refs → IsBack (record { parts = p; before = before })) is
-    (λ b u a n. subst (λ (m : ℕ). IsBack (record { parts = p; before = m })) (sym n) (begun_over p b u a)) book usual alone count
+pub begun : (p : Parts) (owned : Owned) (before : ℕ) (left : Option Entry) → p.owned ≡ owned → before ≡ length owned.store.sequence.refs → IsBook owned.store → AreUsual owned.store.limits
+    → ((row : ℕ) → IsLive owned.store.versions.versions row → row ≡ owned.store.versions.versions.current) → IsLeftOf p.history p.owned left → IsBack (record { parts = p; before = before; writer = None; left = left })
+begun p owned before left is count book usual alone may =
+    subst (λ (o : Owned). IsBook o.store → AreUsual o.store.limits
+    → ((row : ℕ) → IsLive o.store.versions.versions row → row ≡ o.store.versions.versions.current) → before ≡ length o.store.sequence.refs → IsBack (record { parts = p; before = before; writer = None; left = left })) is
+    (λ b u a n. subst (λ (m : ℕ). IsBack (record { parts = p; before = m; writer = None; left = left })) (sym n) (begun_over p left b u a may)) book usual alone count

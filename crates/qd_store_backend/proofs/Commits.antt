@@ -61,7 +61,7 @@ pub commits_to : (T E : Type 0) (old : Parts) (owned : Owned) (then : Option (Li
     → OneEntryIsRead → IfSome old.history (IsTold old.owned)
     → IsPlaced old.owned.store.limits old.owned.store.sequence owned.store.sequence writer → owned.store.versions ≡ old.owned.store.versions → owned.store.limits ≡ old.owned.store.limits
     → Told old.owned.storage.disk owned.storage.disk (Commits {T = T} {E = E} (Ok done) old.owned.store owned.store Own) → IsNextTold old.history owned then
-    → CommitsTo {T = T} {E = E} (Ok done) old (record { owned = owned; history = then; schemas = old.schemas; damages = old.damages; last_damage = old.last_damage }) Own
+    → CommitsTo {T = T} {E = E} (Ok done) old (record { owned = owned; history = then; schemas = old.schemas; damages = old.damages; last_damage = None }) Own
 commits_to T E old owned then Own done writer one told placed versions limits commits next = record {
   count = placed_count old.owned.store.limits old.owned.store.sequence owned.store.sequence writer placed;
   versions = versions;
@@ -73,20 +73,22 @@ commits_to T E old owned then Own done writer one told placed versions limits co
 -- a source whose store commits nothing keeps what it is
 pub still_parts : (T E : Type 0) (old : Parts) (owned : Owned) (Own : Entry → Type 0) (fault : E) → IsParts old → owned.store.versions ≡ old.owned.store.versions
     → Told old.owned.storage.disk owned.storage.disk (Commits {T = T} {E = E} (Err fault) old.owned.store owned.store Own)
-    → IsParts (record { owned = owned; history = old.history; schemas = old.schemas; damages = old.damages; last_damage = old.last_damage })
+    → IsParts (record { owned = owned; history = old.history; schemas = old.schemas; damages = old.damages; last_damage = None })
 still_parts T E old owned Own fault is same told = record {
   schemas = is.schemas ∙ sym (ap (λ (v : versions.Store). schemas_in (shape_in (version_at v.versions v.versions.current))) same);
   told = still_told T E old.owned owned Own fault told old.history is.told;
   whole = is.whole;
+  damage = tt;
 }
 
 -- and so does one whose store commits a transaction
 pub next_parts : (old : Parts) (owned : Owned) (then : Option (List Entry)) → IsParts old → owned.store.versions ≡ old.owned.store.versions → IsNextTold old.history owned then
-    → IsParts (record { owned = owned; history = then; schemas = old.schemas; damages = old.damages; last_damage = old.last_damage })
+    → IsParts (record { owned = owned; history = then; schemas = old.schemas; damages = old.damages; last_damage = None })
 next_parts old owned then is same next = record {
   schemas = is.schemas ∙ sym (ap (λ (v : versions.Store). schemas_in (shape_in (version_at v.versions v.versions.current))) same);
   told = told old.history then next;
   whole = λ h at. whole old.history then next is.whole h at;
+  damage = tt;
 }
   where
     told : (o t : Option (List Entry)) → IsNextTold o owned t → IfSome t (IsTold owned)

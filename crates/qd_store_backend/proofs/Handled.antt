@@ -1,5 +1,5 @@
 -- What a backend over a store does is what its rule allows.
-use Rattle.std.proofs.Common.{◌≡◌, ℕ, zero, suc, ◌+◌, ◌-◌, ◌≤◌, inl, inr, List, [], ◌∷◌, ◌++◌, length, take, Option, Some, None, is_some, true, IfSome, Result, Ok, Err, refl, sym, ap, ◌∙◌, subst, arith, append-nil}
+use Rattle.std.proofs.Common.{◌≡◌, ℕ, zero, suc, ◌+◌, ◌-◌, ◌≤◌, ◌⊎◌, inl, inr, List, [], ◌∷◌, ◌++◌, length, take, Option, Some, None, IfSome, Result, Ok, Err, refl, sym, ap, ◌∙◌, subst, arith, append-nil}
 use Rattle.std.specs.List.{range_with_len, slice_get}
 use Rattle.std.specs.Result.{IfErr, IfOk}
 use Rattle.std.proofs.lemmas.List.{take_all, take_at}
@@ -26,19 +26,19 @@ use Rattle.qd_sequencer.specs.declared.fault.CommitFault.TheVariants as commit
 use Rattle.qd_sequencer.specs.declared.fault.Committed.{Committed}
 use Rattle.qd_sequencer.specs.Faults.{CountsFault}
 use Rattle.qd_session.specs.Allowed.{IsFullBatch, IsFullWrite, IsRefusalOver, IsRefusedBatch, IsRefusedWrite, SaysBatch, HasTransaction}
-use Rattle.qd_session.specs.Alone.{AllowedAlone}
+use Rattle.qd_session.specs.Alone.{AllowedAlone, LeavesOpen, MayLeave, MayPend, SaysOwn}
 use Rattle.qd_session.specs.Asking.{asks_for}
 use Rattle.qd_sql_ast.specs.Kinds.{IsWrite}
 use Rattle.qd_session.specs.Legal.{Answers, Handles}
 use Rattle.qd_session.specs.Looks.{Extends, Grows, look_at}
 use Rattle.qd_store.specs.Arriving.{SaysLines, SaysStmt}
-use Rattle.qd_base.specs.declared.part.WalRef.{WalRef}
 use Rattle.qd_store.specs.Faults.{Causes, IsFullFor, IsSettled}
 use Rattle.qd_store.specs.Stores.{Store}
 use Rattle.qd_sql_ast.specs.declared.tree.Stmt.{Stmt}
 use Rattle.qd_versions.specs.Stores as versions
-use Rattle.qd_store_backend.specs.Backs.{AreToldCount, AreToldSchemas, Back, CommitsTo, IsBack, IsToldBehind, Parts, back_shown, current, n_in}
+use Rattle.qd_store_backend.specs.Backs.{AreToldCount, AreToldSchemas, Back, CommitsTo, IsBack, IsLeftOf, IsTold, IsToldBehind, LeavesOwn, Parts, back_shown, current, n_in}
 use Rattle.qd_store_backend.specs.Replies.{RepliesTo}
+use Rattle.qd_store_backend.proofs.Leaving.{left_own, none_left, pends_by, told_at}
 use Rattle.qd_store_backend.proofs.LineCodes.{says_code}
 use Rattle.qd_base.specs.declared.limits.TheConstants.{MAX_TXNS}
 
@@ -86,11 +86,6 @@ quiet_grows old new q faults = record {
 pub quiet_own : (old new : Back) → IsQuiet old new → (back_shown new).own ≡ (back_shown old).own ++ []
 quiet_own old new q = ap (λ b. range_with_len (b + 1) (length new.parts.owned.store.sequence.refs - b)) q.before ∙ own_same old.before _ _ q.count
 
--- what is settled isn't left behind
-settled_left : (left : Option WalRef) (P : Type 0) → left ≡ None → is_some left ≡ true → P
-settled_left None P is some = absurd (cc (some))
-settled_left (Some ref) P is some = absurd (cc (is))
-
 -- ---- commits
 
 -- A commit was asked for, and this came of it: what the calls of the store say.
@@ -102,6 +97,10 @@ pub record Committing {E : Type 0} (old new : Back) (done : Result Committed Com
   pub causes : IfErr done (Causes Refuses (IsFullFor old.parts.owned.store Own))
   pub counted : CountsFault old.parts.owned.storage.faults new.parts.owned.storage.faults done
   pub settled : IsSettled done new.parts.owned.store.sequence
+  pub leaves : LeavesOwn old.parts.owned new.parts.owned Own
+  pub left : IsLeftOf new.parts.history new.parts.owned new.left
+  pub told : IfSome old.parts.history (IsTold old.parts.owned)
+  pub told_now : IfSome new.parts.history (IsTold new.parts.owned)
   pub told_schemas : AreToldSchemas old.parts
   pub told_count : AreToldCount old.parts
   pub reply : RepliesTo done given
@@ -147,6 +146,29 @@ refused_answers old new time asked e number place given Own Refuses c faults all
     let q = quiet_failed old new Own e c.before c.commits in
     record { grows = quiet_grows old new q faults; allowed = allowed; own = quiet_own old new q }
 
+-- nothing is left behind a commit that settled what was
+module _ {E : Type 0} (old new : Back) (done : Result Committed CommitFault) (given : Result Reply E) (Own : Entry → Type 0) (Refuses : Code → ℕ → Type 0) (c : Committing old new done given Own Refuses) where
+  pub none_pends : (clock clock' : Timeline) (time : ℕ) (asked : Request) (r : Reply) → new.parts.owned.store.sequence.pending ≡ None → MayPend new.parts.history (look_at clock (back_shown old)) (look_at clock' (back_shown new)) time asked r
+  none_pends clock clock' time asked r settled =
+      pends_by new.parts.history (look_at clock (back_shown old)) (look_at clock' (back_shown new)) time asked r
+      (λ h is e there. none_left h new.parts.owned new.left e (MayLeave h (look_at clock (back_shown old)) (look_at clock' (back_shown new)) time asked r e) (told_at (IsTold new.parts.owned) new.parts.history h is c.told_now) settled (subst (λ (o : Option (List Entry)). IsLeftOf o new.parts.owned new.left) is c.left) there)
+
+  -- behind one that failed, what was before or its own transaction
+  pub own_pends : (clock clock' : Timeline) (time : ℕ) (asked : Request) (number place : ℕ) → new.parts.history ≡ old.parts.history → LeavesOpen number
+      → IfSome old.parts.history (λ h. (e : Entry) → Own e → SaysOwn h (length new.parts.owned.store.sequence.refs) time asked e)
+      → MayPend new.parts.history (look_at clock (back_shown old)) (look_at clock' (back_shown new)) time asked (reply.Refused number place)
+  own_pends clock clock' time asked number place same leaves says =
+      pends_by new.parts.history (look_at clock (back_shown old)) (look_at clock' (back_shown new)) time asked (reply.Refused number place)
+      (λ h is e there.
+      let was : old.parts.history ≡ Some h = sym same ∙ is in
+      by h e was
+      (left_own Own h old.parts.owned new.parts.owned old.left new.left (told_at (IsTold old.parts.owned) old.parts.history h was c.told) h (told_at (IsTold new.parts.owned) new.parts.history h is c.told_now)
+      (subst (λ (o : Option (List Entry)). IsLeftOf o old.parts.owned old.left) was c.kept.left) (subst (λ (o : Option (List Entry)). IsLeftOf o new.parts.owned new.left) is c.left) c.leaves e there))
+    where
+      by : (h : List Entry) (e : Entry) → old.parts.history ≡ Some h → (old.left ≡ Some e) ⊎ Own e → MayLeave h (look_at clock (back_shown old)) (look_at clock' (back_shown new)) time asked (reply.Refused number place) e
+      by h e was (inl before) = inl before
+      by h e was (inr own) = inr (leaves, told_at (λ (k : List Entry). (e : Entry) → Own e → SaysOwn k (length new.parts.owned.store.sequence.refs) time asked e) old.parts.history h was says e own)
+
 -- the front that all transactions of a told history are
 all_first : (h : List Entry) (count count' : ℕ) → count ≡ length h → count' ≡ count → first h count' ≡ after h
 all_first h count count' is same = ap (first h) (same ∙ is) ∙ ap after (take_all (length h) h (omega arith))
@@ -171,6 +193,11 @@ batch_full s time batch text reads None are count' counted same usual full = (re
 batch_full s time batch text reads (Some h) are count' counted same usual full =
     (refl, refl, (let full = full.0 in omega (arith, full, usual, same)), (full.1, (batch, reads, subst (λ (l : List Schema). SaysLines l time batch full.1) (are ∙ ap schemas_of (sym (all_first h _ count' counted same))) full.2)))
 
+lines_own : (schemas : List Schema) (time : ℕ) (batch : Reading) (text : List ℕ) → IsReading text batch → (o : Option (List Entry)) → IfSome o (λ h. schemas ≡ schemas_of (after h)) → (count count' : ℕ) → IfSome o (λ h. count ≡ length h) → count' ≡ count
+    → IfSome o (λ h. (e : Entry) → SaysLines schemas time batch e → SaysOwn h count' time (request.Write text) e)
+lines_own schemas time batch text reads None are count count' counted same = tt
+lines_own schemas time batch text reads (Some h) are count count' counted same = λ e own. (batch, reads, subst (λ (s : List Schema). SaysLines s time batch e) (are ∙ ap schemas_of (sym (all_first h count count' counted same))) own)
+
 pub lines_handled : {E : Type 0} (old new : Back) (time : ℕ) (batch : Reading) (done : Result Committed CommitFault) (given : Result Reply E)
     → Committing old new done given (SaysLines old.parts.owned.store.sequence.schemas time batch) (λ c line. IsLineFault old.parts.owned.store.sequence.schemas time batch (lines.Refused c line))
     → (text : List ℕ) → IsReading text batch → Handles AllowedAlone (back_shown old) (back_shown new) time (request.Write text) given
@@ -184,7 +211,7 @@ lines_handled old new time batch (Ok d) given c text reads =
       ),
       same_shown old.parts new.parts c.commits.versions,
       c.commits.count,
-      settled_left _ _ c.settled,
+      none_pends old new (Ok d) given _ _ c clock clock' time (request.Write text) (reply.Done d.n) c.settled,
     )))
 lines_handled old new time batch (Err (commit.Refused k line)) given c text reads =
     subst (Handles AllowedAlone (back_shown old) (back_shown new) time (request.Write text)) (sym c.reply)
@@ -193,25 +220,25 @@ lines_handled old new time batch (Err (commit.Refused k line)) given c text read
           (batch_refused _ time batch text reads old.parts.history c.told_schemas _ _ c.told_count c.commits.count k line c.causes)),
       same_shown old.parts new.parts c.commits.versions,
       c.commits.count,
-      settled_left _ _ c.settled,
+      none_pends old new (Err (commit.Refused k line)) given _ _ c clock clock' time (request.Write text) (reply.Refused (number_of k) line) c.settled,
     )))
 lines_handled old new time batch (Err commit.Full) given c text reads =
     subst (Handles AllowedAlone (back_shown old) (back_shown new) time (request.Write text)) (sym c.reply)
     (refused_answers old new time (request.Write text) _ _ _ given _ _ c (let counted = c.counted in omega (arith, counted)) (λ clock clock' later. (
       inr (inl (subst (λ (o : Option (List Entry)). IsFullBatch o (length new.parts.owned.store.sequence.refs) time text (number_of code.Full) 0) (sym c.commits.told)
-          (batch_full old.parts.owned.store time batch text reads old.parts.history c.told_schemas _ c.told_count c.commits.count c.kept.usual c.causes))),
+          (batch_full old.parts.owned.store time batch text reads old.parts.history c.told_schemas _ c.told_count c.commits.count c.kept.usual.max_txns c.causes))),
       same_shown old.parts new.parts c.commits.versions,
       c.commits.count,
-      settled_left _ _ c.settled,
+      none_pends old new (Err commit.Full) given _ _ c clock clock' time (request.Write text) (reply.Refused (number_of code.Full) 0) c.settled,
     )))
 lines_handled old new time batch (Err commit.Vol) given c text reads =
     subst (Handles AllowedAlone (back_shown old) (back_shown new) time (request.Write text)) (sym c.reply)
     (refused_answers old new time (request.Write text) _ _ _ given _ _ c c.counted.0 (λ clock clock' later.
-    (inr (inr (inr (inr (refl, refl, c.counted.1)))), same_shown old.parts new.parts c.commits.versions, c.commits.count, λ left. refl)))
+    (inr (inr (inr (inr (refl, refl, c.counted.1)))), same_shown old.parts new.parts c.commits.versions, c.commits.count, own_pends old new (Err commit.Vol) given _ _ c clock clock' time (request.Write text) (number_of code.Volume) 0 c.commits.told (inl refl) (lines_own _ time batch text reads old.parts.history c.told_schemas _ _ c.told_count c.commits.count))))
 lines_handled old new time batch (Err commit.Memory) (Ok r) c text reads = absurd c.reply
 lines_handled old new time batch (Err commit.Memory) (Err e) c text reads =
     refused_answers old new time (request.Write text) commit.Memory (number_of code.Memory) 0 (Err e) _ _ c (let counted = c.counted in omega (arith, counted)) (λ clock clock' later.
-    (inr (inr (inr (inl (refl, refl)))), same_shown old.parts new.parts c.commits.versions, c.commits.count, λ left. refl))
+    (inr (inr (inr (inl (refl, refl)))), same_shown old.parts new.parts c.commits.versions, c.commits.count, own_pends old new (Err commit.Memory) (Err e) _ _ c clock clock' time (request.Write text) (number_of code.Memory) 0 c.commits.told (inr refl) (lines_own _ time batch text reads old.parts.history c.told_schemas _ _ c.told_count c.commits.count)))
 
 -- ---- statements that write
 
@@ -232,6 +259,11 @@ stmt_full s stmt None are count' counted same usual full = (refl, refl, (let ful
 stmt_full s stmt (Some h) are count' counted same usual full =
     (refl, refl, (let full = full.0 in omega (arith, full, usual, same)), (full.1, subst (λ (l : List Schema). write l stmt ≡ Ok full.1) (are ∙ ap schemas_of (sym (all_first h _ count' counted same))) full.2))
 
+stmt_own : (schemas : List Schema) (s : Stmt) (text : List ℕ) → asks_for text ≡ Ok s → IsWrite s → (o : Option (List Entry)) → IfSome o (λ h. schemas ≡ schemas_of (after h)) → (count count' : ℕ) → IfSome o (λ h. count ≡ length h) → count' ≡ count
+    → IfSome o (λ h. (e : Entry) → SaysStmt schemas s e → SaysOwn h count' 0 (request.Sql text) e)
+stmt_own schemas s text asks writes None are count count' counted same = tt
+stmt_own schemas s text asks writes (Some h) are count count' counted same = λ e own. (s, asks, writes, subst (λ (l : List Schema). write l s ≡ Ok e) (are ∙ ap schemas_of (sym (all_first h count count' counted same))) own)
+
 pub stmt_handled : {E : Type 0} (old new : Back) (s : Stmt) (done : Result Committed CommitFault) (given : Result Reply E) → IsWrite s
     → Committing old new done given (SaysStmt old.parts.owned.store.sequence.schemas s) (λ c place. write old.parts.owned.store.sequence.schemas s ≡ Err (record { code = c; place = place }))
     → (text : List ℕ) → asks_for text ≡ Ok s → Handles AllowedAlone (back_shown old) (back_shown new) 0 (request.Sql text) given
@@ -248,7 +280,7 @@ stmt_handled old new s (Ok d) given writes c text asks =
       ),
       same_shown old.parts new.parts c.commits.versions,
       c.commits.count,
-      settled_left _ _ c.settled,
+      none_pends old new (Ok d) given _ _ c clock clock' 0 (request.Sql text) (reply.Done d.n) c.settled,
     )))
 stmt_handled old new s (Err (commit.Refused k place)) given writes c text asks =
     subst (Handles AllowedAlone (back_shown old) (back_shown new) 0 (request.Sql text)) (sym c.reply)
@@ -261,7 +293,7 @@ stmt_handled old new s (Err (commit.Refused k place)) given writes c text asks =
       )),
       same_shown old.parts new.parts c.commits.versions,
       c.commits.count,
-      settled_left _ _ c.settled,
+      none_pends old new (Err (commit.Refused k place)) given _ _ c clock clock' 0 (request.Sql text) (reply.Refused (number_of k) place) c.settled,
     )))
 stmt_handled old new s (Err commit.Full) given writes c text asks =
     subst (Handles AllowedAlone (back_shown old) (back_shown new) 0 (request.Sql text)) (sym c.reply)
@@ -271,17 +303,17 @@ stmt_handled old new s (Err commit.Full) given writes c text asks =
         asks,
         writes,
         subst (λ (o : Option (List Entry)). IsFullWrite o (length new.parts.owned.store.sequence.refs) s (number_of code.Full) 0) (sym c.commits.told)
-            (stmt_full old.parts.owned.store s old.parts.history c.told_schemas _ c.told_count c.commits.count c.kept.usual c.causes),
+            (stmt_full old.parts.owned.store s old.parts.history c.told_schemas _ c.told_count c.commits.count c.kept.usual.max_txns c.causes),
       ))),
       same_shown old.parts new.parts c.commits.versions,
       c.commits.count,
-      settled_left _ _ c.settled,
+      none_pends old new (Err commit.Full) given _ _ c clock clock' 0 (request.Sql text) (reply.Refused (number_of code.Full) 0) c.settled,
     )))
 stmt_handled old new s (Err commit.Vol) given writes c text asks =
     subst (Handles AllowedAlone (back_shown old) (back_shown new) 0 (request.Sql text)) (sym c.reply)
     (refused_answers old new 0 (request.Sql text) _ _ _ given _ _ c c.counted.0 (λ clock clock' later.
-    (inr (inr (inr (inr (refl, refl, c.counted.1)))), same_shown old.parts new.parts c.commits.versions, c.commits.count, λ left. refl)))
+    (inr (inr (inr (inr (refl, refl, c.counted.1)))), same_shown old.parts new.parts c.commits.versions, c.commits.count, own_pends old new (Err commit.Vol) given _ _ c clock clock' 0 (request.Sql text) (number_of code.Volume) 0 c.commits.told (inl refl) (stmt_own _ s text asks writes old.parts.history c.told_schemas _ _ c.told_count c.commits.count))))
 stmt_handled old new s (Err commit.Memory) (Ok r) writes c text asks = absurd c.reply
 stmt_handled old new s (Err commit.Memory) (Err e) writes c text asks =
     refused_answers old new 0 (request.Sql text) commit.Memory (number_of code.Memory) 0 (Err e) _ _ c (let counted = c.counted in omega (arith, counted)) (λ clock clock' later.
-    (inr (inr (inr (inl (refl, refl)))), same_shown old.parts new.parts c.commits.versions, c.commits.count, λ left. refl))
+    (inr (inr (inr (inl (refl, refl)))), same_shown old.parts new.parts c.commits.versions, c.commits.count, own_pends old new (Err commit.Memory) (Err e) _ _ c clock clock' 0 (request.Sql text) (number_of code.Memory) 0 c.commits.told (inr refl) (stmt_own _ s text asks writes old.parts.history c.told_schemas _ _ c.told_count c.commits.count)))

@@ -1,9 +1,8 @@
 -- What a session over a store leaves of its volume.
-use Rattle.std.proofs.Common.{◌≡◌, ◌∙◌, ◌⊎◌, ℕ, ◌≤◌, inl, inr, List, [], ◌∷◌, ◌++◌, Option, Some, None, IfSome, is_some, true, refl, sym, ap, subst, arith}
+use Rattle.std.proofs.Common.{◌≡◌, ◌∙◌, ◌⊎◌, ℕ, ◌≤◌, inl, inr, List, [], ◌∷◌, ◌++◌, Option, Some, None, IfSome, refl, sym, ap, subst, arith}
 use Rattle.qd_base.specs.declared.op.Entry.{Entry}
-use Rattle.qd_base.specs.declared.part.WalRef.{WalRef}
 use Rattle.qd_catalog.specs.declared.version.Version as catalog
-use Rattle.qd_sequencer.specs.Histories as histories
+use Rattle.qd_sequencer.specs.Histories.{IsPending}
 use Rattle.qd_store.specs.Calls.{MayBe, MayShow, ShowsOneOf}
 use Rattle.qd_store.specs.Found.{version_of}
 use Rattle.qd_store.specs.Laws.{StoresAreWhole}
@@ -16,7 +15,7 @@ use Rattle.qd_txnfile.specs.Versions.{Version}
 use Rattle.qd_versions.specs.Stores as versions
 use Rattle.qd_versions.specs.Stores.{current_version, stored_version}
 use Rattle.qd_volume.specs.Disk.{Disk, Image}
-use Rattle.qd_store_backend.specs.Backs.{IsTold, current, n_in}
+use Rattle.qd_store_backend.specs.Backs.{IsLeftOf, IsOnly, IsTold, current, n_in}
 use Rattle.qd_store_backend.specs.Volumes.{Keeps, KeepsTold, Leaves}
 
 -- the number of the current version, as the version files have it
@@ -42,24 +41,24 @@ module _ (s : Store) (h : List Entry) (next : Version) (disk : Disk) (holds : Is
       let number = number_of s.versions.versions.next_block (current s) in
       omega (arith, more, same, number)
 
-  left_is : (pending : Option WalRef) (found : List Entry) → MayBe h (histories.IsPending pending disk) found → (found ≡ h) ⊎ ((is_some pending ≡ true) × (more : Entry) × (found ≡ h ++ more ∷ []))
-  left_is pending found (inl is) = inl is
-  left_is None found (inr (e, pends, is)) = absurd pends
-  left_is (Some ref) found (inr (e, pends, is)) = inr (refl, e, is)
+  left_is : (left : Option Entry) → IsOnly left (IsPending s.sequence.pending disk) → (found : List Entry) → MayBe h (IsPending s.sequence.pending disk) found → (found ≡ h) ⊎ ((more : Entry) × (left ≡ Some more) × (found ≡ h ++ more ∷ []))
+  left_is left only found (inl is) = inl is
+  left_is None only found (inr (e, pends, is)) = absurd (only e pends)
+  left_is (Some x) only found (inr (e, pends, is)) = inr (e, ap (λ (y : Entry). Some y) (sym (only.1 e pends)), is)
 
-  leaves_one : (image : Image) → ShowsOneOf h (histories.IsPending s.sequence.pending disk) (MayShow s next) image → Leaves h (is_some s.sequence.pending) (n_in (current s)) image
-  leaves_one image one = record {
+  leaves_one : (left : Option Entry) → IsOnly left (IsPending s.sequence.pending disk) → (image : Image) → ShowsOneOf h (IsPending s.sequence.pending disk) (MayShow s next) image → Leaves h left (n_in (current s)) image
+  leaves_one left only image one = record {
     found = one.found;
     finds = one.finds;
-    is = left_is s.sequence.pending one.found.history one.history;
+    is = left_is left only one.found.history one.history;
     applied_is = shows_no_less (version_of one.found) one.version;
   }
 
-  keeps_one : StoresAreWhole → versions.IsStore s.versions → Keeps h (is_some s.sequence.pending) (n_in (current s)) disk
-  keeps_one law sound = record { whole = law.whole s h next disk sound holds; each = λ image left. leaves_one image (law.shows s h next disk sound holds image left) }
+  keeps_one : StoresAreWhole → versions.IsStore s.versions → (left : Option Entry) → IsOnly left (IsPending s.sequence.pending disk) → Keeps h left (n_in (current s)) disk
+  keeps_one law sound left only = record { whole = law.whole s h next disk sound holds; each = λ image now. leaves_one left only image (law.shows s h next disk sound holds image now) }
 
-pub keeps_told : StoresAreWhole → (o : Owned) → versions.IsStore o.store.versions → (history : Option (List Entry)) → IfSome history (IsTold o)
-    → IfSome history (λ h. KeepsTold o.storage.disk h (is_some o.store.sequence.pending) (n_in (current o.store)))
-keeps_told law o sound None told = tt
-keeps_told law o sound (Some h) (disk, next, is, holds) =
-    subst (λ (d : Option Disk). KeepsTold d h (is_some o.store.sequence.pending) (n_in (current o.store))) (sym is) (keeps_one o.store h next disk holds law sound)
+pub keeps_told : StoresAreWhole → (o : Owned) → versions.IsStore o.store.versions → (history : Option (List Entry)) → IfSome history (IsTold o) → (left : Option Entry) → IsLeftOf history o left
+    → IfSome history (λ h. KeepsTold o.storage.disk h left (n_in (current o.store)))
+keeps_told law o sound None told left is = tt
+keeps_told law o sound (Some h) (disk, next, at, holds) left is =
+    subst (λ (d : Option Disk). KeepsTold d h left (n_in (current o.store))) (sym at) (keeps_one o.store h next disk holds law sound left (is disk at))

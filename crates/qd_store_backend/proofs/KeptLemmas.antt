@@ -22,9 +22,9 @@ use Rattle.qd_store.specs.Owned.{Owned}
 use Rattle.qd_store.specs.Reading.{IsShownPart}
 use Rattle.qd_store.specs.Stores.{IsStore, Store}
 use Rattle.qd_txnfile.specs.Versions.{Version}
-use Rattle.qd_volume.specs.Disk.{Disk}
+use Rattle.qd_volume.specs.Disk.{Disk, reads_of}
 use Rattle.qd_versions.specs.Stores as versions
-use Rattle.qd_store_backend.specs.Backs.{current, database_in, n_in, shape_in, source_of, IsNextTold, IsParts, IsTold, Parts}
+use Rattle.qd_store_backend.specs.Backs.{current, database_in, n_in, shape_in, source_of, IsNextTold, IsLastDamage, IsPartDamage, IsParts, IsTold, Parts}
 use Rattle.qd_store_backend.specs.Kept.{AreOf, IsKeeping, IsKept, KeepsNoOther, KeepsOne}
 use Rattle.qd_store_backend.specs.Rounds.{StaysTold}
 use Rattle.qd_manifest.specs.Spelling.{schemas_in}
@@ -139,13 +139,14 @@ module _ {Z : Type 0} (p : Parts) (owned : Owned) (kept : List ((ℕ × ℕ) × 
 -- ---- behind a sweep
 
 -- a source whose store shows the same version stays what it is, with the blocks that are kept
-pub keeping_swept : {Z : Type 0} (p : Parts) (owned : Owned) (kept : List ((ℕ × ℕ) × Arc Block Z)) → IsKeeping p kept → current owned.store ≡ current p.owned.store → StaysTold p.owned owned
-    → IsKeeping (record { owned = owned; history = p.history; schemas = p.schemas; damages = p.damages; last_damage = p.last_damage }) kept
-keeping_swept p owned kept is same stays = record {
+pub keeping_swept : {Z : Type 0} (p : Parts) (owned : Owned) (last : Option (ℕ × ℕ)) (kept : List ((ℕ × ℕ) × Arc Block Z)) → IsKeeping p kept → current owned.store ≡ current p.owned.store → StaysTold p.owned owned → IsLastDamage owned last
+    → IsKeeping (record { owned = owned; history = p.history; schemas = p.schemas; damages = p.damages; last_damage = last }) kept
+keeping_swept p owned last kept is same stays damage = record {
   parts = record {
     schemas = is.parts.schemas ∙ sym (ap (λ (o : Option catalog.Version). schemas_in (shape_in o)) same);
     told = by p.history is.parts.told;
     whole = is.parts.whole;
+    damage = damage;
   };
   blocks = same_of (source_of p) (source_of (with_store p owned p.history)) kept refl (ap (λ (o : Option catalog.Version). map (λ t. t.parts) (shape_in o)) same) (ap (λ (o : Option catalog.Version). database_in p.history (n_in o)) same) is.blocks;
 }
@@ -171,13 +172,19 @@ none_damaged p row table i file at damages fault are damaged shown h is =
 
 -- a source whose store is as it was stays what it is
 pub keeping_read : {Z : Type 0} (p : Parts) (owned : Owned) (damages : ℕ) (last : Option (ℕ × ℕ)) (kept : List ((ℕ × ℕ) × Arc Block Z)) → IsKeeping p kept → owned.store ≡ p.owned.store → owned.storage.disk ≡ p.owned.storage.disk
-    → ((h : List Entry) → p.history ≡ Some h → damages ≡ 0) → IsKeeping (record { owned = owned; history = p.history; schemas = p.schemas; damages = damages; last_damage = last }) kept
-keeping_read p owned damages last kept is same stays whole =
-    let swept = keeping_swept p owned kept is (ap (λ (s : Store). current s) same) (λ h told. read_told p.owned owned h same stays told) in
+    → ((h : List Entry) → p.history ≡ Some h → damages ≡ 0) → IsLastDamage owned last → IsKeeping (record { owned = owned; history = p.history; schemas = p.schemas; damages = damages; last_damage = last }) kept
+keeping_read p owned damages last kept is same stays whole damage =
+    let swept = keeping_swept p owned last kept is (ap (λ (s : Store). current s) same) (λ h told. read_told p.owned owned h same stays told) damage in
     record {
-      parts = record { schemas = swept.parts.schemas; told = swept.parts.told; whole = whole };
+      parts = record { schemas = swept.parts.schemas; told = swept.parts.told; whole = whole; damage = damage };
       blocks = swept.blocks;
     }
   where
     read_told : (old new : Owned) (h : List Entry) → new.store ≡ old.store → new.storage.disk ≡ old.storage.disk → IsTold old h → IsTold new h
     read_told old new h same stays (disk, next, on, is) = (disk, next, stays ∙ on, subst (λ (s : Store). IsStore s h next disk) (sym same) is)
+
+-- the last damage is there still where the store and its volume are as they were
+pub damage_stays : (old new : Owned) (last : Option (ℕ × ℕ)) → new.store ≡ old.store → new.storage.disk ≡ old.storage.disk → IsLastDamage old last → IsLastDamage new last
+damage_stays old new last same stays is =
+    subst (λ (s : Store). IsLastDamage (record { store = s; storage = new.storage }) last) (sym same)
+    (subst (λ (o : Option Disk). IfSome last (λ place. IfSome o (λ disk. IsPartDamage old.store (reads_of disk) place.0 place.1))) (sym stays) is)

@@ -1,6 +1,7 @@
 -- Lemmas that the proofs of this crate share.
 pub mod Shown
 pub mod KeptLemmas
+pub mod Leaving
 pub mod Told
 pub mod Commits
 pub mod Turns
@@ -12,3 +13,4 @@ pub mod Applied
 pub mod ToldOf
 pub mod Started
 pub mod Keeping
+pub mod Going

@@ -1,5 +1,5 @@
 -- The current version of a store, as a source: its tables and their parts, and what is told of them.
-use Rattle.std.proofs.Common.{◌≡◌, ℕ, ◌<◌, List, [], ◌∷◌, ◌++◌, length, map, Option, Some, None, Ok, is_some, true, get_or, slice_get, refl, sym, ap, ap₂, ◌∙◌, subst, arith, IfSome}
+use Rattle.std.proofs.Common.{◌≡◌, ℕ, ◌<◌, List, [], ◌∷◌, ◌++◌, length, map, Option, Some, None, Ok, Err, is_some, true, get_or, slice_get, refl, sym, ap, ap₂, ◌∙◌, subst, arith, IfSome}
 use Rattle.std.specs.List.{flat_map, AllByRecursion}
 use Rattle.std.proofs.lemmas.Bool.{false≢true}
 use Rattle.std.proofs.lemmas.List.{get_or-map, length-map}
@@ -21,14 +21,17 @@ use Rattle.qd_manifest.specs.Spelling.{no_part, schemas_in, AreParts}
 use Rattle.qd_scan.specs.Sources.{no_schema, no_table, part_at, parts_at, rows_at, rows_in_part, schema_at, table_rows, HasRowsOf, IsBlockOf, IsSource, SourceView, Tells}
 use Rattle.qd_store.specs.Owned.{Owned}
 use Rattle.qd_store.specs.Reading.{IsShownPart}
-use Rattle.qd_store.specs.Stores.{IsStore}
+use Rattle.qd_column_files.specs.Reading.{IsBlockRead}
+use Rattle.qd_durable.specs.declared.fault.LogFault.{LogFault}
+use Rattle.qd_durable.specs.declared.fault.LogFault.TheVariants as fault
+use Rattle.qd_store.specs.Stores.{IsStore, Store}
 use Rattle.qd_store.proofs.PartsRead.{part_rows}
 use Rattle.qd_txnfile.specs.Versions.{Version}
 use Rattle.qd_versions.specs.Reading.{IsPartAt}
 use Rattle.qd_versions.specs.Stores as versions
 use Rattle.qd_versions.specs.Stores.{AreTables}
-use Rattle.qd_volume.specs.Disk.{Disk}
-use Rattle.qd_store_backend.specs.Backs.{current, database_in, n_in, shape_in, source_of, IsParts, IsTold, Parts}
+use Rattle.qd_volume.specs.Disk.{Disk, reads_of}
+use Rattle.qd_store_backend.specs.Backs.{current, database_in, n_in, shape_in, source_of, IsPartDamage, IsPartDamaged, IsParts, IsTold, Parts}
 
 abbrev no_table_parts : TableParts
 no_table_parts = record { schema = no_schema; parts = [] }
@@ -195,3 +198,15 @@ module _ (p q : Parts) (row table i : ℕ) (same : p ≡ q) (are : IsParts p) (i
           ∙ now h next store has_part.t has_part.part has_part.at
           ∙ sym (ap₂ (λ (s : Schema) (part : Part). rows_in_part s.time_col (rows_at (first h (n_in (current p.owned.store))) table) part) has_part.its_schema has_part.is
           ∙ ap (λ (n : ℕ). rows_in_part has_part.t.schema.time_col (rows_at (first h n) table) has_part.part) has_part.n)
+
+  -- damage of its files is that of a part of the current version
+  pub damage_found : (owned : Owned) (file at : ℕ) (cause : LogFault) → cause ≡ fault.Damaged file at → owned.store ≡ p.owned.store → owned.storage.disk ≡ p.owned.storage.disk
+      → ((t : TableParts) (part : Part) → IsPartAt p.owned.store.versions.versions row table i t part → IfSome p.owned.storage.disk (λ disk. IsBlockRead (Err cause) t.schema part (reads_of disk))) → IsPartDamaged owned file at
+  damage_found owned file at cause damaged store disk read =
+      subst (λ (s : Store). IsPartDamaged (record { store = s; storage = owned.storage }) file at) (sym store)
+      (subst (λ (o : Option Disk). IfSome o (λ d. IsPartDamage p.owned.store (reads_of d) file at)) (sym disk)
+      (by p.owned.storage.disk (subst (λ (f : LogFault). IfSome p.owned.storage.disk (λ disk. IsBlockRead (Err f) has_part.t.schema has_part.part (reads_of disk))) damaged (read has_part.t has_part.part has_part.at))))
+    where
+      by : (o : Option Disk) → IfSome o (λ disk. IsBlockRead (Err (fault.Damaged file at)) has_part.t.schema has_part.part (reads_of disk)) → IfSome o (λ d. IsPartDamage p.owned.store (reads_of d) file at)
+      by None h = tt
+      by (Some d) h = record { row = row; table = table; i = i; of = has_part.t; part = has_part.part; there = has_part.at; its_row = is; damaged = h }

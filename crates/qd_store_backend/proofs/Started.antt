@@ -14,7 +14,7 @@ use Rattle.qd_store.specs.Owned.{IsOfVolume, Left, Owned, storage_in, store_in}
 use Rattle.qd_store.specs.Stores.{IsStore, Store}
 use Rattle.qd_txnfile.specs.Versions.{Version}
 use Rattle.qd_volume.specs.Disk.{Disk, reads_of}
-use Rattle.qd_store_backend.specs.Volumes.{IsUnopened, Starts}
+use Rattle.qd_store_backend.specs.Volumes.{Holds, IsUnopened, Starts}
 use Rattle.qd_store.proofs.OpenTold.{reads_now}
 
 -- ---- a store is opened
@@ -23,10 +23,13 @@ stands_found : (s : Store) (f : Found) (h : List Entry) (after : Disk) → f.his
 stands_found s f h after is stands = subst (λ (l : List Entry). IsStore s l (version_of f) after) is stands
 
 opened_ok : (s : Store) (before after : Disk) → Opens (Ok s) before after → Starts (Ok s) before after
-opened_ok s before after o h n (inl (unmade, none, zero)) = absurd (unmade (reads_of before) (reads_now before) o.found.0)
-opened_ok s before after o h n (inr (whole, f, finds, is, number)) =
-    let found = o.found.1 whole f finds in
-    (found.shown ∙ number, version_of f, stands_found s f h after is (found.stands (version_of f)))
+opened_ok s before after o = record { whole = λ made. (o.found.2, o.reads); stands = by }
+  where
+    by : (h : List Entry) (n : ℕ) → Holds before h n → (s.versions.root.n ≡ n) × (next : Version) × IsStore s h next after
+    by h n (inl (unmade, none, zero)) = absurd (unmade (reads_of before) (reads_now before) o.found.0)
+    by h n (inr (whole, f, finds, is, number)) =
+        let found = o.found.1 whole f finds in
+        (found.shown ∙ number, version_of f, stands_found s f h after is (found.stands (version_of f)))
 
 pub opened_starts : (before after : Disk) (r : Result Store OpenFault) → (r ≡ Err fault.NotMade → Starts r before after) → Opens r before after → Starts r before after
 opened_starts before after (Ok s) not o = opened_ok s before after o
@@ -45,11 +48,14 @@ unmade_stays before mid leaves unmade image now made =
 
 module _ (before mid after : Disk) (o : Opens (Err fault.NotMade) before mid) where
   made_ok : (s : Store) → Creates {E = OpenFault} (Ok s) mid after → s.versions.root.n ≡ 0 → Starts (Ok s) before after
-  made_ok s c none h n (inl (unmade, is, zero)) =
-      let made = c.created (unmade_stays before mid o.images unmade) in
-      let next : Version = record { n = 0; manifest = [] } in
-      (none ∙ sym zero, next, subst (λ (l : List Entry). IsStore s l next after) (sym is) (made.1 next))
-  made_ok s c none h n (inr (whole, f, finds, is, number)) = absurd (o.found finds.made)
+  made_ok s c none = record { whole = λ made. absurd (o.found made); stands = by }
+    where
+      by : (h : List Entry) (n : ℕ) → Holds before h n → (s.versions.root.n ≡ n) × (next : Version) × IsStore s h next after
+      by h n (inl (unmade, is, zero)) =
+          let made = c.created (unmade_stays before mid o.images unmade) in
+          let next : Version = record { n = 0; manifest = [] } in
+          (none ∙ sym zero, next, subst (λ (l : List Entry). IsStore s l next after) (sym is) (made.1 next))
+      by h n (inr (whole, f, finds, is, number)) = absurd (o.found finds.made)
 
   made_err : {E : Type 0} (e : E) → Creates {E = E} (Err e) mid after → IsUnopened before after
   made_err e c = inr (o.found, λ unmade. c.created (unmade_stays before mid o.images unmade))

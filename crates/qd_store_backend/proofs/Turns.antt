@@ -1,5 +1,5 @@
 -- What a round makes of a store.
-use Rattle.std.proofs.Common.{◌≡◌, ◌↔◌, ◌∙◌, ℕ, ◌<◌, ◌≤◌, true, false, List, [], length, get_or, All, Option, None, Some, is_some, Result, Ok, Err, Bool, IfOk, IfSome, OnErr, refl, sym, ap, ap₂, subst, arith}
+use Rattle.std.proofs.Common.{◌≡◌, ◌↔◌, ◌∙◌, ℕ, ◌<◌, ◌≤◌, inl, inr, true, false, List, [], length, get_or, All, Option, None, Some, is_some, Result, Ok, Err, Bool, IfOk, IfSome, OnErr, refl, sym, ap, ap₂, subst, arith}
 use Rattle.std.proofs.lemmas.List.Elements.{All-get_or}
 use Rattle.qd_base.specs.declared.op.Entry.{Entry}
 use Rattle.qd_catalog.specs.declared.version.Version as catalog
@@ -22,8 +22,9 @@ use Rattle.qd_txnfile.specs.Versions.{Version}
 use Rattle.qd_versions.specs.Publishing.{IsFull}
 use Rattle.qd_volume.specs.Calls.{Storage}
 use Rattle.qd_volume.specs.Disk.{Disk}
-use Rattle.qd_store_backend.specs.Backs.{IsTold, current}
-use Rattle.qd_store_backend.specs.Rounds.{IsNextFrom, IsOfVolume, IsOnlyOne, StaysTold}
+use Rattle.qd_store_backend.specs.Backs.{IsTold, LeavesNoOther, current}
+use Rattle.qd_store_backend.specs.Rounds.{IsNextFrom, IsOfVolume, IsOnlyOne, IsSwept, StaysTold}
+use Rattle.qd_store_backend.proofs.Leaving.{leaves_both, leaves_here, swept_leaves}
 use Rattle.qd_store_backend.proofs.Told.{told_of}
 
 -- ---- the rows of versions
@@ -43,10 +44,11 @@ pub record Keeps (old new : Owned) : Type 0 where
   pub sequence : new.store.sequence ≡ old.store.sequence
   pub limits : new.store.limits ≡ old.store.limits
   pub told : StaysTold old new
+  pub left : LeavesNoOther old new
   pub faults : old.storage.faults ≤ new.storage.faults
 
 pub keeps_all : (o : Owned) → Keeps o o
-keeps_all o = record { alone = λ a. a; shown = refl; sequence = refl; limits = refl; told = λ h is. is; faults = omega arith }
+keeps_all o = record { alone = λ a. a; shown = refl; sequence = refl; limits = refl; told = λ h is. is; left = leaves_here o; faults = omega arith }
 
 pub keeps_both : (a b c : Owned) → Keeps a b → Keeps b c → Keeps a c
 keeps_both a b c k l = record {
@@ -55,6 +57,7 @@ keeps_both a b c k l = record {
   sequence = l.sequence ∙ k.sequence;
   limits = l.limits ∙ k.limits;
   told = λ h is. l.told h (k.told h is);
+  left = leaves_both a b c k.told k.left l.left;
   faults = omega (arith, k.faults, l.faults);
 }
 
@@ -71,6 +74,7 @@ module _ (old new : Owned) (limits : new.store.limits ≡ old.store.limits) (seq
     sequence = sequence;
     limits = limits;
     told = stands_told old new told;
+    left = swept_leaves old new told;
     faults = faults;
   }
 
@@ -88,6 +92,16 @@ module _ (old new : Owned) (limits : new.store.limits ≡ old.store.limits) (seq
   sweep_keeps (Ok false) swept idle same counted = subst (Keeps old) (sym (idle refl).1) (keeps_all old)
   sweep_keeps (Err fault) swept idle same counted =
       keeps_versions (ap (λ (v : Versions). v.versions) same) (ap (λ (v : Versions). v.current) same) (counted_up (Err fault) counted)
+
+-- the last sweep of a queue: it was empty, or the volume failed, or there was no memory
+module _ (first old new : Owned) (before : Keeps first old) where
+  pub swept_all : {T : Type 0} (done : T) → (old.store.versions.versions.retired ≡ []) × (new ≡ old) → IsSwept (Ok done) first new
+  swept_all done idle = ap (λ (o : Owned). o.store.versions.versions.retired) idle.1 ∙ idle.0
+
+  pub swept_fault : (T : Type 0) (fault : IoFault) → Counts {T = Bool} old.storage.faults new.storage.faults (Err fault) → IsSwept {T = T} (Err fault) first new
+  swept_fault T io.Failed (most, inl less) = let le = before.faults in inl (omega (arith, le, less))
+  swept_fault T io.Failed (most, inr last) = inr last
+  swept_fault T io.Memory counted = tt
 
 -- ---- publications
 

@@ -1,20 +1,30 @@
 -- What a backend over a store keeps, and what it shows of it.
-use Rattle.std.specs.Prelude.{◌≡◌, ℕ, ◌+◌, ◌-◌, ◌≤◌, List, [], ◌∷◌, ◌++◌, length, map, Option, Some, None, is_some, IfSome, Result, Ok, Err}
+use Rattle.std.specs.Prelude.{◌≡◌, ℕ, ◌+◌, ◌-◌, ◌≤◌, true, List, [], ◌∷◌, ◌++◌, length, map, Option, Some, None, IfSome, Result, Ok, Err}
 use Rattle.std.specs.List.{range_with_len}
 use Rattle.qd_base.specs.declared.op.Entry.{Entry}
+use Rattle.qd_base.specs.declared.limits.Limits.{Limits}
 use Rattle.qd_base.specs.declared.schema.Schema.{Schema}
 use Rattle.qd_base.specs.Database.{Database, schemas_of}
 use Rattle.qd_base.specs.Replay.{after, first}
+use Rattle.qd_base.specs.declared.part.Part.{Part}
 use Rattle.qd_catalog.specs.declared.version.Version as catalog
 use Rattle.qd_catalog.specs.Versions.{IsLive, version_at}
+use Rattle.qd_column_files.specs.Reading.{IsBlockRead}
+use Rattle.qd_durable.specs.declared.fault.LogFault.TheVariants as fault
 use Rattle.qd_manifest.specs.declared.shape.TableParts.{TableParts}
 use Rattle.qd_manifest.specs.Spelling.{schemas_in}
 use Rattle.qd_scan.specs.Sources.{SourceView}
 use Rattle.qd_session.specs.Looks.{Shown}
+use Rattle.qd_sequencer.specs.Calls.{PendsAsBefore, PendsOwn}
+use Rattle.qd_sequencer.specs.Histories.{IsPending}
+use Rattle.qd_sequencer.specs.declared.fault.Committed.{Committed}
+use Rattle.qd_store.specs.Arriving.{is_kept}
+use Rattle.qd_store.specs.Damage.{IsDraftDamage}
 use Rattle.qd_store.specs.Owned.{Owned}
 use Rattle.qd_store.specs.Stores.{IsStore, Store}
 use Rattle.qd_txnfile.specs.Versions.{Version}
-use Rattle.qd_volume.specs.Disk.{Disk}
+use Rattle.qd_versions.specs.Reading.{IsPartAt}
+use Rattle.qd_volume.specs.Disk.{Disk, Image, reads_of}
 use Rattle.qd_base.specs.declared.limits.TheConstants.{MAX_TXNS}
 
 -- what contracts see of a source over the current version of a store
@@ -29,10 +39,13 @@ pub record Parts : Type 0 where
   pub damages : ℕ
   pub last_damage : Option (ℕ × ℕ)
 
--- what they see of a backend: the source, and how many transactions there were when it began
+-- what they see of a backend: the source; how many transactions there were when it began; the writer by which it commits, once there
+-- is one; and the transaction that a write that failed may have left behind the history, where that is told
 pub record Back : Type 0 where
   pub parts : Parts
   pub before : ℕ
+  pub writer : Option ℕ
+  pub left : Option Entry
 
 -- the current version, its tables and its number
 abbrev pub current : Store → Option catalog.Version
@@ -80,23 +93,106 @@ IsTold owned h = (disk : Disk) × (next : Version) × (owned.storage.disk ≡ So
 abbrev pub IsToldWhole : Parts → Type 0
 IsToldWhole p = (h : List Entry) → p.history ≡ Some h → p.damages ≡ 0
 
+-- The files of a part of the current version are damaged at a byte: so they hold no block that is the part's.
+pub record IsPartDamage (s : Store) (image : Image) (file at : ℕ) : Type 0 where
+  pub row : ℕ
+  pub table : ℕ
+  pub i : ℕ
+  pub of : TableParts
+  pub part : Part
+  pub there : IsPartAt s.versions.versions row table i of part
+  pub its_row : row ≡ s.versions.versions.current
+  pub damaged : IsBlockRead (Err (fault.Damaged file at)) of.schema part image
+
+-- a place of what a volume holds is damaged, where that is told
+abbrev pub IsDamageTold : Owned → (Image → ℕ → ℕ → Type 0) → ℕ → ℕ → Type 0
+IsDamageTold owned Damage file at = IfSome owned.storage.disk (λ disk. Damage (reads_of disk) file at)
+
+-- that of a part of the current version
+abbrev pub IsPartDamaged : Owned → ℕ → ℕ → Type 0
+IsPartDamaged owned file at = IsDamageTold owned (IsPartDamage owned.store) file at
+
+-- that of a draft of all transactions
+abbrev pub IsDraftDamaged : Owned → ℕ → ℕ → Type 0
+IsDraftDamaged owned file at = IsDamageTold owned (IsDraftDamage owned.store (length owned.store.sequence.refs)) file at
+
+-- the last damage that was found is there still
+abbrev pub IsLastDamage : Owned → Option (ℕ × ℕ) → Type 0
+IsLastDamage owned last = IfSome last (λ place. IsPartDamaged owned place.0 place.1)
+
 -- what a source keeps
 pub record IsParts (p : Parts) : Type 0 where
   pub schemas : p.schemas ≡ schemas_in (shape_in (current p.owned.store))
   pub told : IfSome p.history (IsTold p.owned)
   pub whole : IsToldWhole p
+  pub damage : IsLastDamage p.owned p.last_damage
 
 -- no version is live but the current one
 abbrev pub IsAlone : Parts → Type 0
 IsAlone p = (row : ℕ) → IsLive p.owned.store.versions.versions row → row ≡ p.owned.store.versions.versions.current
 
--- What a backend keeps: it has no fewer transactions than when it began, and no fewer than are shown; the usual limit; and no live
--- version but the current one.
+-- ---- what a write that failed may have left
+
+-- the one entry of which a fact holds, or none where it holds of none
+abbrev pub IsOnly : Option Entry → (Entry → Type 0) → Type 0
+IsOnly None P = (e : Entry) → P e → ⊥
+IsOnly (Some e) P = P e × ((x : Entry) → P x → x ≡ e)
+
+-- It is the one that may be there behind a told history; where none is told, nothing is said.
+abbrev pub IsLeftOf : Option (List Entry) → Owned → Option Entry → Type 0
+IsLeftOf None owned left = left ≡ None
+IsLeftOf (Some h) owned left = (disk : Disk) → owned.storage.disk ≡ Some disk → IsOnly left (IsPending owned.store.sequence.pending disk)
+
+-- what only proofs keep of it: a list of it alone, or none
+abbrev pub left_of : Option (List Entry) → Option Entry
+left_of None = None
+left_of (Some []) = None
+left_of (Some (e ∷ es)) = Some e
+
+-- No other than before may be left behind a told history by a call.
+abbrev pub LeavesNoOther : (old new : Owned) → Type 0
+LeavesNoOther old new = (h : List Entry) (next : Version) (disk later : Disk) → old.storage.disk ≡ Some disk → IsStore old.store h next disk → new.storage.disk ≡ Some later
+    → PendsAsBefore old.store.sequence.pending new.store.sequence.pending disk later
+
+-- that, or one of which a fact holds
+abbrev pub LeavesOwn : (old new : Owned) → (Entry → Type 0) → Type 0
+LeavesOwn old new Own = (h : List Entry) (next : Version) (disk later : Disk) → old.storage.disk ≡ Some disk → IsStore old.store h next disk → new.storage.disk ≡ Some later
+    → PendsOwn old.store.sequence.pending new.store.sequence.pending Own disk later
+
+-- ---- the writer by which a backend commits
+
+-- it is one that the store keeps
+abbrev pub IsWriterKept : Owned → Option ℕ → Type 0
+IsWriterKept owned writer = IfSome writer (λ w. is_kept owned.store.sequence.writers w ≡ true)
+
+-- the writer once a commit is answered: the one of that
+abbrev pub writer_behind : {E : Type 0} → Option ℕ → Result Committed E → Option ℕ
+writer_behind writer (Ok done) = Some done.writer
+writer_behind writer (Err fault) = writer
+
+-- A backend that has a writer goes on with it, and its store keeps no more writers than before.
+abbrev pub GoesOn : (old new : Back) → Type 0
+GoesOn old new = (w : ℕ) → old.writer ≡ Some w
+    → (new.writer ≡ Some w) × (length new.parts.owned.store.sequence.writers ≡ length old.parts.owned.store.sequence.writers)
+
+-- ---- backends
+
+-- the limits of the product
+pub record AreUsual (l : Limits) : Type 0 where
+  pub max_txns : l.max_txns ≡ MAX_TXNS
+  pub split_rows : l.split_rows ≡ 4096
+  pub seg_bytes : l.seg_bytes ≡ 67108864
+  pub cache_blocks : l.cache_blocks ≡ 256
+
+-- What a backend keeps: it has no fewer transactions than when it began, and no fewer than are shown; the usual limits; no live
+-- version but the current one; its writer; and what may have been left.
 pub record IsBack (b : Back) : Type 0 where
   pub since : b.before ≤ length b.parts.owned.store.sequence.refs
   pub within : n_in (current b.parts.owned.store) ≤ length b.parts.owned.store.sequence.refs
-  pub usual : b.parts.owned.store.limits.max_txns ≡ MAX_TXNS
+  pub usual : AreUsual b.parts.owned.store.limits
   pub alone : IsAlone b.parts
+  pub writer : IsWriterKept b.parts.owned b.writer
+  pub left : IsLeftOf b.parts.history b.parts.owned b.left
 
 -- what a backend shows: all transactions since it began are its own
 abbrev pub back_shown : Back → Shown
@@ -107,7 +203,7 @@ back_shown b = record {
   own = range_with_len (b.before + 1) (length b.parts.owned.store.sequence.refs - b.before);
   faults = b.parts.owned.storage.faults;
   pinned = [];
-  pending = is_some b.parts.owned.store.sequence.pending;
+  pending = b.left;
 }
 
 -- a history grew by one transaction, where it is told

@@ -1,15 +1,19 @@
 -- What a round makes of a store: the next version is merged, and shown in place of the current one.
-use Rattle.std.specs.Prelude.{◌≡◌, ℕ, List, Some, Result, Ok, Err}
+use Rattle.std.specs.Prelude.{◌≡◌, ℕ, List, [], Some, Result, Ok, Err}
 use Rattle.qd_base.specs.declared.op.Entry.{Entry}
 use Rattle.qd_catalog.specs.Versions.{IsLive, Versions}
 use Rattle.qd_durable.specs.declared.fault.LogFault.{LogFault}
 use Rattle.qd_durable.specs.declared.fault.LogFault.TheVariants as fault
+use Rattle.qd_io.specs.Ends.{HasRisen}
+use Rattle.qd_io.specs.declared.fault.IoFault.{IoFault}
+use Rattle.qd_io.specs.declared.fault.IoFault.TheVariants as io
 use Rattle.qd_store.specs.declared.fault.PublishFault.{PublishFault}
 use Rattle.qd_store.specs.declared.fault.PublishFault.TheVariants as publish
 use Rattle.qd_store.specs.Drafts.{IsNextOf, Merging}
 use Rattle.qd_store.specs.Owned.{Owned}
 use Rattle.qd_store.specs.Stores.{Store}
 use Rattle.qd_store_backend.specs.Backs.{IsTold, current}
+use Rattle.qd_store_backend.specs.declared.parts.Round.{Round}
 
 -- no version is live but the current one
 abbrev pub IsOnlyOne : Versions → Type 0
@@ -46,3 +50,16 @@ fault_of publish.Memory = fault.Memory
 -- what is told of a store is told of it behind a call
 abbrev pub StaysTold : Owned → Owned → Type 0
 StaysTold old new = (h : List Entry) → IsTold old h → IsTold new h
+
+-- ---- sweeps
+
+-- The queue of blocks that no version lists any more is empty; or the volume failed, or there was no memory.
+abbrev pub IsSwept : {T : Type 0} → Result T IoFault → (old new : Owned) → Type 0
+IsSwept (Ok done) old new = new.store.versions.versions.retired ≡ []
+IsSwept (Err io.Failed) old new = HasRisen old.storage.faults new.storage.faults
+IsSwept (Err io.Memory) old new = Unit {0}
+
+-- how many transactions a round shows
+abbrev pub number_in : {E : Type 0} → Result Round E → Result ℕ E
+number_in (Ok round) = Ok round.upto
+number_in (Err fault) = Err fault

@@ -1,5 +1,5 @@
 -- What a volume holds, and what the calls that open or make a store, and a session over it, leave of it.
-use Rattle.std.specs.Prelude.{◌≡◌, ◌⊎◌, ℕ, ◌≤◌, Bool, true, List, [], ◌∷◌, ◌++◌, Option, Some, None, Result, Ok, Err}
+use Rattle.std.specs.Prelude.{◌≡◌, ◌⊎◌, ℕ, ◌≤◌, List, [], ◌∷◌, ◌++◌, Option, Some, None, Result, Ok, Err}
 use Rattle.qd_base.specs.declared.op.Entry.{Entry}
 use Rattle.qd_durable.specs.Moments.{EachNow}
 use Rattle.qd_store.specs.declared.fault.OpenFault.{OpenFault}
@@ -7,7 +7,7 @@ use Rattle.qd_store.specs.declared.fault.OpenFault.TheVariants as fault
 use Rattle.qd_store.specs.Calls.{IsBeingMade}
 use Rattle.qd_store.specs.Found.{Finds, Found, IsUnmade, IsWhole}
 use Rattle.qd_store.specs.Marks.{IsMade}
-use Rattle.qd_store.specs.Opening.{IsDamaged}
+use Rattle.qd_store.specs.Opening.{IsDamaged, IsUndamaged}
 use Rattle.qd_store.specs.Stores.{IsStore, Store}
 use Rattle.qd_txnfile.specs.Versions.{Version}
 use Rattle.qd_volume.specs.Disk.{Disk, Image, reads_of}
@@ -47,9 +47,14 @@ pub record IsDamagedAt (file at : ℕ) (before after : Disk) : Type 0 where
   pub not_whole : IsWhole before → ⊥
   pub reads : ReadsAlike before after
 
--- The store stands behind the history that the volume holds, and shows as many of its transactions as that volume's version.
+-- A volume of which a store is opened or made is undamaged, or isn't made. The store stands behind the history that the volume holds,
+-- and shows as many of its transactions as that volume's version.
+pub record StartsOver (s : Store) (before after : Disk) : Type 0 where
+  pub whole : IsMade (reads_of before) → IsUndamaged (reads_of before) × ReadsAlike before after
+  pub stands : (h : List Entry) (n : ℕ) → Holds before h n → (s.versions.root.n ≡ n) × (next : Version) × IsStore s h next after
+
 abbrev pub Starts : Result Store OpenFault → Disk → Disk → Type 0
-Starts (Ok s) before after = (h : List Entry) (n : ℕ) → Holds before h n → (s.versions.root.n ≡ n) × (next : Version) × IsStore s h next after
+Starts (Ok s) before after = StartsOver s before after
 Starts (Err fault.NotMade) before after = ⊥
 Starts (Err (fault.Damaged file at)) before after = IsDamagedAt file at before after
 Starts (Err fault.Vol) before after = IsUnopened before after
@@ -57,19 +62,19 @@ Starts (Err fault.Memory) before after = IsUnopened before after
 
 -- ---- behind a session
 
--- What is found in an image is a history, or that with one transaction more, where one may have been left behind it; and a version of
+-- What is found in an image is a history, or that with the one transaction more that may have been left behind it; and a version of
 -- no fewer transactions than are applied.
-pub record Leaves (history : List Entry) (pending : Bool) (applied : ℕ) (image : Image) : Type 0 where
+pub record Leaves (history : List Entry) (pending : Option Entry) (applied : ℕ) (image : Image) : Type 0 where
   pub found : Found
   pub finds : Finds found image
-  pub is : (found.history ≡ history) ⊎ ((pending ≡ true) × (more : Entry) × (found.history ≡ history ++ more ∷ []))
+  pub is : (found.history ≡ history) ⊎ ((more : Entry) × (pending ≡ Some more) × (found.history ≡ history ++ more ∷ []))
   pub applied_is : applied ≤ found.n
 
 -- A volume keeps that: it is whole, and so is each image that a crash may leave.
-pub record Keeps (history : List Entry) (pending : Bool) (applied : ℕ) (disk : Disk) : Type 0 where
+pub record Keeps (history : List Entry) (pending : Option Entry) (applied : ℕ) (disk : Disk) : Type 0 where
   pub whole : IsWhole disk
   pub each : EachNow disk (Leaves history pending applied)
 
-abbrev pub KeepsTold : Option Disk → List Entry → Bool → ℕ → Type 0
+abbrev pub KeepsTold : Option Disk → List Entry → Option Entry → ℕ → Type 0
 KeepsTold None history pending applied = ⊥
 KeepsTold (Some disk) history pending applied = Keeps history pending applied disk

@@ -1,26 +1,29 @@
 //! The backend: what it keeps, and how it answers.
-ghost use Rattle.qd_base.specs.declared.limits.TheConstants.{MAX_TXNS};
-ghost use Rattle.std.specs.Prelude.{◌≡◌, ℕ, List, Option, Ok, length, IfErr, IfOk, IfSome};
+ghost use Rattle.std.specs.Prelude.{◌≡◌, ◌≤◌, ℕ, List, Option, Ok, length, IfErr, IfOk, IfSome};
+ghost use Rattle.qd_base.specs.declared.limits.TheConstants.{MAX_QUERY_BYTES};
 ghost use Rattle.qd_base.specs.Codes.{number_of};
 ghost use Rattle.qd_base.specs.declared.request.Reply.TheVariants as reply;
 ghost use Rattle.qd_base.specs.declared.request.Request.TheVariants as request;
 ghost use Rattle.qd_catalog.specs.Versions.{IsLive};
 ghost use Rattle.qd_base.specs.declared.op.Entry.{Entry};
-ghost use Rattle.qd_store_backend.specs.Backs.{back_shown, BeginsWith};
+ghost use Rattle.qd_store_backend.specs.Backs.{back_shown, left_of, writer_behind, AreUsual, BeginsWith, GoesOn, IsDraftDamaged, IsLeftOf, IsPartDamaged, IsTold};
 ghost use Rattle.qd_store_backend.specs.Replies.{RepliesOver, RepliesTo, RepliesWith};
+ghost use Rattle.qd_store_backend.specs.Rounds.{number_in};
 ghost use Rattle.qd_store_backend.specs.Volumes.{KeepsTold};
+ghost use Rattle.qd_ilp.specs.Whole.{IsReading};
 ghost use Rattle.qd_prepare.specs.Prepared.{IsShort};
 ghost use Rattle.qd_session.specs.Alone.{AllowedAlone};
 ghost use Rattle.qd_session.specs.Asking.{asks_for};
 ghost use Rattle.qd_sql_ast.specs.Kinds.{IsQuestion, IsWrite};
 ghost use Rattle.qd_session.specs.Legal.{Handles};
+ghost use Rattle.qd_session.specs.Timing.{IsRead};
 
 use crate::kept::KeptBlocks;
-use crate::parts::StoreParts;
+use crate::parts::{Round, StoreParts};
 use qd_apply::schemas_of;
 use qd_base::{Code, Memory, Reply, Txt};
 use qd_durable::LogFault;
-use qd_ghost::Telling;
+use qd_ghost::{Telling, Turning};
 use qd_ilp::Batch;
 use qd_query::{Answer, run_query};
 use qd_scan::PartFault;
@@ -28,31 +31,35 @@ use qd_session::Backend;
 use qd_sql::{SqlFault, parse_stmt};
 use qd_sql_ast::Stmt;
 use qd_sql_laws::inserts_are_short;
-use qd_store::{CommitFault, Committed, Store, stores_are_whole};
+use qd_store::{CommitFault, Committed, Store, stores_are_whole, writers_go_on};
 use qd_volume::Volume;
+use qd_wal::one_entry_is_read;
 use std::alloc::{AllocError, Global};
-use std::marker::Model;
+use std::marker::{Model, PhantomData};
 
 /// A backend over a store, whose one session alone writes and applies.
 ///
-/// Contracts see the store, the history where it is told, and how many transactions there were when it began; all later ones are
-/// its own.
+/// Contracts see the store, the history where it is told, and how many transactions there were when it began, all later ones being
+/// its own; the one writer by which it commits, once there is one; and, where the history is told, the transaction that a write that
+/// failed may have left behind it, until the next commit settles that.
 #[derive(Drop)]
 pub struct StoreBack<V: Volume> {
     parts: StoreParts<V>,
     before: u64,
     /// The writer that its transactions are written by, once there is one.
     writer: Option<u32>,
+    /// What a write that failed may have left behind the history.
+    left: Telling,
 }
 
 impl<V: Volume> Model for StoreBack<V> {
-    ghost use Rattle.qd_store_backend.specs.Backs.{Back, IsBack};
+    ghost use Rattle.qd_store_backend.specs.Backs.{Back, IsBack, left_of};
 
     ghost Value = { Back };
 
-    ghost view = { λ b. record { parts = b.parts; before = b.before } };
+    ghost view = { λ b. record { parts = b.parts; before = b.before; writer = b.writer; left = left_of b.left.history } };
 
-    ghost invariant = { λ b. IsBack (record { parts = b.parts; before = b.before }) };
+    ghost invariant = { λ b. IsBack (record { parts = b.parts; before = b.before; writer = b.writer; left = left_of b.left.history }) };
 }
 
 impl<V: Volume> StoreBack<V> {
@@ -60,14 +67,16 @@ impl<V: Volume> StoreBack<V> {
     /// memory for the schemas of the version and for blocks that are kept; where none is found, the store is handed back.
     pub fn over(alloc: Global, store: Store<V>) -> Result<StoreBack<V>, Store<V>>
         ghost told: { Option (List Entry) }
-        requires usual { store.store.limits.max_txns ≡ MAX_TXNS }
+        requires usual { AreUsual store.store.limits }
         requires alone { (row : ℕ) → IsLive store.store.versions.versions row → row ≡ store.store.versions.versions.current }
         requires told { BeginsWith told store }
         ensures owned { IfOk result (λ b. b.parts.owned ≡ store) }
         ensures history { IfOk result (λ b. b.parts.history ≡ told) }
         ensures before { IfOk result (λ b. b.before ≡ length store.store.sequence.refs) }
+        ensures left { IfOk result (λ b. IsLeftOf told store b.left) }
         ensures handed_back { IfErr result (λ s. s ≡ store) }
     {
+        one_entry_is_read();
         store.keeps_its_law();
         let Ok(schemas) = schemas_of(alloc, store.shape_of(store.current())) else {
             return Err(store);
@@ -77,8 +86,10 @@ impl<V: Volume> StoreBack<V> {
         };
         let telling = Telling::of(&store);
         let before = store.hist_len();
+        let parts = StoreParts::over(store, telling, schemas, kept);
         Ok(StoreBack {
-            parts: StoreParts::over(store, telling, schemas, kept),
+            left: left_behind(&parts),
+            parts,
             before,
             writer: None,
         })
@@ -96,6 +107,7 @@ impl<V: Volume> StoreBack<V> {
             parts,
             before: _,
             writer: _,
+            left: _,
         } = self;
         let store = parts.into_store();
         store.keeps_its_law();
@@ -106,6 +118,8 @@ impl<V: Volume> StoreBack<V> {
     fn carry_out(&mut self, alloc: Global, stmt: &Stmt) -> Result<Reply, Memory>
         requires short { IsShort stmt.now }
         ensures handled { (text : List ℕ) → asks_for text ≡ Ok stmt.now → Handles AllowedAlone (back_shown self.old) (back_shown self.new) 0 (request.Sql text) result }
+        ensures one_writer { GoesOn self.old self.new }
+        ensures damaged { (file : ℕ) (at : ℕ) → result ≡ Ok (reply.Damaged file at) → IsPartDamaged self.old.parts.owned file at }
     {
         match stmt {
             Stmt::Create(_) | Stmt::Insert(_) => self.write(alloc, stmt),
@@ -118,20 +132,15 @@ impl<V: Volume> StoreBack<V> {
         requires short { IsShort stmt.now }
         requires writes { IsWrite stmt.now }
         ensures handled { (text : List ℕ) → asks_for text ≡ Ok stmt.now → Handles AllowedAlone (back_shown self.old) (back_shown self.new) 0 (request.Sql text) result }
+        ensures one_writer { GoesOn self.old self.new }
+        ensures damaged { (file : ℕ) (at : ℕ) → result ≡ Ok (reply.Damaged file at) → ⊥ }
     {
+        one_entry_is_read();
+        writers_go_on();
         self.parts.is_told();
         let done = self.parts.commit_sql(alloc, self.writer, stmt);
-        self.answered(done)
-    }
-
-    /// What a commit answers; its writer is kept.
-    fn answered(&mut self, done: Result<Committed, CommitFault>) -> Result<Reply, Memory>
-        ensures same { self.new ≡ self.old }
-        ensures reply { RepliesTo done result }
-    {
-        if let Ok(Committed { n: _, writer }) = done {
-            self.writer = Some(writer);
-        }
+        self.left = left_behind(&self.parts);
+        self.writer = writer_after(self.writer, &done);
         reply_of(done)
     }
 
@@ -139,6 +148,8 @@ impl<V: Volume> StoreBack<V> {
     fn answer(&mut self, alloc: Global, stmt: &Stmt) -> Result<Reply, Memory>
         requires asks { IsQuestion stmt.now }
         ensures handled { (text : List ℕ) → asks_for text ≡ Ok stmt.now → Handles AllowedAlone (back_shown self.old) (back_shown self.new) 0 (request.Sql text) result }
+        ensures one_writer { GoesOn self.old self.new }
+        ensures damaged { (file : ℕ) (at : ℕ) → result ≡ Ok (reply.Damaged file at) → IsPartDamaged self.old.parts.owned file at }
     {
         let n = self.parts.shown_n();
         let answer = run_query(alloc, &mut self.parts, stmt);
@@ -152,16 +163,31 @@ impl<V: Volume> Backend for StoreBack<V> {
 
     ghost rule = { AllowedAlone };
 
-    /// Commits a batch, as `Store::accept_lines` does: what is answered by `K` is on the disk.
-    fn lines(&mut self, alloc: Global, batch: &Batch, now: u64) -> Result<Reply, Memory> {
+    /// Commits a batch, as `Store::accept_lines` does: what is answered by `K` is on the disk. All batches and statements go on in one
+    /// writer.
+    fn lines(&mut self, alloc: Global, batch: &Batch, now: u64) -> Result<Reply, Memory>
+        requires read { IsRead batch.now }
+        ensures handled { (text : List ℕ) → IsReading text batch.now → Handles AllowedAlone (back_shown self.old) (back_shown self.new) now (request.Write text) result }
+        ensures one_writer { GoesOn self.old self.new }
+    {
+        one_entry_is_read();
+        writers_go_on();
         self.parts.is_told();
         let done = self.parts.commit_lines(alloc, self.writer, batch, now);
-        self.answered(done)
+        self.left = left_behind(&self.parts);
+        self.writer = writer_after(self.writer, &done);
+        reply_of(done)
     }
 
     /// Commits CREATE TABLE and INSERT, and answers a query and SHOW PARTITIONS over the current version. A block is read from the
-    /// volume once, and kept until the next apply or until 256 others were asked for.
-    fn sql(&mut self, alloc: Global, text: &Txt) -> Result<Reply, Memory> {
+    /// volume once, and kept until the next apply or until 256 others were asked for. Damage is answered only where the files of a
+    /// part of that version are damaged at that byte.
+    fn sql(&mut self, alloc: Global, text: &Txt) -> Result<Reply, Memory>
+        requires short { length text.now ≤ MAX_QUERY_BYTES }
+        ensures handled { Handles AllowedAlone (back_shown self.old) (back_shown self.new) 0 (request.Sql text.now) result }
+        ensures one_writer { GoesOn self.old self.new }
+        ensures damaged { (file : ℕ) (at : ℕ) → result ≡ Ok (reply.Damaged file at) → IsPartDamaged self.old.parts.owned file at }
+    {
         inserts_are_short();
         match parse_stmt(alloc, text.bytes()) {
             Ok(stmt) => self.carry_out(alloc, &stmt),
@@ -170,9 +196,18 @@ impl<V: Volume> Backend for StoreBack<V> {
         }
     }
 
-    /// Makes all transactions the current version, in one round, and removes the blocks that it doesn't list any more.
-    fn apply(&mut self, alloc: Global) -> Result<Reply, Memory> {
-        reply_with(self.parts.show_all(alloc))
+    /// Makes all transactions the current version, in one round, and removes the blocks that it doesn't list any more, until none is
+    /// left, the volume fails or there is no memory. Damage is answered only where a draft of the transactions finds it.
+    fn apply(&mut self, alloc: Global) -> Result<Reply, Memory>
+        ensures handled { Handles AllowedAlone (back_shown self.old) (back_shown self.new) 0 request.Apply result }
+        ensures one_writer { GoesOn self.old self.new }
+        ensures damaged { (file : ℕ) (at : ℕ) → result ≡ Ok (reply.Damaged file at) → IsDraftDamaged self.old.parts.owned file at }
+    {
+        one_entry_is_read();
+        self.parts.is_told();
+        let done = self.parts.show_all(alloc);
+        self.left = left_behind(&self.parts);
+        reply_with(done)
     }
 
     fn is_counted(&self) {
@@ -182,9 +217,43 @@ impl<V: Volume> Backend for StoreBack<V> {
     fn keeps_to_its_rule(&self) {}
 }
 
+/// What a write that failed may have left behind the history of a source, where that is told.
+fn left_behind<V: Volume>(parts: &StoreParts<V>) -> Telling
+    ensures left { IsLeftOf parts.now.history parts.now.owned (left_of result.history) }
+    ensures told { IfSome parts.now.history (IsTold parts.now.owned) }
+{
+    one_entry_is_read();
+    parts.is_told();
+    let mut left = Telling::of(&());
+    left.turn::<StoreParts<V>, (), Leaving<V>>(parts, &());
+    left
+}
+
+/// What is told of a write that failed.
+struct Leaving<V> {
+    marker: PhantomData<V>,
+}
+
+impl<V: Volume> Turning<StoreParts<V>, ()> for Leaving<V> {
+    ghost use Rattle.qd_store_backend.specs.Backs.{IsLeftOf, left_of};
+
+    ghost turns = { λ parts nothing before then. IsLeftOf parts.history parts.owned (left_of then) };
+}
+
+/// The writer once a commit is answered: its writer, or after a fault the one before.
+fn writer_after(writer: Option<u32>, done: &Result<Committed, CommitFault>) -> Option<u32>
+    ensures { result ≡ writer_behind writer done.now }
+{
+    match done {
+        Ok(committed) => Some(committed.writer),
+        Err(_) => writer,
+    }
+}
+
 /// The reply to a write.
 fn reply_of(done: Result<Committed, CommitFault>) -> Result<Reply, Memory>
     ensures reply { RepliesTo done result }
+    ensures undamaged { (file : ℕ) (at : ℕ) → result ≡ Ok (reply.Damaged file at) → ⊥ }
 {
     match done {
         Ok(Committed { n, writer: _ }) => Ok(Reply::Done { n }),
@@ -208,12 +277,12 @@ fn reply_over(n: u64, answer: Result<Answer, PartFault>) -> Result<Reply, Memory
     }
 }
 
-/// The reply to an apply.
-fn reply_with(done: Result<u64, LogFault>) -> Result<Reply, Memory>
-    ensures reply { RepliesWith done result }
+/// The reply to an apply. What a sweep left is removed by a later one.
+fn reply_with(done: Result<Round, LogFault>) -> Result<Reply, Memory>
+    ensures reply { RepliesWith (number_in done) result }
 {
     match done {
-        Ok(n) => Ok(Reply::Applied { n }),
+        Ok(Round { upto, swept: _ }) => Ok(Reply::Applied { n: upto }),
         Err(LogFault::Vol) => Ok(refused(Code::Volume, 0)),
         Err(LogFault::Damaged { file, at }) => Ok(Reply::Damaged { file, at }),
         Err(LogFault::Memory) => Err(AllocError),

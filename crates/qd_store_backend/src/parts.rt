@@ -1,6 +1,8 @@
 //! The current version of a store, as a source of the parts of tables.
-ghost use Rattle.std.specs.Prelude.{◌≡◌, ◌≢◌, ◌≤◌, ℕ, [], Err, None, length, IfErr, IfOk, IfSome};
-ghost use Rattle.qd_store_backend.specs.Backs.{current, kept_of, n_in, shape_in, shown_by, source_of, AreToldCount, AreToldSchemas, CommitsTo, IsAlone, IsTold, IsToldWhole, ShowsAll};
+ghost use Rattle.std.specs.Prelude.{◌≡◌, ◌≢◌, ◌≤◌, ℕ, [], Err, None, length, IfErr, IfOk, IfSome, OnErr, OnOk};
+ghost use Rattle.qd_store_backend.specs.Backs.{current, kept_of, n_in, shape_in, shown_by, source_of, AreToldCount, AreToldSchemas, CommitsTo, IsAlone, IsDraftDamaged, IsLastDamage, IsTold, IsToldWhole, LeavesNoOther, LeavesOwn, ShowsAll};
+ghost use Rattle.qd_store_backend.specs.Rounds.{IsSwept, StaysTold, number_in};
+ghost use Rattle.qd_sequencer.specs.Sequences.{IsAsBefore, chosen};
 ghost use Rattle.qd_durable.specs.declared.fault.LogFault.TheVariants as fault;
 ghost use Rattle.qd_io.specs.Ends.{HasRisen};
 ghost use Rattle.qd_lines.specs.declared.fault.LineFault.TheVariants as lines;
@@ -10,7 +12,7 @@ ghost use Rattle.qd_meaning.specs.Write.{write};
 ghost use Rattle.qd_prepare.specs.Prepared.{IsRead, IsShort};
 ghost use Rattle.qd_sql_ast.specs.Kinds.{IsWrite};
 ghost use Rattle.qd_sequencer.specs.Faults.{CountsFault};
-ghost use Rattle.qd_store.specs.Arriving.{SaysLines, SaysStmt};
+ghost use Rattle.qd_store.specs.Arriving.{IsPlaced, SaysLines, SaysStmt};
 ghost use Rattle.qd_store.specs.Faults.{Causes, IsFullFor, IsSettled};
 
 use crate::kept::KeptBlocks;
@@ -21,6 +23,7 @@ use qd_block::Block;
 use qd_durable::LogFault;
 use qd_ghost::{Telling, Turning};
 use qd_ilp::Batch;
+use qd_io::IoFault;
 use qd_scan::{PartFault, PartSource};
 use qd_sql_ast::Stmt;
 use qd_store::{CommitFault, Committed, Store};
@@ -81,6 +84,13 @@ impl<V: Volume> StoreParts<V> {
     }
 }
 
+/// A round that is done: all transactions are shown, and the blocks that no version lists any more are removed, or why some are left.
+#[derive(Clone, Copy)]
+pub(crate) struct Round {
+    pub(crate) upto: u64,
+    pub(crate) swept: Result<(), IoFault>,
+}
+
 /// What is told behind a commit: one transaction more.
 struct Behind<V> {
     marker: PhantomData<V>,
@@ -103,12 +113,17 @@ impl<V: Volume> StoreParts<V> {
     ) -> Result<Committed, CommitFault>
         requires read { IsRead batch.now }
         ensures commits { CommitsTo result self.old self.new (SaysLines self.old.owned.store.sequence.schemas now batch.now) }
+        ensures left { LeavesOwn self.old.owned self.new.owned (SaysLines self.old.owned.store.sequence.schemas now batch.now) }
+        ensures writer { IfOk result (λ done. done.writer ≡ (chosen self.old.owned.store.sequence writer).wal) }
+        ensures place { OnOk result (IsPlaced self.old.owned.store.limits self.old.owned.store.sequence self.new.owned.store.sequence writer) }
+        ensures stays { OnErr result (IsAsBefore self.old.owned.store.sequence self.new.owned.store.sequence) }
         ensures count { IfOk result (λ done. done.n ≡ length self.new.owned.store.sequence.refs) }
         ensures settled { IsSettled result self.new.owned.store.sequence }
         ensures causes { IfErr result (Causes (λ code line. IsLineFault self.old.owned.store.sequence.schemas now batch.now (lines.Refused code line)) (IsFullFor self.old.owned.store (SaysLines self.old.owned.store.sequence.schemas now batch.now))) }
         ensures counted { CountsFault self.old.owned.storage.faults self.new.owned.storage.faults result }
     {
         one_entry_is_read();
+        self.last_damage = None;
         let done = self.store.accept_lines(alloc, writer, batch, now)?;
         self.telling
             .turn::<(), Store<V>, Behind<V>>(&(), &self.store);
@@ -125,12 +140,17 @@ impl<V: Volume> StoreParts<V> {
         requires short { IsShort stmt.now }
         requires writes { IsWrite stmt.now }
         ensures commits { CommitsTo result self.old self.new (SaysStmt self.old.owned.store.sequence.schemas stmt.now) }
+        ensures left { LeavesOwn self.old.owned self.new.owned (SaysStmt self.old.owned.store.sequence.schemas stmt.now) }
+        ensures writer { IfOk result (λ done. done.writer ≡ (chosen self.old.owned.store.sequence writer).wal) }
+        ensures place { OnOk result (IsPlaced self.old.owned.store.limits self.old.owned.store.sequence self.new.owned.store.sequence writer) }
+        ensures stays { OnErr result (IsAsBefore self.old.owned.store.sequence self.new.owned.store.sequence) }
         ensures count { IfOk result (λ done. done.n ≡ length self.new.owned.store.sequence.refs) }
         ensures settled { IsSettled result self.new.owned.store.sequence }
         ensures causes { IfErr result (Causes (λ code place. write self.old.owned.store.sequence.schemas stmt.now ≡ Err (record { code = code; place = place })) (IsFullFor self.old.owned.store (SaysStmt self.old.owned.store.sequence.schemas stmt.now))) }
         ensures counted { CountsFault self.old.owned.storage.faults self.new.owned.storage.faults result }
     {
         one_entry_is_read();
+        self.last_damage = None;
         let done = self.store.accept_sql(alloc, writer, stmt)?;
         self.telling
             .turn::<(), Store<V>, Behind<V>>(&(), &self.store);
@@ -138,22 +158,42 @@ impl<V: Volume> StoreParts<V> {
     }
 
     /// Makes all transactions the current version, lets the one before go, and removes the blocks that no version lists any more,
-    /// as far as the volume lets it.
+    /// as far as the volume lets it. It gives the number of the transactions, and how the removal went.
     ///
     /// The draft, its merge and its publication are one round. After an `Err` the current version is the one before.
-    pub(crate) fn show_all(&mut self, alloc: Global) -> Result<u64, LogFault>
+    pub(crate) fn show_all(&mut self, alloc: Global) -> Result<Round, LogFault>
+        requires alone { IsAlone self.old }
+        ensures alone { IsAlone self.new }
+        ensures shows { ShowsAll (number_in result) self.old self.new }
+        ensures swept { IfOk result (λ round. IsSwept round.swept self.old.owned self.new.owned) }
+        ensures left { LeavesNoOther self.old.owned self.new.owned }
+        ensures sound { (file : ℕ) (at : ℕ) → result ≡ Err (fault.Damaged file at) → self.old.history ≡ None }
+        ensures damaged { (file : ℕ) (at : ℕ) → result ≡ Err (fault.Damaged file at) → IsDraftDamaged self.old.owned file at }
+        ensures vol { result ≡ Err fault.Vol → HasRisen self.old.owned.storage.faults self.new.owned.storage.faults }
+        ensures faults { self.old.owned.storage.faults ≤ self.new.owned.storage.faults }
+    {
+        let upto = self.show_new(alloc)?;
+        let swept = self.sweep_all();
+        Ok(Round { upto, swept })
+    }
+
+    /// Makes all transactions the current version, where it isn't that of all of them, and gives their number.
+    fn show_new(&mut self, alloc: Global) -> Result<u64, LogFault>
         requires alone { IsAlone self.old }
         ensures alone { IsAlone self.new }
         ensures shows { ShowsAll result self.old self.new }
+        ensures stays { StaysTold self.old.owned self.new.owned }
+        ensures left { LeavesNoOther self.old.owned self.new.owned }
         ensures sound { (file : ℕ) (at : ℕ) → result ≡ Err (fault.Damaged file at) → self.old.history ≡ None }
+        ensures damaged { (file : ℕ) (at : ℕ) → result ≡ Err (fault.Damaged file at) → IsDraftDamaged self.old.owned file at }
         ensures vol { result ≡ Err fault.Vol → HasRisen self.old.owned.storage.faults self.new.owned.storage.faults }
         ensures faults { self.old.owned.storage.faults ≤ self.new.owned.storage.faults }
     {
         let upto = self.store.hist_len();
-        if upto != self.store.version_n() {
-            self.show(alloc, upto)?;
+        if upto == self.store.version_n() {
+            return Ok(upto);
         }
-        self.sweep_all();
+        self.show(alloc, upto)?;
         Ok(upto)
     }
 
@@ -164,13 +204,17 @@ impl<V: Volume> StoreParts<V> {
         requires more { n_in (current self.old.owned.store) ≢ upto }
         ensures alone { IsAlone self.new }
         ensures shows { ShowsAll (shown_by result upto) self.old self.new }
+        ensures stays { StaysTold self.old.owned self.new.owned }
+        ensures left { LeavesNoOther self.old.owned self.new.owned }
         ensures sound { (file : ℕ) (at : ℕ) → result ≡ Err (fault.Damaged file at) → self.old.history ≡ None }
+        ensures damaged { (file : ℕ) (at : ℕ) → result ≡ Err (fault.Damaged file at) → IsDraftDamaged self.old.owned file at }
         ensures vol { result ≡ Err fault.Vol → HasRisen self.old.owned.storage.faults self.new.owned.storage.faults }
         ensures faults { self.old.owned.storage.faults ≤ self.new.owned.storage.faults }
     {
         merging_stands();
         self.store.keeps_its_law();
         self.kept.forget();
+        self.last_damage = None;
         let merged = next_of(&mut self.store, alloc, upto)?;
         let schemas = schemas_of(alloc, merged.shape())?;
         turn_to(&mut self.store, alloc, &merged)?;
@@ -178,18 +222,21 @@ impl<V: Volume> StoreParts<V> {
         Ok(())
     }
 
-    /// Removes blocks that no version lists any more, until none is left or the volume fails.
-    fn sweep_all(&mut self)
+    /// Removes blocks that no version lists any more, until none is left, the volume fails or there is no memory.
+    fn sweep_all(&mut self) -> Result<(), IoFault>
         requires alone { IsAlone self.old }
+        ensures swept { IsSwept result self.old.owned self.new.owned }
         ensures alone { IsAlone self.new }
         ensures shown { n_in (current self.new.owned.store) ≡ n_in (current self.old.owned.store) }
         ensures sequence { self.new.owned.store.sequence ≡ self.old.owned.store.sequence }
         ensures limits { self.new.owned.store.limits ≡ self.old.owned.store.limits }
         ensures told { self.new.history ≡ self.old.history }
+        ensures left { LeavesNoOther self.old.owned self.new.owned }
         ensures damages { self.new.damages ≡ self.old.damages }
         ensures faults { self.old.owned.storage.faults ≤ self.new.owned.storage.faults }
     {
-        sweep_queue(&mut self.store);
+        self.last_damage = None;
+        sweep_queue(&mut self.store)
     }
 
     /// Gives how many transactions the current version shows, in constant time.
@@ -221,6 +268,7 @@ impl<V: Volume> StoreParts<V> {
         ensures count { AreToldCount self.now }
         ensures whole { IsToldWhole self.now }
         ensures told { IfSome self.now.history (IsTold self.now.owned) }
+        ensures damage { IsLastDamage self.now.owned self.now.last_damage }
     {
         self.store.keeps_its_law();
     }

@@ -1,15 +1,18 @@
 //! A round: the transactions behind the current version of a store are merged, and shown in place of it.
-ghost use Rattle.std.specs.Prelude.{◌≡◌, ◌<◌, ◌≤◌, ℕ, List, Some, length, IfOk, IfSome};
-ghost use Rattle.qd_store_backend.specs.Backs.{current, IsTold};
-ghost use Rattle.qd_store_backend.specs.Rounds.{fault_of, IsNextFrom, IsOfVolume, IsOnlyOne, IsTurned, StaysTold};
+ghost use Rattle.std.specs.Prelude.{◌≡◌, ◌<◌, ◌≤◌, ℕ, Err, List, Some, length, IfOk, IfSome};
+ghost use Rattle.qd_store_backend.specs.Backs.{current, IsDamageTold, IsTold, LeavesNoOther};
+ghost use Rattle.qd_store_backend.specs.Rounds.{fault_of, IsNextFrom, IsOfVolume, IsOnlyOne, IsSwept, IsTurned, StaysTold};
 ghost use Rattle.qd_base.specs.declared.op.Entry.{Entry};
 ghost use Rattle.qd_catalog.specs.Versions.{current_n};
+ghost use Rattle.qd_durable.specs.declared.fault.LogFault.TheVariants as damage;
 ghost use Rattle.qd_durable.specs.Faults.{CountsVol};
+ghost use Rattle.qd_store.specs.Damage.{IsDraftDamage};
 ghost use Rattle.qd_store.specs.Drafts.{IsMergedOver, IsNextOf};
 ghost use Rattle.qd_store.specs.Stores.{IsStore};
 ghost use Rattle.qd_txnfile.specs.Versions.{Version};
 
 use qd_durable::LogFault;
+use qd_io::IoFault;
 use qd_store::{Merged, PublishFault, Store};
 use qd_volume::Volume;
 use std::alloc::Global;
@@ -26,6 +29,7 @@ pub(crate) fn next_of<V: Volume>(
     ensures upto { IfOk result (λ m. m.upto ≡ upto) }
     ensures told { IfSome store.old.storage.disk (λ disk. (h : List Entry) (next : Version) → IsStore store.old.store h next disk → IsNextFrom result store.old.store h) }
     ensures store { store.new.store ≡ store.old.store }
+    ensures damaged { (file : ℕ) (at : ℕ) → result ≡ Err (damage.Damaged file at) → IsDamageTold store.old (IsDraftDamage store.old.store upto) file at }
     ensures stays { store.new.storage.disk ≡ store.old.storage.disk }
     ensures counted { CountsVol store.old.storage.faults store.new.storage.faults result }
 {
@@ -48,6 +52,7 @@ pub(crate) fn turn_to<V: Volume>(
     ensures sequence { store.new.store.sequence ≡ store.old.store.sequence }
     ensures limits { store.new.store.limits ≡ store.old.store.limits }
     ensures told { (h : List Entry) → IsTold store.old h → IsNextOf store.old.store h merged.now → IsTold store.new h }
+    ensures left { LeavesNoOther store.old store.new }
     ensures counted { CountsVol store.old.storage.faults store.new.storage.faults result }
 {
     store.keeps_its_law();
@@ -74,14 +79,22 @@ fn of_publish(cause: PublishFault) -> LogFault
     }
 }
 
-/// Removes the blocks that no version of a store lists any more, until none is left or the volume fails.
-pub(crate) fn sweep_queue<V: Volume>(store: &mut Store<V>)
+/// Removes the blocks that no version of a store lists any more, until none is left, the volume fails or there is no memory.
+pub(crate) fn sweep_queue<V: Volume>(store: &mut Store<V>) -> Result<(), IoFault>
+    ensures swept { IsSwept result store.old store.new }
     ensures alone { IsOnlyOne store.old.store.versions.versions → IsOnlyOne store.new.store.versions.versions }
     ensures shown { current store.new.store ≡ current store.old.store }
     ensures sequence { store.new.store.sequence ≡ store.old.store.sequence }
     ensures limits { store.new.store.limits ≡ store.old.store.limits }
     ensures told { StaysTold store.old store.new }
+    ensures left { LeavesNoOther store.old store.new }
     ensures faults { store.old.storage.faults ≤ store.new.storage.faults }
 {
-    while let Ok(true) = store.sweep() {}
+    'sweeps: loop {
+        match store.sweep() {
+            Ok(true) => {}
+            Ok(false) => return Ok(()),
+            Err(fault) => return Err(fault),
+        }
+    }
 }

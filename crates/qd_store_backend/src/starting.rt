@@ -1,5 +1,5 @@
 //! The store of a volume: it is opened where there is one, and made where there is none.
-ghost use Rattle.qd_base.specs.declared.limits.TheConstants.{MAX_TXNS};
+ghost use Rattle.qd_store_backend.specs.Backs.{AreUsual};
 ghost use Rattle.qd_store_backend.specs.Rounds.{IsOnlyOne};
 ghost use Rattle.qd_store_backend.specs.Volumes.{Starts};
 ghost use Rattle.qd_durable.specs.Moments.{Told};
@@ -21,7 +21,7 @@ use std::alloc::Global;
 /// [`OpenFault::Vol`] and [`OpenFault::Memory`] each file is as it was too, or there was no store, and a crash leaves none, or one
 /// without a transaction; the call may be made again. [`OpenFault::NotMade`] never comes.
 pub fn open_or_create<V: Volume>(alloc: Global, volume: V) -> Result<Store<V>, Unmade<V>>
-    ensures usual { IfOk result (λ s. s.store.limits.max_txns ≡ MAX_TXNS) }
+    ensures usual { IfOk result (λ s. AreUsual s.store.limits) }
     ensures alone { IfOk result (λ s. IsOnlyOne s.store.versions.versions) }
     ensures settled { IfOk result (λ s. s.store.sequence.pending ≡ None) }
     ensures made { IfErr result (λ unmade. unmade.why ≢ fault.NotMade) }

@@ -1,5 +1,7 @@
-use Rattle.std.proofs.Common.{ℕ}
+use Rattle.std.proofs.Common.{ℕ, Err, Ok, ap, refl}
 use Rattle.qd_store.specs.declared.fault.PublishFault.{PublishFault}
+use Rattle.qd_volume.specs.Calls.{Storage}
+use Rattle.qd_store_backend.proofs.Leaving.{turned_leaves}
 use Rattle.qd_store_backend.proofs.Turns.{of_volume, turned_told}
 use Rattle.qd_store_backend.proofs.rounds.turn_to.Goals as goal
 
@@ -11,3 +13,11 @@ of_publish-requires g c =
 pub returns-in-Ok-clause-told : goal.returns-in-Ok-clause-told
 returns-in-Ok-clause-told g c =
     turned_told ℕ PublishFault c.args.store.now c.publish.new.self c.retire.new.self c.in-Ok.field-0 c.args.merged.now c.in-Ok.ensures.told c.retire.ensures.storage c.retire.ensures.holds
+
+pub returns-in-Ok-clause-left : goal.returns-in-Ok-clause-left
+returns-in-Ok-clause-left g c =
+    turned_leaves ℕ PublishFault (Ok c.in-Ok.field-0) c.args.store.now c.publish.new.self c.retire.new.self c.args.merged.now c.in-Ok.ensures.told (ap (λ (s : Storage). s.disk) c.retire.ensures.storage) c.retire.ensures.sequence
+
+pub returns-in-Err-clause-left : goal.returns-in-Err-clause-left
+returns-in-Err-clause-left g c =
+    turned_leaves ℕ PublishFault (Err c.in-Err.cause) c.args.store.now c.publish.new.self c.publish.new.self c.args.merged.now c.in-Err.ensures.told refl refl

@@ -1,10 +1,11 @@
-use Rattle.std.proofs.Common.{Ok, subst}
+use Rattle.std.proofs.Common.{Err, None, Ok, subst}
 use Rattle.qd_sequencer.specs.declared.fault.CommitFault.{CommitFault}
 use Rattle.qd_sequencer.specs.declared.fault.Committed.{Committed}
 use Rattle.qd_store.specs.Arriving.{SaysLines}
-use Rattle.qd_store_backend.specs.Backs.{CommitsTo, Parts}
+use Rattle.qd_store_backend.specs.Backs.{CommitsTo, LeavesOwn, Parts}
 use Rattle.qd_store_backend.proofs.Commits.{commits_to, next_parts, next_told, still_parts}
 use Rattle.qd_store_backend.proofs.KeptLemmas.{kept_behind, kept_still}
+use Rattle.qd_store_backend.proofs.Leaving.{committed_leaves}
 use Rattle.qd_store_backend.proofs.parts.StoreParts.commit_lines.Goals as goal
 
 pub turn-requires : goal.turn-requires
@@ -36,7 +37,19 @@ returns-clause-commits g c =
     let old : Parts = record { owned = i.store; history = i.telling.history; schemas = i.schemas; damages = i.damages; last_damage = i.last_damage } in
     let owned = c.accept_lines.new.self in
     let then = c.turn.new.self.history in
-    let new : Parts = record { owned = owned; history = then; schemas = i.schemas; damages = i.damages; last_damage = i.last_damage } in
+    let new : Parts = record { owned = owned; history = then; schemas = i.schemas; damages = i.damages; last_damage = None } in
     subst (λ (p : Parts). CommitsTo {T = Committed} {E = CommitFault} (Ok c.in_ok-done.done) p new (SaysLines p.owned.store.sequence.schemas c.args.now c.args.batch.now)) c.self.view_is
     (commits_to Committed CommitFault old owned then (SaysLines i.store.store.sequence.schemas c.args.now c.args.batch.now) c.in_ok-done.done c.args.writer c.one_entry_is_read.ensures c.self.invariant.parts.told
     c.in_ok-done.ensures.place c.accept_lines.ensures.versions c.accept_lines.ensures.limits c.in_ok-done.ensures.told c.turn.ensures)
+
+pub returns-clause-left : goal.returns-clause-left
+returns-clause-left g c =
+    let i = c.self.inside in
+    subst (λ (p : Parts). LeavesOwn p.owned c.accept_lines.new.self (SaysLines p.owned.store.sequence.schemas c.args.now c.args.batch.now)) c.self.view_is
+    (committed_leaves Committed CommitFault (Ok c.in_ok-done.done) i.store c.accept_lines.new.self (SaysLines i.store.store.sequence.schemas c.args.now c.args.batch.now) c.in_ok-done.ensures.told)
+
+pub returns-in_err-done-clause-left : goal.returns-in_err-done-clause-left
+returns-in_err-done-clause-left g c =
+    let i = c.self.inside in
+    subst (λ (p : Parts). LeavesOwn p.owned c.accept_lines.new.self (SaysLines p.owned.store.sequence.schemas c.args.now c.args.batch.now)) c.self.view_is
+    (committed_leaves Committed CommitFault (Err c.in_err-done.field-0.0) i.store c.accept_lines.new.self (SaysLines i.store.store.sequence.schemas c.args.now c.args.batch.now) c.in_err-done.ensures.told)

@@ -5,8 +5,8 @@ use Rattle.qd_durable.specs.declared.fault.LogFault.TheVariants as damage
 use Rattle.qd_scan.specs.Sources.{part_at, schema_at, HasRowsOf, IsBlockOf}
 use Rattle.qd_store_backend.specs.Backs.{source_of, Parts}
 use Rattle.qd_store_backend.specs.Kept.{AreOf}
-use Rattle.qd_store_backend.proofs.KeptLemmas.{keeping_read, none_damaged, no_other_of, one_of}
-use Rattle.qd_store_backend.proofs.Shown.{block_fits, part_there, rows_told}
+use Rattle.qd_store_backend.proofs.KeptLemmas.{damage_stays, keeping_read, none_damaged, no_other_of, one_of}
+use Rattle.qd_store_backend.proofs.Shown.{block_fits, damage_found, part_there, rows_told}
 use Rattle.qd_store_backend.proofs.parts.StorePartsPartSource.part.Goals as goal
 
 pub invariant_of-self : goal.invariant_of-self
@@ -47,7 +47,7 @@ invariant_of-self-in_err-share-in-Ok g c =
     let rows = rows_told p c.args.self.now c.current-row.result c.args.table c.args.i c.self.view_is c.self.invariant.parts c.current-row.ensures.row c.current-row.ensures.live c.requires.table c.requires.there block c.in-Ok.ensures.shown in
     let are = subst (λ (x : Parts). AreOf (source_of x) found) c.self.view_is (no_other_of (source_of p) was found c.find.ensures.keeps c.self.invariant.blocks) in
     let blocks = subst (λ (x : Parts). AreOf (source_of x) shared) (sym c.self.view_is) (one_of now found shared c.args.table c.args.i block c.share.ensures.keeps fits rows are) in
-    keeping_read p c.read_part.new.self i.damages i.last_damage shared (record { parts = c.self.invariant.parts; blocks = blocks }) c.read_part.ensures.store c.read_part.ensures.stays c.self.invariant.parts.whole
+    keeping_read p c.read_part.new.self i.damages i.last_damage shared (record { parts = c.self.invariant.parts; blocks = blocks }) c.read_part.ensures.store c.read_part.ensures.stays c.self.invariant.parts.whole (damage_stays i.store c.read_part.new.self i.last_damage c.read_part.ensures.store c.read_part.ensures.stays c.self.invariant.parts.damage)
 
 pub invariant_of-self-in-Ok : goal.invariant_of-self-in-Ok
 invariant_of-self-in-Ok g c =
@@ -62,19 +62,19 @@ invariant_of-self-in-Ok g c =
     let rows = rows_told p c.args.self.now c.current-row.result c.args.table c.args.i c.self.view_is c.self.invariant.parts c.current-row.ensures.row c.current-row.ensures.live c.requires.table c.requires.there block c.in-Ok.ensures.shown in
     let are = subst (λ (x : Parts). AreOf (source_of x) found) c.self.view_is (no_other_of (source_of p) was found c.find.ensures.keeps c.self.invariant.blocks) in
     let blocks = subst (λ (x : Parts). AreOf (source_of x) shared) (sym c.self.view_is) (one_of now found shared c.args.table c.args.i block c.share.ensures.keeps fits rows are) in
-    keeping_read p c.read_part.new.self i.damages i.last_damage shared (record { parts = c.self.invariant.parts; blocks = blocks }) c.read_part.ensures.store c.read_part.ensures.stays c.self.invariant.parts.whole
+    keeping_read p c.read_part.new.self i.damages i.last_damage shared (record { parts = c.self.invariant.parts; blocks = blocks }) c.read_part.ensures.store c.read_part.ensures.stays c.self.invariant.parts.whole (damage_stays i.store c.read_part.new.self i.last_damage c.read_part.ensures.store c.read_part.ensures.stays c.self.invariant.parts.damage)
 
 pub invariant_of-self-in-Err-Vol : goal.invariant_of-self-in-Err-Vol
 invariant_of-self-in-Err-Vol g c =
     let i = c.self.inside in
     let p : Parts = record { owned = i.store; history = i.telling.history; schemas = i.schemas; damages = i.damages; last_damage = i.last_damage } in
-    keeping_read p c.read_part.new.self i.damages i.last_damage c.find.new.self.cache.entries (record { parts = c.self.invariant.parts; blocks = no_other_of (source_of p) i.kept.cache.entries c.find.new.self.cache.entries c.find.ensures.keeps c.self.invariant.blocks }) c.read_part.ensures.store c.read_part.ensures.stays c.self.invariant.parts.whole
+    keeping_read p c.read_part.new.self i.damages i.last_damage c.find.new.self.cache.entries (record { parts = c.self.invariant.parts; blocks = no_other_of (source_of p) i.kept.cache.entries c.find.new.self.cache.entries c.find.ensures.keeps c.self.invariant.blocks }) c.read_part.ensures.store c.read_part.ensures.stays c.self.invariant.parts.whole (damage_stays i.store c.read_part.new.self i.last_damage c.read_part.ensures.store c.read_part.ensures.stays c.self.invariant.parts.damage)
 
 pub invariant_of-self-in-Err-Memory : goal.invariant_of-self-in-Err-Memory
 invariant_of-self-in-Err-Memory g c =
     let i = c.self.inside in
     let p : Parts = record { owned = i.store; history = i.telling.history; schemas = i.schemas; damages = i.damages; last_damage = i.last_damage } in
-    keeping_read p c.read_part.new.self i.damages i.last_damage c.find.new.self.cache.entries (record { parts = c.self.invariant.parts; blocks = no_other_of (source_of p) i.kept.cache.entries c.find.new.self.cache.entries c.find.ensures.keeps c.self.invariant.blocks }) c.read_part.ensures.store c.read_part.ensures.stays c.self.invariant.parts.whole
+    keeping_read p c.read_part.new.self i.damages i.last_damage c.find.new.self.cache.entries (record { parts = c.self.invariant.parts; blocks = no_other_of (source_of p) i.kept.cache.entries c.find.new.self.cache.entries c.find.ensures.keeps c.self.invariant.blocks }) c.read_part.ensures.store c.read_part.ensures.stays c.self.invariant.parts.whole (damage_stays i.store c.read_part.new.self i.last_damage c.read_part.ensures.store c.read_part.ensures.stays c.self.invariant.parts.damage)
 
 pub invariant_of-self-in-Err-Damaged : goal.invariant_of-self-in-Err-Damaged
 invariant_of-self-in-Err-Damaged g c =
@@ -83,6 +83,7 @@ invariant_of-self-in-Err-Damaged g c =
     let damaged : c.in-Err-Damaged.field-0 ≡ damage.Damaged c.in-Err-Damaged.file c.in-Err-Damaged.at = search in
     keeping_read p c.read_part.new.self c.saturating_add-self-inside.result _ c.find.new.self.cache.entries (record { parts = c.self.invariant.parts; blocks = no_other_of (source_of p) i.kept.cache.entries c.find.new.self.cache.entries c.find.ensures.keeps c.self.invariant.blocks }) c.read_part.ensures.store c.read_part.ensures.stays
     (none_damaged p c.current-row.result c.args.table c.args.i c.in-Err-Damaged.file c.in-Err-Damaged.at c.saturating_add-self-inside.result c.in-Err-Damaged.field-0 c.self.invariant.parts damaged c.in-Err-Damaged.ensures.shown)
+    (rw damaged (damage_found p c.args.self.now c.current-row.result c.args.table c.args.i c.self.view_is c.self.invariant.parts c.current-row.ensures.row c.current-row.ensures.live c.requires.table c.requires.there c.read_part.new.self c.in-Err-Damaged.file c.in-Err-Damaged.at c.in-Err-Damaged.field-0 damaged c.read_part.ensures.store c.read_part.ensures.stays c.in-Err-Damaged.ensures.told))
 
 pub returns-in_ok-share-in-Ok-clause-block : goal.returns-in_ok-share-in-Ok-clause-block
 returns-in_ok-share-in-Ok-clause-block g c =

@@ -12,7 +12,8 @@ use Rattle.qd_base.specs.Replay.{first}
 use Rattle.qd_meaning.specs.Write.{write}
 use Rattle.qd_sql_ast.specs.declared.tree.Stmt.{Stmt}
 use Rattle.qd_session.specs.Allowed.{Allowed, SaysBatch}
-use Rattle.qd_session.specs.Asking.{asks_for, IsWrite}
+use Rattle.qd_session.specs.Asking.{asks_for}
+use Rattle.qd_sql_ast.specs.Kinds.{IsWrite}
 use Rattle.qd_session.specs.Looks.{Look}
 
 -- Only an apply changes what is applied, to what its reply says; and a query is over just that.

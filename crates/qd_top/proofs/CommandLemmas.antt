@@ -14,7 +14,7 @@ use Rattle.qd_frames.specs.Frames.{Steps}
 use Rattle.qd_gen.specs.Framed.{IsReadAsAsked}
 use Rattle.qd_gen.specs.Generated.{requests, input as generated}
 use Rattle.qd_host.specs.Hosts.{Supply}
-use Rattle.qd_io.specs.Ends.{HasRisen, Stream}
+use Rattle.qd_io.specs.Ends.{HasRisen}
 use Rattle.qd_print.specs.Printed.{reply_bytes}
 use Rattle.qd_gen.specs.Quieted.{without_done}
 use Rattle.qd_session.specs.Session.{IsClean, PutTo}
@@ -23,7 +23,8 @@ use Rattle.qd_args.specs.Words.{Asks}
 use Rattle.qd_args.specs.declared.command.Command.{Command}
 use Rattle.qd_args.specs.declared.command.Command.TheVariants as command
 use Rattle.qd_args.specs.declared.command.TheConstants.{MAX_GEN_LINES}
-use Rattle.qd_top.specs.Run.{Answered, AsksToRun, CommandKind, CountsReads, CountsWrites, CutShort, Damaged, Did, EndsWith, FinishedRun, FoundDamage, IsServedWell, IsWellFramed, NoneFailed, NoVolume, OutOfMemory, OverStore, Ran, RefusedRun, Served, ServedBy, StoppedRun, Traffic, Unopened, prints, reached, traffic, usage}
+use Rattle.qd_top.specs.Run.{Answered, AsksFor, AsksToRun, CountsReads, CountsWrites, Did, EndsWith, FoundDamage, IsDamagedTold, IsUnserved, IsWellFramed, NoneFailed, Outside, Ran, Served, Traffic, Unopened, reached, traffic, usage}
+use Rattle.qd_top.specs.Stores.{IsOfNoStore, Names}
 use Rattle.qd_top.specs.Status.{number_of}
 use Rattle.qd_top.specs.declared.status.Status.{Status}
 use Rattle.qd_top.specs.declared.status.Status.TheVariants as status
@@ -94,31 +95,6 @@ writes-stay-from status.NoMemory before now e u c = c
 -- ---- a command, by the number of its status
 
 module _ (print : Reply → List ℕ) (found : Option (List Entry)) (host host' : Supply) (t : Traffic) where
-  -- what a command with the number of a status did
-  is_run_of : (s u : Status) → number_of s ≡ number_of u → Ran print found host host' t s → Ran print found host host' t u
-  is_run_of s u e r = subst (λ (v : Status). Ran print found host host' t v) (one_status s u e) r
-
-  finished-from : (s : Status) → number_of s ≡ 0 → Ran print found host host' t s → OverStore FinishedRun print found host host' t
-  finished-from s e r = is_run_of s status.Finished e r
-
-  refused-from : (s : Status) → number_of s ≡ 2 → Ran print found host host' t s → OverStore RefusedRun print found host host' t
-  refused-from s e r = is_run_of s status.BadFrame e r
-
-  stopped-from : (s : Status) → number_of s ≡ 3 → Ran print found host host' t s → OverStore StoppedRun print found host host' t
-  stopped-from s e r = is_run_of s status.ReadFault e r
-
-  cut-from : (s : Status) → number_of s ≡ 4 → Ran print found host host' t s → CutShort print found host host' t
-  cut-from s e r = is_run_of s status.WriteFault e r
-
-  no_volume-from : (s : Status) → number_of s ≡ 5 → Ran print found host host' t s → NoVolume print found host host' t
-  no_volume-from s e r = is_run_of s status.NoVolume e r
-
-  damaged-from : (s : Status) → number_of s ≡ 6 → Ran print found host host' t s → Damaged print found host host' t
-  damaged-from s e r = is_run_of s status.Damaged e r
-
-  no_memory-from : (s : Status) → number_of s ≡ 7 → Ran print found host host' t s → OutOfMemory print found host host' t
-  no_memory-from s e r = is_run_of s status.NoMemory e r
-
   -- a volume that isn't made, or is whole, isn't damaged
   never_damaged : (h : List Entry) (missing : List ℕ) → MayFind (Some h) host.shelf → FoundDamage host host' t missing → ⊥
   never_damaged h missing may d = by host.shelf may d.volume
@@ -139,6 +115,18 @@ module _ (print : Reply → List ℕ) (found : Option (List Entry)) (host host' 
   complete-from status.NoVolume reads reads' writes writes' h is may r read write well no_read no_write no_volume = absurd (no_volume r.1)
   complete-from status.Damaged reads reads' writes writes' h is may r read write well no_read no_write no_volume = absurd (never_damaged h [] (subst (λ (o : Option (List Entry)). MayFind o host.shelf) is may) r)
   complete-from status.NoMemory reads reads' writes writes' h is may r read write well no_read no_write no_volume = inr refl
+
+  -- over a damaged volume it says where, or finds no memory
+  damaged-from : (s : Status) (reads reads' writes writes' : ℕ) → Ran print found host host' t s → CountsReads reads reads' s → CountsWrites writes writes' s → IsDamagedTold host.shelf
+      → (HasRisen reads reads' → ⊥) → (HasRisen writes writes' → ⊥) → (HasRisen host.volume_faults host'.volume_faults → ⊥) → (number_of s ≡ 6) ⊎ (number_of s ≡ 7)
+  damaged-from status.Finished reads reads' writes writes' r read write damaged no_read no_write no_volume = absurd (r.begun.undamaged damaged)
+  damaged-from status.Usage reads reads' writes writes' r read write damaged no_read no_write no_volume = absurd r
+  damaged-from status.BadFrame reads reads' writes writes' r read write damaged no_read no_write no_volume = absurd (r.begun.undamaged damaged)
+  damaged-from status.ReadFault reads reads' writes writes' r read write damaged no_read no_write no_volume = absurd (no_read read.1)
+  damaged-from status.WriteFault reads reads' writes writes' r read write damaged no_read no_write no_volume = absurd (no_write write.1)
+  damaged-from status.NoVolume reads reads' writes writes' r read write damaged no_read no_write no_volume = absurd (no_volume r.1)
+  damaged-from status.Damaged reads reads' writes writes' r read write damaged no_read no_write no_volume = inl refl
+  damaged-from status.NoMemory reads reads' writes writes' r read write damaged no_read no_write no_volume = inr refl
 
   -- a command doesn't end with the status of other words
   ends-from : (dir : Option (List ℕ)) (s : Status) → Ran print found host host' t s → EndsWith (command.Run dir) (number_of s)
@@ -163,64 +151,75 @@ module _ (print : Reply → List ℕ) (found : Option (List Entry)) (host host' 
   ends_well-from status.Damaged number lines r read well = inr (inr (inr (inl refl)))
   ends_well-from status.NoMemory number lines r read well = inr (inr (inr (inr refl)))
 
--- what a command served may be said in another way
-served-map : (asked : Command) (t : Traffic) (P Q : Traffic → Type 0) → ((served : Traffic) → P served → Q served) → ServedBy asked t P → ServedBy asked t Q
-served-map (command.Run dir) t P Q f s = f t s
-served-map (command.Gen number lines) t P Q f s = (s.0, f (record t { input = Some (generated number lines); left = s.0 }) s.1)
+-- where the generated input was served, no read of the given one was counted
+pub reads-of-gen : (s : Status) (number lines n : ℕ) → EndsWith (command.Gen number lines) (number_of s) → CountsReads n n s
+reads-of-gen status.Finished number lines n e = refl
+reads-of-gen status.Usage number lines n e = refl
+reads-of-gen status.BadFrame number lines n e = refl
+reads-of-gen status.ReadFault number lines n (inl e) = absurd (omega (arith, e))
+reads-of-gen status.ReadFault number lines n (inr (inl e)) = absurd (omega (arith, e))
+reads-of-gen status.ReadFault number lines n (inr (inr (inl e))) = absurd (omega (arith, e))
+reads-of-gen status.ReadFault number lines n (inr (inr (inr (inl e)))) = absurd (omega (arith, e))
+reads-of-gen status.ReadFault number lines n (inr (inr (inr (inr e)))) = absurd (omega (arith, e))
+reads-of-gen status.WriteFault number lines n e = refl
+reads-of-gen status.NoVolume number lines n e = refl
+reads-of-gen status.Damaged number lines n e = refl
+reads-of-gen status.NoMemory number lines n e = refl
 
-module _ (asked : Command) (found : Option (List Entry)) (input input' output output' : Stream) (host host' : Supply) (s : Status) where
-  abbrev both : Traffic
-  both = traffic input input' output output'
+-- the folder that a command names, by its status
+folder-of : (old new : Option (List (List ℕ))) (dir : Option (List ℕ)) (s : Status) → Names old new dir (s ≡ status.NoMemory) → AsksFor old new dir ⊎ ((number_of s ≡ 7) × (new ≡ old))
+folder-of old new dir s (inl asks) = inl asks
+folder-of old new dir s (inr (is, same)) = inr (ap number_of is, same)
 
-  -- it ended with this status
-  abbrev pub RanBy : Type 0
-  RanBy = Served asked found host host' both (λ print o h h' t. Ran print o h h' t s)
-
-  -- and so it did something of a kind
-  of_kind : (R : CommandKind) → ((print : Reply → List ℕ) (t : Traffic) → Ran print found host host' t s → R print found host host' t) → RanBy → Served asked found host host' both R
-  of_kind R f r = served-map asked both (λ t. Ran (prints asked) found host host' t s) (λ t. R (prints asked) found host host' t) (λ t. f (prints asked) t) r
-
-  pub did : RanBy → EndsWith asked (number_of s)
-      → ((h : List Entry) → found ≡ Some h → IsServedWell asked input.input → NoneFailed input input' output output' host host' → (number_of s ≡ 0) ⊎ (number_of s ≡ 7))
-      → Did asked found input input' output output' host host' (number_of s)
-  did r ends complete = record {
-    ends = ends;
-    finished = λ e. of_kind (OverStore FinishedRun) (λ print t ran. finished-from print found host host' t s e ran) r;
-    bad_frame = λ e. of_kind (OverStore RefusedRun) (λ print t ran. refused-from print found host host' t s e ran) r;
-    read_fault = λ e. of_kind (OverStore StoppedRun) (λ print t ran. stopped-from print found host host' t s e ran) r;
-    write_fault = λ e. of_kind CutShort (λ print t ran. cut-from print found host host' t s e ran) r;
-    no_volume = λ e. of_kind NoVolume (λ print t ran. no_volume-from print found host host' t s e ran) r;
-    damaged = λ e. of_kind Damaged (λ print t ran. damaged-from print found host host' t s e ran) r;
-    no_memory = λ e. of_kind OutOfMemory (λ print t ran. no_memory-from print found host host' t s e ran) r;
-    complete = complete;
-  }
+-- no bad frame and no failed read ends `gen`
+other_end : (n number lines : ℕ) → EndsWith (command.Gen number lines) n → (2 ≤ n) × (n ≤ 3) → ⊥
+other_end n number lines (inl e) within = omega (arith, e, within.0, within.1)
+other_end n number lines (inr (inl e)) within = omega (arith, e, within.0, within.1)
+other_end n number lines (inr (inr (inl e))) within = omega (arith, e, within.0, within.1)
+other_end n number lines (inr (inr (inr (inl e)))) within = omega (arith, e, within.0, within.1)
+other_end n number lines (inr (inr (inr (inr e)))) within = omega (arith, e, within.0, within.1)
 
 -- what `run` did
-pub did-run : (dir : Option (List ℕ)) (found : Option (List Entry)) (input input' output output' : Stream) (host host' : Supply) (s : Status) → MayFind found host.shelf
-    → Ran reply_bytes found host host' (traffic input input' output output') s → CountsReads input.reads_failed input'.reads_failed s → CountsWrites output.writes_failed output'.writes_failed s
-    → Did (command.Run dir) found input input' output output' host host' (number_of s)
-did-run dir found input input' output output' host host' s may ran reads writes =
-    did (command.Run dir) found input input' output output' host host' s ran (ends-from reply_bytes found host host' (traffic input input' output output') dir s ran)
-    (λ h is well none. complete-from reply_bytes found host host' (traffic input input' output output') s input.reads_failed input'.reads_failed output.writes_failed output'.writes_failed h is may ran reads writes well none.reads none.writes none.volume)
+pub did-run : (dir : Option (List ℕ)) (found : Option (List Entry)) (old new : Outside) (s : Status) → MayFind found old.host.shelf
+    → Ran reply_bytes found old.host new.host (traffic old.input new.input old.output new.output) s → CountsReads old.input.reads_failed new.input.reads_failed s → CountsWrites old.output.writes_failed new.output.writes_failed s
+    → Names old.host.folders new.host.folders dir (s ≡ status.NoMemory) → Did (command.Run dir) found old new (number_of s)
+did-run dir found old new s may ran reads writes named = record {
+  ends = ends-from reply_bytes found old.host new.host (traffic old.input new.input old.output new.output) dir s ran;
+  ran = (s, refl, ran);
+  folder = folder-of old.host.folders new.host.folders dir s named;
+  complete = λ h is well none. complete-from reply_bytes found old.host new.host (traffic old.input new.input old.output new.output) s old.input.reads_failed new.input.reads_failed old.output.writes_failed new.output.writes_failed h is may ran reads writes well none.reads none.writes none.volume;
+  damaged = λ damaged none. damaged-from reply_bytes found old.host new.host (traffic old.input new.input old.output new.output) s old.input.reads_failed new.input.reads_failed old.output.writes_failed new.output.writes_failed ran reads writes damaged none.reads none.writes none.volume;
+}
 
 -- what `gen` did
-pub did-gen : (number lines : ℕ) (found : Option (List Entry)) (input output output' : Stream) (host host' : Supply) (s : Status) (left : Option (List ℕ)) → MayFind found host.shelf
-    → Ran (without_done reply_bytes) found host host' (record { input = Some (generated number lines); left = left; output = output.output; written = output'.output }) s → EndsWith (command.Gen number lines) (number_of s) → CountsWrites output.writes_failed output'.writes_failed s
-    → Did (command.Gen number lines) found input input output output' host host' (number_of s)
-did-gen number lines found input output output' host host' s left may ran ends writes =
-    did (command.Gen number lines) found input input output output' host host' s (left, ran) ends (λ h is well none. by s h is ran ends writes none)
+pub did-gen : (number lines : ℕ) (found : Option (List Entry)) (old new : Outside) (s : Status) (left : Option (List ℕ)) → MayFind found old.host.shelf → new.input ≡ old.input
+    → Ran (without_done reply_bytes) found old.host new.host (record { input = Some (generated number lines); left = left; output = old.output.output; written = new.output.output }) s → EndsWith (command.Gen number lines) (number_of s) → CountsWrites old.output.writes_failed new.output.writes_failed s
+    → Names old.host.folders new.host.folders None (s ≡ status.NoMemory) → Did (command.Gen number lines) found old new (number_of s)
+did-gen number lines found old new s left may same ran ends writes named = record {
+  ends = ends;
+  ran = (s, refl, (left, ran));
+  folder = folder-of old.host.folders new.host.folders None s named;
+  complete = λ h is well none. by s h is ran ends writes none;
+  damaged = λ damaged none. damaged-from (without_done reply_bytes) found old.host new.host t s 0 0 old.output.writes_failed new.output.writes_failed ran (reads-of-gen s number lines 0 ends) writes damaged none_risen none.writes none.volume;
+}
   where
     t : Traffic
-    t = record { input = Some (generated number lines); left = left; output = output.output; written = output'.output }
+    t = record { input = Some (generated number lines); left = left; output = old.output.output; written = new.output.output }
 
-    by : (u : Status) (h : List Entry) → found ≡ Some h → Ran (without_done reply_bytes) found host host' t u → EndsWith (command.Gen number lines) (number_of u) → CountsWrites output.writes_failed output'.writes_failed u
-        → NoneFailed input input output output' host host' → (number_of u ≡ 0) ⊎ (number_of u ≡ 7)
-    by u h is r (inl e) count none = inl e
-    by u h is r (inr (inl e)) count none = absurd (none.writes (write-cause-from u output.writes_failed output'.writes_failed e count).1)
-    by u h is r (inr (inr (inl e))) count none = absurd (none.volume (no_volume-from (without_done reply_bytes) found host host' t u e r).1)
-    by u h is r (inr (inr (inr (inl e)))) count none =
-        absurd (never_damaged (without_done reply_bytes) found host host' t h [] (subst (λ (o : Option (List Entry)). MayFind o host.shelf) is may) (damaged-from (without_done reply_bytes) found host host' t u e r))
-    by u h is r (inr (inr (inr (inr e)))) count none = inr e
+    none_risen : HasRisen 0 0 → ⊥
+    none_risen (inl less) = omega (arith, less)
+    none_risen (inr last) = omega (arith, last)
+
+    by : (u : Status) (h : List Entry) → found ≡ Some h → Ran (without_done reply_bytes) found old.host new.host t u → EndsWith (command.Gen number lines) (number_of u) → CountsWrites old.output.writes_failed new.output.writes_failed u
+        → NoneFailed old new → (number_of u ≡ 0) ⊎ (number_of u ≡ 7)
+    by status.Finished h is r e count none = inl refl
+    by status.Usage h is r e count none = absurd r
+    by status.BadFrame h is r e count none = absurd (other_end 2 number lines e (omega arith, omega arith))
+    by status.ReadFault h is r e count none = absurd (other_end 3 number lines e (omega arith, omega arith))
+    by status.WriteFault h is r e count none = absurd (none.writes count.1)
+    by status.NoVolume h is r e count none = absurd (none.volume r.1)
+    by status.Damaged h is r e count none = absurd (never_damaged (without_done reply_bytes) found old.host new.host t h [] (subst (λ (o : Option (List Entry)). MayFind o old.host.shelf) is may) r)
+    by status.NoMemory h is r e count none = inr refl
 
 -- ---- nothing was done
 
@@ -235,26 +234,22 @@ volume-as_it_was shelf = told_still IsUnopened shelf (λ disk. inl (λ file. ref
 pub nothing-done : (host : Supply) (input output : Option (List ℕ)) → Unopened host host (record { input = input; left = input; output = output; written = output })
 nothing-done host input output = record { unserved = record { unread = refl; put = put-nothing output; clock_faults = refl }; volume = volume-as_it_was host.shelf }
 
-nothing-served : (asked : Command) (found : Option (List Entry)) (host : Supply) (input output : Option (List ℕ)) → Served asked found host host (record { input = input; left = input; output = output; written = output }) OutOfMemory
-nothing-served (command.Run dir) found host input output = inr (nothing-done host input output)
-nothing-served (command.Gen number lines) found host input output = (Some (generated number lines), inr (nothing-done host (Some (generated number lines)) output))
+nothing-served : (asked : Command) (found : Option (List Entry)) (o : Outside) → Served asked found o o status.NoMemory
+nothing-served (command.Run dir) found o = inr (nothing-done o.host o.input.input o.output.output)
+nothing-served (command.Gen number lines) found o = (Some (generated number lines), inr (nothing-done o.host (Some (generated number lines)) o.output.output))
 
 ends-without_memory : (asked : Command) → EndsWith asked 7
 ends-without_memory (command.Run dir) = inr (inr (inr (inr (inr (inr refl)))))
 ends-without_memory (command.Gen number lines) = inr (inr (inr (inr refl)))
 
 -- no memory was found to read the words, and nothing was done
-pub did-nothing : (asked : Command) (found : Option (List Entry)) (input output : Stream) (host : Supply) → Did asked found input input output output host host 7
-did-nothing asked found input output host = record {
+pub did-nothing : (asked : Command) (found : Option (List Entry)) (o : Outside) → Did asked found o o 7
+did-nothing asked found o = record {
   ends = ends-without_memory asked;
-  finished = λ e. absurd (omega (arith, e));
-  bad_frame = λ e. absurd (omega (arith, e));
-  read_fault = λ e. absurd (omega (arith, e));
-  write_fault = λ e. absurd (omega (arith, e));
-  no_volume = λ e. absurd (omega (arith, e));
-  damaged = λ e. absurd (omega (arith, e));
-  no_memory = λ e. nothing-served asked found host input.input output.output;
+  ran = (status.NoMemory, refl, nothing-served asked found o);
+  folder = inr (refl, refl);
   complete = λ h is well none. inr refl;
+  damaged = λ damaged none. inr refl;
 }
 
 -- ---- the generated input
@@ -283,15 +278,32 @@ asks_none found words exact is asked a = let same : None ≡ Some asked = sym is
 
 -- ---- all that is said of the words
 
-number_among : (s : Status) → (number_of s ≡ 0) ⊎ (number_of s ≡ 1) ⊎ (number_of s ≡ 2) ⊎ (number_of s ≡ 3) ⊎ (number_of s ≡ 4) ⊎ (number_of s ≡ 5) ⊎ (number_of s ≡ 6) ⊎ (number_of s ≡ 7)
-number_among status.Finished = inl refl
-number_among status.Usage = inr (inl refl)
-number_among status.BadFrame = inr (inr (inl refl))
-number_among status.ReadFault = inr (inr (inr (inl refl)))
-number_among status.WriteFault = inr (inr (inr (inr (inl refl))))
-number_among status.NoVolume = inr (inr (inr (inr (inr (inl refl)))))
-number_among status.Damaged = inr (inr (inr (inr (inr (inr (inl refl))))))
-number_among status.NoMemory = inr (inr (inr (inr (inr (inr (inr refl))))))
+number_among : (s : Status) → number_of s ≤ 7
+number_among status.Finished = omega arith
+number_among status.Usage = omega arith
+number_among status.BadFrame = omega arith
+number_among status.ReadFault = omega arith
+number_among status.WriteFault = omega arith
+number_among status.NoVolume = omega arith
+number_among status.Damaged = omega arith
+number_among status.NoMemory = omega arith
+
+-- a status with the number of one without a store is one
+pub unserved-from : (s : Status) → IsUnserved (number_of s) → IsOfNoStore s
+unserved-from status.Finished (inl e) = absurd (omega (arith, e))
+unserved-from status.Finished (inr e) = absurd (omega (arith, e))
+unserved-from status.Usage (inl e) = absurd (omega (arith, e))
+unserved-from status.Usage (inr e) = absurd (omega (arith, e))
+unserved-from status.BadFrame (inl e) = absurd (omega (arith, e))
+unserved-from status.BadFrame (inr e) = absurd (omega (arith, e))
+unserved-from status.ReadFault (inl e) = absurd (omega (arith, e))
+unserved-from status.ReadFault (inr e) = absurd (omega (arith, e))
+unserved-from status.WriteFault (inl e) = absurd (omega (arith, e))
+unserved-from status.WriteFault (inr e) = absurd (omega (arith, e))
+unserved-from status.NoVolume h = tt
+unserved-from status.Damaged h = tt
+unserved-from status.NoMemory (inl e) = absurd (omega (arith, e))
+unserved-from status.NoMemory (inr e) = absurd (omega (arith, e))
 
 -- no command ends with the number of other words
 not_usage : (asked : Command) (n : ℕ) → EndsWith asked n → n ≡ 1 → ⊥
@@ -309,12 +321,11 @@ not_usage (command.Gen number lines) n (inr (inr (inr (inl e)))) u = omega (arit
 not_usage (command.Gen number lines) n (inr (inr (inr (inr e)))) u = omega (arith, e, u)
 
 -- what is said of words that ask for one command, which was done
-pub answered-command : (asked : Command) (words : List (List ℕ)) (found : Option (List Entry)) (input input' output output' : Stream) (host host' : Supply) (s : Status) → Asks asked words
-    → Did asked found input input' output output' host host' (number_of s)
-    → (Did asked found input input' output output' host host' (number_of s) → (other : Command) → Asks other words → Did other found input input' output output' host host' (number_of s))
-    → CountsReads input.reads_failed input'.reads_failed s → CountsWrites output.writes_failed output'.writes_failed s → ((AsksToRun words → ⊥) → input' ≡ input)
-    → Answered words found input input' output output' host host' (number_of s)
-answered-command asked words found input input' output output' host host' s asks done alone reads writes unread = record {
+pub answered-command : (asked : Command) (words : List (List ℕ)) (found : Option (List Entry)) (old new : Outside) (s : Status) → Asks asked words
+    → Did asked found old new (number_of s) → (Did asked found old new (number_of s) → (other : Command) → Asks other words → Did other found old new (number_of s))
+    → CountsReads old.input.reads_failed new.input.reads_failed s → CountsWrites old.output.writes_failed new.output.writes_failed s → ((AsksToRun words → ⊥) ⊎ IsUnserved (number_of s) → new.input ≡ old.input)
+    → Answered words found old new (number_of s)
+answered-command asked words found old new s asks done alone reads writes unread = record {
   statuses = number_among s;
   words = λ e known. not_usage asked (number_of s) done.ends e;
   other_words = λ other. absurd (other (asked, asks));
@@ -323,38 +334,23 @@ answered-command asked words found input input' output output' host host' s asks
   unread = unread;
   unused = λ other. absurd (other (asked, asks));
   did = alone done;
-  read_cause = λ e. (read-cause-from s input.reads_failed input'.reads_failed e reads).1;
-  reads_stay = λ e. reads-stay-from s input.reads_failed input'.reads_failed e reads;
-  write_cause = λ e. (write-cause-from s output.writes_failed output'.writes_failed e writes).1;
-  writes_stay = λ e u. writes-stay-from s output.writes_failed output'.writes_failed e u writes;
+  read_cause = λ e. (read-cause-from s old.input.reads_failed new.input.reads_failed e reads).1;
+  reads_stay = λ e. reads-stay-from s old.input.reads_failed new.input.reads_failed e reads;
+  write_cause = λ e. (write-cause-from s old.output.writes_failed new.output.writes_failed e writes).1;
+  writes_stay = λ e u. writes-stay-from s old.output.writes_failed new.output.writes_failed e u writes;
 }
 
--- where the generated input was served, no read of the given one was counted
-pub reads-of-gen : (s : Status) (number lines n : ℕ) → EndsWith (command.Gen number lines) (number_of s) → CountsReads n n s
-reads-of-gen status.Finished number lines n e = refl
-reads-of-gen status.Usage number lines n e = refl
-reads-of-gen status.BadFrame number lines n e = refl
-reads-of-gen status.ReadFault number lines n (inl e) = absurd (omega (arith, e))
-reads-of-gen status.ReadFault number lines n (inr (inl e)) = absurd (omega (arith, e))
-reads-of-gen status.ReadFault number lines n (inr (inr (inl e))) = absurd (omega (arith, e))
-reads-of-gen status.ReadFault number lines n (inr (inr (inr (inl e)))) = absurd (omega (arith, e))
-reads-of-gen status.ReadFault number lines n (inr (inr (inr (inr e)))) = absurd (omega (arith, e))
-reads-of-gen status.WriteFault number lines n e = refl
-reads-of-gen status.NoVolume number lines n e = refl
-reads-of-gen status.Damaged number lines n e = refl
-reads-of-gen status.NoMemory number lines n e = refl
-
 -- what is said where no memory was found to read the words
-pub answered-nothing : (words : List (List ℕ)) (found : Option (List Entry)) (input output : Stream) (host : Supply) → Answered words found input input output output host host 7
-answered-nothing words found input output host = record {
-  statuses = inr (inr (inr (inr (inr (inr (inr refl))))));
+pub answered-nothing : (words : List (List ℕ)) (found : Option (List Entry)) (o : Outside) → Answered words found o o 7
+answered-nothing words found o = record {
+  statuses = omega arith;
   words = λ e. absurd (omega (arith, e));
   other_words = λ other. inr refl;
   usage = λ e. absurd (omega (arith, e));
-  other_output = λ other. (usage, ([], put-nothing output.output, refl));
+  other_output = λ other. (usage, ([], put-nothing o.output.output, refl));
   unread = λ other. refl;
   unused = λ other. refl;
-  did = λ asked asks. did-nothing asked found input output host;
+  did = λ asked asks. did-nothing asked found o;
   read_cause = λ e. absurd (omega (arith, e));
   reads_stay = λ e. refl;
   write_cause = λ e. absurd (omega (arith, e));
@@ -362,5 +358,16 @@ answered-nothing words found input output host = record {
 }
 
 -- a status and its number
-pub with_number : {words : List (List ℕ)} {found : Option (List Entry)} {input input' output output' : Stream} {host host' : Supply} {n m : ℕ} → m ≡ n → Answered words found input input' output output' host host' n → Answered words found input input' output output' host host' m
-with_number {words} {found} {input} {input'} {output} {output'} {host} {host'} e a = subst (λ (k : ℕ). Answered words found input input' output output' host host' k) (sym e) a
+pub with_number : {words : List (List ℕ)} {found : Option (List Entry)} {old new : Outside} {n m : ℕ} → m ≡ n → Answered words found old new n → Answered words found old new m
+with_number {words} {found} {old} {new} e a = subst (λ (k : ℕ). Answered words found old new k) (sym e) a
+
+-- ---- of a command
+
+-- nothing was read where other words were given, or no store was opened
+pub either-unread : {A B X : Type 0} → A → (B → X) → ((A → ⊥) ⊎ B) → X
+either-unread a f (inl other) = absurd (other a)
+either-unread a f (inr b) = f b
+
+-- the same folder, by its name
+pub named-as : {dir dir' : Option (List ℕ)} {P : Type 0} (old new : Option (List (List ℕ))) → dir ≡ dir' → Names old new dir P → Names old new dir' P
+named-as {dir} {dir'} {P} old new is named = subst (λ (d : Option (List ℕ)). Names old new d P) is named

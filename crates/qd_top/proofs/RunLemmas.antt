@@ -1,5 +1,5 @@
 -- From what a session over frames says of itself to what a run says.
-use Rattle.std.proofs.Common.{◌≡◌, ℕ, ◌+◌, ◌<◌, ◌≤◌, ◌⊎◌, inl, inr, Bool, true, false, ◌==◌, ◌||◌, List, [], ◌∷◌, ◌++◌, length, map, take, drop, Option, Some, None, Ok, Err, refl, sym, ◌∙◌, ap, subst, arith, suc, ◌-◌}
+use Rattle.std.proofs.Common.{◌≡◌, ℕ, ◌+◌, ◌<◌, ◌≤◌, ◌⊎◌, inl, inr, List, [], ◌∷◌, ◌++◌, length, map, take, drop, Option, Some, None, Ok, Err, refl, sym, ◌∙◌, ap, subst, arith, suc, ◌-◌}
 use Rattle.std.specs.List.{range_with_len}
 use Rattle.std.proofs.lemmas.List.{append-nil, append_assoc, take-append-drop, take_all}
 use Rattle.std.proofs.Math.Seq.{take-append-add}
@@ -7,8 +7,6 @@ use Rattle.qd_store_backend.specs.Backs.{Back, back_shown}
 use Rattle.qd_io.specs.Clocks.{Timeline}
 use Rattle.qd_io.specs.Ends.{Stream, WritesAll}
 use Rattle.qd_io.specs.declared.fault.IoFault.{IoFault}
-use Rattle.qd_base.specs.Codes.{number_of as code_number}
-use Rattle.qd_base.specs.declared.code.Code.TheVariants as code
 use Rattle.qd_base.specs.declared.limits.TheConstants.{LAST_OFFSET}
 use Rattle.qd_base.specs.declared.op.Entry.{Entry}
 use Rattle.qd_base.specs.declared.request.Request.{Request}
@@ -22,12 +20,12 @@ use Rattle.qd_frames.specs.Frames.{Frames, Steps, frame, frames_protocol}
 use Rattle.qd_print.specs.Printed.{reply_bytes}
 use Rattle.qd_gen.specs.Quieted.{quiet_ending, quiet_protocol, quiet_turn, without_done}
 use Rattle.qd_session.specs.Allowed.{Allowed}
-use Rattle.qd_session.specs.Alone.{AllowedAlone, pends_behind}
+use Rattle.qd_session.specs.Alone.{AllowedAlone, CountsAlone, MayLeave, MayPend, SaysOwn}
 use Rattle.qd_session.specs.Looks.{Extends, Look}
 use Rattle.qd_session.specs.Legal.{Legal, LegalRun, done_numbers}
-use Rattle.qd_session.specs.Session.{Dialogue, Faults, IsBad, IsClean, IsCutShort, IsWaiting, Moment, Moves, PutTo, Serves, TakenFrom, moment, refusal, requests_in, transcript, with_turns}
+use Rattle.qd_session.specs.Session.{Dialogue, Faults, IsBad, IsClean, IsCutShort, IsWaiting, IsWrittenUpTo, Moment, Moves, PutTo, Serves, TakenFrom, last_bytes, moment, refusal, requests_in, transcript, with_turns}
 use Rattle.qd_top.specs.Frames.{EndsAs, SaysFrames, SpellsFrames, asked_by}
-use Rattle.qd_top.specs.Run.{AnswersLast, AppliesAll, CountsReads, CountsWrites, CutRun, IsWellFramed, RanOver, RefusedRun, Replied, Run, Store, Traffic, WroteUsage, look_of, pends_after, printed, reached, traffic, usage}
+use Rattle.qd_top.specs.Run.{AnswersLast, AppliesAll, CountsReads, CountsWrites, CutRun, IsLeftBy, IsWellFramed, LeavesOwn, RanOver, RefusedRun, Replied, Run, Store, Traffic, WroteUsage, last_printed, look_of, printed, reached, traffic, usage}
 use Rattle.qd_top.specs.Status.{status_of}
 use Rattle.qd_top.specs.Stores.{store_of}
 
@@ -49,6 +47,23 @@ transcript-asked print [] [] e = refl
 transcript-asked print [] (t ∷ replies) e = absurd (omega (arith, e))
 transcript-asked print (r ∷ rs) [] e = absurd (omega (arith, e))
 transcript-asked print (r ∷ rs) (t ∷ replies) e = ap (λ (x : List ℕ). print t ++ x) (transcript-asked print rs replies (omega (arith, e)))
+
+-- the bytes of the last one are those of the last reply
+last-asked : (print : Reply → List ℕ) (these : List ℕ) (r : Request) (rs : List Request) (t : Reply) (replies : List Reply) → length (t ∷ replies) ≡ length (r ∷ rs) → last_bytes these (asked_by print (r ∷ rs)) (t ∷ replies) ≡ last_printed print (t ∷ replies)
+last-asked print these r [] t [] e = refl
+last-asked print these r [] t (u ∷ replies) e = absurd (omega (arith, e))
+last-asked print these r (q ∷ rs) t [] e = absurd (omega (arith, e))
+last-asked print these r (q ∷ rs) t (u ∷ replies) e = last-asked print (print t) q rs u replies (omega (arith, e))
+
+last-is : (print : Reply → List ℕ) (rs : List Request) (replies : List Reply) → length replies ≡ length rs → last_bytes [] (asked_by print rs) replies ≡ last_printed print replies
+last-is print [] [] e = refl
+last-is print [] (t ∷ replies) e = absurd (omega (arith, e))
+last-is print (r ∷ rs) [] e = absurd (omega (arith, e))
+last-is print (r ∷ rs) (t ∷ replies) e = last-asked print [] r rs t replies e
+
+-- what was written of some bytes was written of the same
+written_same : (all all' last last' written : List ℕ) → all ≡ all' → last ≡ last' → IsWrittenUpTo all last written → IsWrittenUpTo all' last' written
+written_same all all' last last' written a l w = record { sent = w.sent; missing = w.missing; front = sym a ∙ w.front; end_of_last = sym l ∙ w.end_of_last }
 
 -- turns that begin those of requests are those of the first of them
 pub record Split (print : Reply → List ℕ) (turns : List Turn) (qs : List Request) : Type 0 where
@@ -238,30 +253,38 @@ answers-last h from (q ∷ requests) (reply.Refused number place ∷ replies) up
 answers-last h from (q ∷ requests) (reply.Damaged file at ∷ replies) upto r = subst (λ (n : ℕ). AnswersLast n replies) r.4.1 (answers-last h r.0 requests replies upto r.5)
 answers-last h from (q ∷ requests) (reply.Bye ∷ replies) upto r = subst (λ (n : ℕ). AnswersLast n replies) r.4.1 (answers-last h r.0 requests replies upto r.5)
 
--- what a reply leaves open, it leaves open where more was
-or_more : (x p q : Bool) → (p ≡ true → q ≡ true) → (x || p) ≡ true → (x || q) ≡ true
-or_more true p q more e = refl
-or_more false p q more e = more e
+-- what is left behind the others: what may have been before these replies, none of which acknowledges a write, or a write that failed
+module _ (h : List Entry) (e : Entry) where
+  abbrev IsLeft : Look → List Request → List Reply → ℕ → Type 0
+  IsLeft from requests replies upto = ((from.pending ≡ Some e) × (done_numbers replies ≡ []) × (upto ≡ from.sequenced)) ⊎ IsLeftBy h upto requests replies e
 
-behind_more : (t : Reply) (p q : Bool) → (p ≡ true → q ≡ true) → pends_behind p t ≡ true → pends_behind q t ≡ true
-behind_more (reply.Done n) p q more e = e
-behind_more (reply.Refused number place) p q more e = or_more (number == code_number code.Volume || number == code_number code.Memory) p q more e
-behind_more (reply.Rows n table) p q more e = more e
-behind_more (reply.Applied n) p q more e = more e
-behind_more (reply.QueryRefused n number place) p q more e = more e
-behind_more (reply.Damaged file at) p q more e = more e
-behind_more reply.Bye p q more e = more e
+  left_one : (from mid : Look) (time upto : ℕ) (q : Request) (t : Reply) (requests : List Request) (replies : List Reply) → MayPend (Some h) from mid time q t → CountsAlone from mid t → IsLeft mid requests replies upto → IsLeft from (q ∷ requests) (t ∷ replies) upto
+  left_one from mid time upto q t requests replies may counts (inr by) = inr (inr by)
+  left_one from mid time upto q (reply.Done n) requests replies may counts (inl (left, none, same)) = absurd (may e left)
+  left_one from mid time upto q (reply.Refused number place) requests replies may counts (inl (left, none, same)) = refused (may e left)
+    where
+      refused : MayLeave h from mid time q (reply.Refused number place) e → IsLeft from (q ∷ requests) (reply.Refused number place ∷ replies) upto
+      refused (inl was) = inl (was, none, same ∙ counts)
+      refused (inr (leaves, own)) = inr (inl ((leaves, time, subst (λ (n : ℕ). SaysOwn h n time q e) (sym same) own), none))
+  left_one from mid time upto q (reply.Rows n table) requests replies may counts (inl (left, none, same)) = inl (may e left, none, same ∙ counts)
+  left_one from mid time upto q (reply.Applied n) requests replies may counts (inl (left, none, same)) = inl (may e left, none, same ∙ counts)
+  left_one from mid time upto q (reply.QueryRefused n number place) requests replies may counts (inl (left, none, same)) = inl (may e left, none, same ∙ counts)
+  left_one from mid time upto q (reply.Damaged file at) requests replies may counts (inl (left, none, same)) = inl (may e left, none, same ∙ counts)
+  left_one from mid time upto q reply.Bye requests replies may counts (inl (left, none, same)) = inl (may e left, none, same ∙ counts)
 
-after_more : (p q : Bool) (replies : List Reply) → (p ≡ true → q ≡ true) → pends_after p replies ≡ true → pends_after q replies ≡ true
-after_more p q [] more e = more e
-after_more p q (t ∷ replies) more e = after_more (pends_behind p t) (pends_behind q t) replies (behind_more t p q more) e
+  left_all : (from : Look) (requests : List Request) (replies : List Reply) (upto : Look) → LegalRun AllowedAlone (Some h) from requests replies upto → upto.pending ≡ Some e → IsLeft from requests replies upto.sequenced
+  left_all from [] [] upto r left = inl (sym (ap (λ (x : Look). x.pending) r) ∙ left, refl, ap (λ (x : Look). x.sequenced) r)
+  left_all from [] (t ∷ replies) upto r left = absurd r
+  left_all from (q ∷ requests) [] upto r left = absurd r
+  left_all from (q ∷ requests) (t ∷ replies) upto r left = left_one from r.0 r.1 upto.sequenced q t requests replies r.4.3 r.4.2 (left_all r.0 requests replies upto r.5 left)
 
--- none is left but by a reply that says so
-pends : (h : Option (List Entry)) (from : Look) (requests : List Request) (replies : List Reply) (upto : Look) → LegalRun AllowedAlone h from requests replies upto → upto.pending ≡ true → pends_after from.pending replies ≡ true
-pends h from [] [] upto r left = sym (ap (λ (x : Look). x.pending) r) ∙ left
-pends h from [] (t ∷ replies) upto r left = absurd r
-pends h from (q ∷ requests) [] upto r left = absurd r
-pends h from (q ∷ requests) (t ∷ replies) upto r left = after_more r.0.pending (pends_behind from.pending t) replies r.4.3 (pends h r.0 requests replies upto r.5 left)
+leaves-own : (history : Option (List Entry)) (before after : Store) (requests : List Request) (replies : List Reply) → LegalRun AllowedAlone history (look_of before) requests replies (look_of after) → LeavesOwn history before after requests replies
+leaves-own None before after requests replies r = tt
+leaves-own (Some h) before after requests replies r = λ e left. by e (left_all h e (look_of before) requests replies (look_of after) r left)
+  where
+    by : (e : Entry) → IsLeft h e (look_of before) requests replies after.sequenced → (before.pending ≡ Some e) ⊎ IsLeftBy h after.sequenced requests replies e
+    by e (inl was) = inl was.0
+    by e (inr left) = inr left
 
 -- the replies of a session alone over a store
 pub replied-from_legal : (before after : Store) (requests : List Request) (replies : List Reply) → Extends before.history after.history → Legal AllowedAlone after.history (look_of before) (look_of after) requests replies → Replied before after requests replies
@@ -270,7 +293,7 @@ replied-from_legal before after requests replies grows l = record {
   own = record { grows = grows; numbers = (counted after.history (look_of before) requests replies (look_of after) l.run).numbers };
   applies = applies-all after.history (look_of before) requests replies (look_of after) l.run;
   answers = answers-last after.history (look_of before) requests replies (look_of after) l.run;
-  settled = pends after.history (look_of before) requests replies (look_of after) l.run;
+  left = leaves-own after.history before after requests replies l.run;
 }
 
 -- every text goes on to some script
@@ -323,6 +346,11 @@ module _ (print : Reply → List ℕ) (first later : Protocol) (reads : SpellsFr
   written_as turns rs replies e l =
       ap (λ (ts : List Turn). transcript ts replies) e ∙ transcript-asked print rs replies (matches after.history (look_of before) rs replies (look_of after) (legal_of turns rs replies e l).run)
 
+  last_as : (turns : List Turn) (rs : List Request) (replies : List Reply) → turns ≡ asked_by print rs
+      → Legal AllowedAlone after.history (look_of before) (look_of after) (requests_in turns) replies → last_bytes [] turns replies ≡ last_printed print replies
+  last_as turns rs replies e l =
+      ap (λ (ts : List Turn). last_bytes [] ts replies) e ∙ last-is print rs replies (matches after.history (look_of before) rs replies (look_of after) (legal_of turns rs replies e l).run)
+
   written_is : (taken : List ℕ) (d : Whole taken) → transcript d.script.turns d.replies ≡ printed print d.replies
   written_is taken d = written_as d.script.turns (said taken d).requests d.replies (said taken d).turns_are d.legal
 
@@ -338,7 +366,7 @@ module _ (print : Reply → List ℕ) (first later : Protocol) (reads : SpellsFr
 
   cut_of : (taken written : List ℕ) → Moves wire wire' taken written → length taken ≤ LAST_OFFSET
       → IsCutShort AllowedAlone first_moment last_moment taken written → CutRun print before after moved_by
-  cut_of taken written moved short (inl (g, missing, e)) =
+  cut_of taken written moved short (inl (g, w)) =
       let t = total (g.unfed ++ []) in
       let q = reads (taken ++ []) (with_turns g.turns t.0) (g.begins [] t.0 t.1) in
       let s = split_asked print g.turns t.0.turns q.requests q.turns_are in
@@ -349,15 +377,14 @@ module _ (print : Reply → List ℕ) (first later : Protocol) (reads : SpellsFr
         ending = q.ending;
         replies = g.replies;
         written = written;
-        missing = missing;
         from = moved.from;
         short = short;
         spelled = subst (λ (rs : List Request). Steps 0 taken rs q.ending) s.whole (subst (λ (x : List ℕ). Steps 0 x q.requests q.ending) (append-nil taken) q.spelled);
         replied = replied-from_legal before after s.front g.replies grows (legal_of g.turns s.front g.replies s.turns_are g.legal);
         put = moved.to;
-        front = inl (sym (written_as g.turns s.front g.replies s.turns_are g.legal) ∙ e);
+        front = inl (written_same _ _ _ _ written (written_as g.turns s.front g.replies s.turns_are g.legal) (last_as g.turns s.front g.replies s.turns_are g.legal) w);
       }
-  cut_of taken written moved short (inr (inl (d, missing, e))) =
+  cut_of taken written moved short (inr (inl (d, w))) =
       let r = run_of taken moved.from short d in
       record {
         taken = taken;
@@ -366,15 +393,14 @@ module _ (print : Reply → List ℕ) (first later : Protocol) (reads : SpellsFr
         ending = r.ending;
         replies = r.replies;
         written = written;
-        missing = missing;
         from = moved.from;
         short = short;
         spelled = subst (λ (rs : List Request). Steps 0 taken rs r.ending) (sym (append-nil r.requests)) r.spelled;
         replied = r.replied;
         put = moved.to;
-        front = inl (sym (written_is taken d) ∙ e);
+        front = inl (written_same _ _ _ _ written (written_is taken d) (last_as d.script.turns (said taken d).requests d.replies (said taken d).turns_are d.legal) w);
       }
-  cut_of taken written moved short (inr (inr (d, place, f, missing, bad, e))) =
+  cut_of taken written moved short (inr (inr (d, place, f, bad, w))) =
       let r = run_of taken moved.from short d in
       let refused = refusal_of taken d place f bad in
       record {
@@ -384,13 +410,12 @@ module _ (print : Reply → List ℕ) (first later : Protocol) (reads : SpellsFr
         ending = r.ending;
         replies = r.replies;
         written = written;
-        missing = missing;
         from = moved.from;
         short = short;
         spelled = subst (λ (rs : List Request). Steps 0 taken rs r.ending) (sym (append-nil r.requests)) r.spelled;
         replied = r.replied;
         put = moved.to;
-        front = inr (refl, place, refused.bad, sym (refused_is taken d place f refused.bytes) ∙ e);
+        front = inr (refl, place, refused.bad, written_same _ _ _ _ written (refused_is taken d place f refused.bytes) refused.bytes w);
       }
 
   pub ran : (how : EndedBy) → Serves AllowedAlone first_moment last_moment how → RanOver print before after moved_by (status_of how)

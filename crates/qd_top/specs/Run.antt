@@ -1,5 +1,5 @@
 -- What a run of the program took and wrote, by its status.
-use Rattle.std.specs.Prelude.{◌≡◌, ℕ, ◌+◌, ◌-◌, ◌≤◌, ◌⊎◌, Bool, true, false, List, [], ◌∷◌, ◌++◌, codes, length, take, Option, Some, None, IfSome}
+use Rattle.std.specs.Prelude.{◌≡◌, ℕ, ◌+◌, ◌-◌, ◌≤◌, ◌⊎◌, List, [], ◌∷◌, ◌++◌, codes, length, take, drop, Option, Some, None, IfSome, Result, Ok, Err}
 use Rattle.std.specs.List.{flat_map, range_with_len}
 use Rattle.qd_store_backend.specs.Volumes.{HoldsTold, IsDamagedAt, IsUnopened, KeepsTold, MayFind}
 use Rattle.qd_base.specs.declared.limits.TheConstants.{LAST_OFFSET}
@@ -9,19 +9,23 @@ use Rattle.qd_base.specs.declared.request.Reply.{Reply}
 use Rattle.qd_base.specs.declared.request.Reply.TheVariants as reply
 use Rattle.qd_base.specs.Script.{Ending}
 use Rattle.qd_durable.specs.Moments.{Told}
-use Rattle.qd_host.specs.Hosts.{Supply}
+use Rattle.qd_host.specs.Hosts.{Supply, and_named, risen}
 use Rattle.qd_io.specs.Clocks.{Timeline}
 use Rattle.qd_io.specs.Ends.{HasRisen, Stream, counts_together}
 use Rattle.qd_frames.specs.Frames.{Steps}
 use Rattle.qd_gen.specs.Generated.{input as generated}
 use Rattle.qd_print.specs.Printed.{reply_bytes}
 use Rattle.qd_gen.specs.Quieted.{without_done}
-use Rattle.qd_session.specs.Alone.{AllowedAlone, pends_behind}
+use Rattle.qd_session.specs.Alone.{AllowedAlone, LeavesOpen, SaysOwn}
 use Rattle.qd_session.specs.Legal.{Legal, done_numbers}
 use Rattle.qd_session.specs.Looks.{Extends, Look}
-use Rattle.qd_session.specs.Session.{IsBad, IsClean, IsWaiting, PutTo, TakenFrom, refusal}
+use Rattle.qd_session.specs.Session.{IsBad, IsClean, IsWaiting, IsWrittenUpTo, PutTo, TakenFrom, refusal}
+use Rattle.qd_store.specs.Marks.{IsMade}
+use Rattle.qd_store.specs.Opening.{IsDamaged}
+use Rattle.qd_volume.specs.Disk.{Disk, reads_of}
 use Rattle.qd_top.specs.declared.status.Status.{Status}
 use Rattle.qd_top.specs.declared.status.Status.TheVariants as status
+use Rattle.qd_top.specs.Status.{number_of}
 use Rattle.qd_args.specs.declared.command.Command.{Command}
 use Rattle.qd_args.specs.declared.command.Command.TheVariants as command
 use Rattle.qd_args.specs.Words.{Asks, IsCommand}
@@ -38,6 +42,12 @@ prints (command.Gen number lines) = without_done reply_bytes
 -- replies, printed one behind the other
 abbrev pub printed : (Reply → List ℕ) → List Reply → List ℕ
 printed print replies = flat_map print replies
+
+-- the bytes of the last of some replies
+abbrev pub last_printed : (Reply → List ℕ) → List Reply → List ℕ
+last_printed print [] = []
+last_printed print (given ∷ []) = print given
+last_printed print (given ∷ next ∷ replies) = last_printed print (next ∷ replies)
 
 -- What went through two ends: what there was to read and what is left of it, and what was written before and is now.
 pub record Traffic : Type 0 where
@@ -59,8 +69,8 @@ pub record Store : Type 0 where
   pub sequenced : ℕ
   -- how many of them are applied
   pub applied : ℕ
-  -- whether a write that failed may have been left behind them
-  pub pending : Bool
+  -- the transaction that a write that failed may have left behind them, where they are told
+  pub pending : Option Entry
   -- how many calls of the volume have failed
   pub volume_faults : ℕ
   pub clock : Timeline
@@ -89,10 +99,22 @@ AnswersLast n (reply.Rows m table ∷ replies) = (m ≡ n) × AnswersLast n repl
 AnswersLast n (reply.QueryRefused m number place ∷ replies) = (m ≡ n) × AnswersLast n replies
 AnswersLast n (given ∷ replies) = AnswersLast n replies
 
--- whether a write that failed may have been left behind, after replies: one that says so came, and no acknowledged write behind it
-abbrev pub pends_after : Bool → List Reply → Bool
-pends_after pending [] = pending
-pends_after pending (given ∷ replies) = pends_after (pends_behind pending given) replies
+-- A request says this transaction, and was answered that the volume failed, or that no memory was found.
+abbrev pub IsFailedWrite : List Entry → (sequenced : ℕ) → Request → Reply → Entry → Type 0
+IsFailedWrite h sequenced asked (reply.Refused number place) e = LeavesOpen number × (time : ℕ) × SaysOwn h sequenced time asked e
+IsFailedWrite h sequenced asked given e = ⊥
+
+-- One of these requests was such a write, and no acknowledged write is behind it.
+abbrev pub IsLeftBy : List Entry → (sequenced : ℕ) → List Request → List Reply → Entry → Type 0
+IsLeftBy h sequenced [] replies e = ⊥
+IsLeftBy h sequenced (asked ∷ requests) [] e = ⊥
+IsLeftBy h sequenced (asked ∷ requests) (given ∷ replies) e =
+    (IsFailedWrite h sequenced asked given e × (done_numbers replies ≡ [])) ⊎ IsLeftBy h sequenced requests replies e
+
+-- A transaction may have been left behind the others: before the replies, or by the write of one of their requests, which failed.
+abbrev pub LeavesOwn : Option (List Entry) → (before after : Store) → List Request → List Reply → Type 0
+LeavesOwn None before after requests replies = Unit {0}
+LeavesOwn (Some h) before after requests replies = (e : Entry) → after.pending ≡ Some e → (before.pending ≡ Some e) ⊎ IsLeftBy h after.sequenced requests replies e
 
 -- The replies of one session alone over a store: legal, and exact where nobody else writes or applies.
 pub record Replied (before after : Store) (requests : List Request) (replies : List Reply) : Type 0 where
@@ -100,7 +122,7 @@ pub record Replied (before after : Store) (requests : List Request) (replies : L
   pub own : IsOwn before after replies
   pub applies : AppliesAll before.sequenced replies
   pub answers : AnswersLast before.applied replies
-  pub settled : after.pending ≡ true → pends_after before.pending replies ≡ true
+  pub left : LeavesOwn after.history before after requests replies
 
 -- A run over frames: the bytes taken from the input, the requests that they spell and how they end, and the replies, one
 -- for each request, from a store to the one that it left.
@@ -135,8 +157,9 @@ abbrev pub StoppedRun : RunKind
 StoppedRun print before after t =
     (r : Run before after t) × IsWaiting r.ending × PutTo t.output t.written (printed print r.replies)
 
--- Statuses 4 and 7: the bytes written are a prefix of such a transcript. The replies are those to the first requests of
--- the bytes taken; where there is no later one, the refusal of a bad frame may stand behind them.
+-- Statuses 4 and 7: the bytes written are such a transcript, but for an end of its last reply. The replies are those to the first
+-- requests of the bytes taken, and nothing is carried out behind a reply that wasn't written whole; where there is no later request,
+-- the refusal of a bad frame may stand behind them.
 pub record CutRun (print : Reply → List ℕ) (before after : Store) (t : Traffic) : Type 0 where
   pub taken : List ℕ
   pub requests : List Request
@@ -144,14 +167,14 @@ pub record CutRun (print : Reply → List ℕ) (before after : Store) (t : Traff
   pub ending : Ending
   pub replies : List Reply
   pub written : List ℕ
-  pub missing : List ℕ
   pub from : TakenFrom t.input t.left taken
   pub short : length taken ≤ LAST_OFFSET
   pub spelled : Steps 0 taken (requests ++ later) ending
   pub replied : Replied before after requests replies
   pub put : PutTo t.output t.written written
-  pub front : (printed print replies ≡ written ++ missing)
-      ⊎ ((later ≡ []) × (place : ℕ) × IsBad t.input taken ending place reply_bytes × (printed print replies ++ reply_bytes (refusal place) ≡ written ++ missing))
+  pub front : IsWrittenUpTo (printed print replies) (last_printed print replies) written
+      ⊎ ((later ≡ []) × (place : ℕ) × IsBad t.input taken ending place reply_bytes
+      × IsWrittenUpTo (printed print replies ++ reply_bytes (refusal place)) (reply_bytes (refusal place)) written)
 
 -- a session over a store that ended with a status
 abbrev pub RanOver : (Reply → List ℕ) → (before after : Store) → Traffic → Status → Type 0
@@ -168,22 +191,28 @@ RanOver print before after t other = ⊥
 abbrev pub fresh : Supply → Timeline
 fresh host = record { ahead = host.clock_times; faults = 0 }
 
--- What a run begins with: the clock that the host gave, and the store on its volume. Where a history is told, it is that; and just so
--- many transactions are applied as the volume's version shows.
+-- a volume is told, and is damaged at some place
+abbrev pub IsDamagedTold : Option Disk → Type 0
+IsDamagedTold None = ⊥
+IsDamagedTold (Some disk) = IsMade (reads_of disk) × (file : ℕ) × (at : ℕ) × IsDamaged (reads_of disk) file at
+
+-- What a run begins with: the clock that the host gave, and the store on its volume, which is nowhere damaged. Where a history is told,
+-- it is that; and just so many transactions are applied as the volume's version shows.
 pub record IsBegun (found : Option (List Entry)) (host : Supply) (before : Store) : Type 0 where
   pub clock : before.clock ≡ fresh host
   pub history : before.history ≡ found
   pub count : IfSome found (λ h. before.sequenced ≡ length h)
   pub shown : IfSome found (λ h. (n : ℕ) → HoldsTold host.shelf h n → before.applied ≡ n)
   pub within : before.applied ≤ before.sequenced
-  pub settled : before.pending ≡ false
+  pub undamaged : IsDamagedTold host.shelf → ⊥
+  pub settled : before.pending ≡ None
 
--- What a run leaves: the host has taken back its clock and its volume, and has counted their faults. Where a history is told, a crash
+-- What a run leaves: the host has taken back its clock and its volume, and has counted just the faults that a session saw. Where a history is told, a crash
 -- leaves it whole, with a version of no fewer transactions than are applied; a write that failed may stand behind it, where one may
 -- have been left.
 pub record IsEnded (host host' : Supply) (before after : Store) : Type 0 where
   pub clock_faults : host'.clock_faults ≡ counts_together host.clock_faults after.clock.faults
-  pub volume_faults : HasRisen before.volume_faults after.volume_faults → HasRisen host.volume_faults host'.volume_faults
+  pub volume_faults : host'.volume_faults ≡ counts_together host.volume_faults (risen before.volume_faults after.volume_faults)
   pub kept : IfSome after.history (λ h. KeepsTold host'.shelf h after.pending after.applied)
 
 -- A run over the store of the host's volume, which was opened, or made where there was none: R holds from what it began with to what
@@ -277,14 +306,35 @@ CountsWrites before now status.WriteFault = (before ≤ now) × HasRisen before 
 CountsWrites before now status.Usage = before ≤ now
 CountsWrites before now s = now ≡ before
 
+-- ---- a command
+
+-- what a program shows at a moment of what it was given: its input, its output and its host
+pub record Outside : Type 0 where
+  pub input : Stream
+  pub output : Stream
+  pub host : Supply
+
+abbrev pub outside : Stream → Stream → Supply → Outside
+outside input output host = record { input = input; output = output; host = host }
+
 -- what a command serves, and what it leaves of it: the input that is given; or the generated one, of which something is left
 abbrev pub ServedBy : Command → Traffic → (Traffic → Type 0) → Type 0
 ServedBy (command.Run dir) t R = R t
 ServedBy (command.Gen number lines) t R = (left : Option (List ℕ)) × R (record t { input = Some (generated number lines); left = left })
 
--- a command served what it is to serve, and did something of this kind
-abbrev pub Served : Command → (found : Option (List Entry)) → (host host' : Supply) → Traffic → CommandKind → Type 0
-Served asked found host host' t R = ServedBy asked t (λ served. R (prints asked) found host host' served)
+-- A command served what it is to serve, and did what the table `Ran` has of a status.
+abbrev pub Served : Command → (found : Option (List Entry)) → (old new : Outside) → Status → Type 0
+Served asked found old new s = ServedBy asked (traffic old.input new.input old.output new.output) (λ t. Ran (prints asked) found old.host new.host t s)
+
+-- the folder whose store a command serves, where it names one
+abbrev pub folder_of : Command → Option (List ℕ)
+folder_of (command.Run dir) = dir
+folder_of (command.Gen number lines) = None
+
+-- The folders of which a host was asked for the volume grew by this one, or by none where none is named.
+abbrev pub AsksFor : (old new : Option (List (List ℕ))) → Option (List ℕ) → Type 0
+AsksFor None new dir = new ≡ None
+AsksFor (Some folders) new dir = new ≡ Some (and_named folders dir)
 
 -- the numbers that a command may end with: over the generated input, which is whole frames in memory, no frame is bad and
 -- no read fails
@@ -298,41 +348,49 @@ IsServedWell (command.Run dir) input = IsWellFramed input
 IsServedWell (command.Gen number lines) input = Unit {0}
 
 -- no count of failures has risen: of reads, of writes, and of the volume
-pub record NoneFailed (input input' output output' : Stream) (host host' : Supply) : Type 0 where
-  pub reads : HasRisen input.reads_failed input'.reads_failed → ⊥
-  pub writes : HasRisen output.writes_failed output'.writes_failed → ⊥
-  pub volume : HasRisen host.volume_faults host'.volume_faults → ⊥
+pub record NoneFailed (old new : Outside) : Type 0 where
+  pub reads : HasRisen old.input.reads_failed new.input.reads_failed → ⊥
+  pub writes : HasRisen old.output.writes_failed new.output.writes_failed → ⊥
+  pub volume : HasRisen old.host.volume_faults new.host.volume_faults → ⊥
 
--- What a command did, with an input, an output and a host before it and after it, where the program ended with a number.
-pub record Did (asked : Command) (found : Option (List Entry)) (input input' output output' : Stream) (host host' : Supply) (number : ℕ) : Type 0 where
+-- What a command did where the program ended with a number.
+pub record Did (asked : Command) (found : Option (List Entry)) (old new : Outside) (number : ℕ) : Type 0 where
   pub ends : EndsWith asked number
-  pub finished : number ≡ 0 → Served asked found host host' (traffic input input' output output') (OverStore FinishedRun)
-  pub bad_frame : number ≡ 2 → Served asked found host host' (traffic input input' output output') (OverStore RefusedRun)
-  pub read_fault : number ≡ 3 → Served asked found host host' (traffic input input' output output') (OverStore StoppedRun)
-  pub write_fault : number ≡ 4 → Served asked found host host' (traffic input input' output output') CutShort
-  pub no_volume : number ≡ 5 → Served asked found host host' (traffic input input' output output') NoVolume
-  pub damaged : number ≡ 6 → Served asked found host host' (traffic input input' output output') Damaged
-  pub no_memory : number ≡ 7 → Served asked found host host' (traffic input input' output output') OutOfMemory
-  pub complete : (h : List Entry) → found ≡ Some h → IsServedWell asked input.input → NoneFailed input input' output output' host host' → (number ≡ 0) ⊎ (number ≡ 7)
+  pub ran : (s : Status) × (number ≡ number_of s) × Served asked found old new s
+  -- the folder that is opened is the one that was named; where no memory was found, none may have been
+  pub folder : AsksFor old.host.folders new.host.folders (folder_of asked) ⊎ ((number ≡ 7) × (new.host.folders ≡ old.host.folders))
+  -- over whole frames and a volume that isn't made or is whole, and where no count rises, it finishes unless memory runs out
+  pub complete : (h : List Entry) → found ≡ Some h → IsServedWell asked old.input.input → NoneFailed old new → (number ≡ 0) ⊎ (number ≡ 7)
+  -- over a damaged volume, and where no count rises, it says where, unless memory runs out
+  pub damaged : IsDamagedTold old.host.shelf → NoneFailed old new → (number ≡ 6) ⊎ (number ≡ 7)
 
 -- whether words are those of `run`
 abbrev pub AsksToRun : List (List ℕ) → Type 0
 AsksToRun words = (dir : Option (List ℕ)) × Asks (command.Run dir) words
 
--- What the top call says of these words, with an input, an output and a host before it and after it, and a status.
-pub record Answered (given : List (List ℕ)) (found : Option (List Entry)) (input input' output output' : Stream) (host host' : Supply) (number : ℕ) : Type 0 where
-  pub statuses : (number ≡ 0) ⊎ (number ≡ 1) ⊎ (number ≡ 2) ⊎ (number ≡ 3) ⊎ (number ≡ 4) ⊎ (number ≡ 5) ⊎ (number ≡ 6) ⊎ (number ≡ 7)
+-- the words behind a program's name; none where the machine gives no arguments
+abbrev pub words_behind : {A E : Type 0} → (A → List (List ℕ)) → Result A E → List (List ℕ)
+words_behind words (Ok arguments) = drop 1 (words arguments)
+words_behind words (Err fault) = []
+
+-- the statuses behind which nothing of the input was read: where there is no store to serve it by
+abbrev pub IsUnserved : ℕ → Type 0
+IsUnserved number = (number ≡ 5) ⊎ (number ≡ 6)
+
+-- What the top call says of these words, and of a status.
+pub record Answered (given : List (List ℕ)) (found : Option (List Entry)) (old new : Outside) (number : ℕ) : Type 0 where
+  pub statuses : number ≤ 7
   -- only words that ask for no command are answered with the usage line, and with nothing else
   pub words : number ≡ 1 → IsCommand given → ⊥
   pub other_words : (IsCommand given → ⊥) → (number ≡ 1) ⊎ (number ≡ 7)
-  pub usage : number ≡ 1 → (missing : List ℕ) × WroteUsage output.output output'.output missing × ((missing ≡ []) ⊎ HasRisen output.writes_failed output'.writes_failed)
-  pub other_output : (IsCommand given → ⊥) → (missing : List ℕ) × WroteUsage output.output output'.output missing
-  pub unread : (AsksToRun given → ⊥) → input' ≡ input
-  pub unused : (IsCommand given → ⊥) → host' ≡ host
+  pub usage : number ≡ 1 → (missing : List ℕ) × WroteUsage old.output.output new.output.output missing × ((missing ≡ []) ⊎ HasRisen old.output.writes_failed new.output.writes_failed)
+  pub other_output : (IsCommand given → ⊥) → (missing : List ℕ) × WroteUsage old.output.output new.output.output missing
+  pub unread : (AsksToRun given → ⊥) ⊎ IsUnserved number → new.input ≡ old.input
+  pub unused : (IsCommand given → ⊥) → new.host ≡ old.host
   -- what the command that the words ask for took and wrote
-  pub did : (asked : Command) → Asks asked given → Did asked found input input' output output' host host' number
-  -- causes
-  pub read_cause : number ≡ 3 → HasRisen input.reads_failed input'.reads_failed
-  pub reads_stay : (number ≡ 3 → ⊥) → input'.reads_failed ≡ input.reads_failed
-  pub write_cause : number ≡ 4 → HasRisen output.writes_failed output'.writes_failed
-  pub writes_stay : (number ≡ 4 → ⊥) → (number ≡ 1 → ⊥) → output'.writes_failed ≡ output.writes_failed
+  pub did : (asked : Command) → Asks asked given → Did asked found old new number
+  -- causes: a count rises exactly where its fault is the status, the usage line apart
+  pub read_cause : number ≡ 3 → HasRisen old.input.reads_failed new.input.reads_failed
+  pub reads_stay : (number ≡ 3 → ⊥) → new.input.reads_failed ≡ old.input.reads_failed
+  pub write_cause : number ≡ 4 → HasRisen old.output.writes_failed new.output.writes_failed
+  pub writes_stay : (number ≡ 4 → ⊥) → (number ≡ 1 → ⊥) → new.output.writes_failed ≡ old.output.writes_failed

@@ -1,11 +1,10 @@
 //! The program from its arguments: the words behind its name, and what it does with them.
-ghost use Rattle.std.specs.Prelude.{◌≡◌, ◌⊎◌, [], List, Option, drop, map, IfOk};
+ghost use Rattle.std.specs.Prelude.{◌≡◌, ◌⊎◌, List, Option, drop, map, IfOk};
 ghost use Rattle.qd_store_backend.specs.Volumes.{MayFind};
 ghost use Rattle.qd_base.specs.declared.op.Entry.{Entry};
-ghost use Rattle.std.specs.Result.{MatchResult};
 ghost use Rattle.std.specs.String.{string_bytes};
 ghost use Rattle.std.specs.Vec.Iter.{into_iter_items};
-ghost use Rattle.qd_top.specs.Run.{Answered};
+ghost use Rattle.qd_top.specs.Run.{Answered, IsUnserved, outside, words_behind};
 
 use crate::program::top;
 use crate::status::Status;
@@ -34,9 +33,9 @@ pub fn run_program<R, S: Source, K: Sink, H: Host>(
 
     // No memory was found for the words, and nothing was done; or this is what `top` says of them.
     ensures answered { ((result ≡ 7) × (input.new ≡ input.old) × (output.new ≡ output.old) × (host.new ≡ host.old))
-        ⊎ MatchResult args
-        (λ a. Answered (drop 1 (map (λ s. string_bytes s) (into_iter_items a))) found (S.stream input.old) (S.stream input.new) (K.stream output.old) (K.stream output.new) (H.supply host.old) (H.supply host.new) result)
-        (λ e. Answered [] found (S.stream input.old) (S.stream input.new) (K.stream output.old) (K.stream output.new) (H.supply host.old) (H.supply host.new) result) }
+        ⊎ Answered (words_behind (λ a. map (λ s. string_bytes s) (into_iter_items a)) args) found (outside (S.stream input.old) (K.stream output.old) (H.supply host.old))
+        (outside (S.stream input.new) (K.stream output.new) (H.supply host.new)) result }
+    ensures unread { IsUnserved result → input.new ≡ input.old }
 {
     match args {
         Ok(args) => match words_of(alloc, args) {

@@ -1,5 +1,5 @@
 //! The program, over whatever it is given of the outside.
-ghost use Rattle.std.specs.Prelude.{◌≡◌, ◌⊎◌, ◌≤◌, ℕ, List, [], None, Option, Some, length};
+ghost use Rattle.std.specs.Prelude.{◌≡◌, ◌⊎◌, ◌≤◌, ℕ, List, [], None, Option, Some, length, option_map};
 ghost use Rattle.qd_store_backend.specs.Volumes.{MayFind};
 ghost use Rattle.qd_base.specs.declared.limits.TheConstants.{LAST_OFFSET};
 ghost use Rattle.qd_base.specs.declared.op.Entry.{Entry};
@@ -10,17 +10,18 @@ ghost use Rattle.qd_gen.specs.Quieted.{without_done};
 ghost use Rattle.qd_args.specs.declared.command.Command.{Command};
 ghost use Rattle.qd_args.specs.declared.command.TheConstants.{MAX_GEN_LINES};
 ghost use Rattle.qd_args.specs.Words.{Asks, IsCommand};
-ghost use Rattle.qd_top.specs.Run.{Answered, AsksToRun, CountsReads, CountsWrites, CutShort, Damaged, EndsWith, FinishedRun, IsServedWell, NoneFailed, NoVolume, OutOfMemory, OverStore, Ran, RefusedRun, Served, StoppedRun, WroteUsage, traffic};
+ghost use Rattle.qd_top.specs.Run.{Answered, AsksToRun, CountsReads, CountsWrites, EndsWith, IsUnserved, Ran, WroteUsage, outside, traffic};
+ghost use Rattle.qd_top.specs.Stores.{IsOfNoStore, Names};
 ghost use Rattle.qd_top.specs.Status.{number_of};
 
-use crate::serving::serve_host;
+use crate::serving::serve_ends;
 use crate::status::Status;
 use qd_args::{Command, read_words};
 use qd_base::Txt;
 use qd_frames::FrameFront;
 use qd_gen::{Quiet, TextSource, gen_input, input_is_read_as_asked};
 use qd_host::Host;
-use qd_io::{Both, IoFault, Sink, Source, write_all};
+use qd_io::{IoFault, Sink, Source, write_all};
 use std::alloc::Global;
 
 /// Runs the program: reads its words, does what they ask for, and gives its status.
@@ -59,38 +60,10 @@ pub fn top<R, S: Source, K: Sink, H: Host>(
 ) -> u8
     ghost found: { Option (List Entry) }
     requires found { MayFind found (H.supply host.old).shelf }
-    ensures statuses { (result ≡ 0) ⊎ (result ≡ 1) ⊎ (result ≡ 2) ⊎ (result ≡ 3) ⊎ (result ≡ 4) ⊎ (result ≡ 5) ⊎ (result ≡ 6) ⊎ (result ≡ 7) }
-
-    // Words.
-    ensures words { result ≡ 1 → IsCommand words.now → ⊥ }
-    ensures other_words { (IsCommand words.now → ⊥) → (result ≡ 1) ⊎ (result ≡ 7) }
-    ensures usage { result ≡ 1 → (missing : List ℕ) × WroteUsage (K.stream output.old).output (K.stream output.new).output missing
-        × ((missing ≡ []) ⊎ HasRisen (K.stream output.old).writes_failed (K.stream output.new).writes_failed) }
-    ensures other_output { (IsCommand words.now → ⊥) → (missing : List ℕ) × WroteUsage (K.stream output.old).output (K.stream output.new).output missing }
-    ensures unread { (AsksToRun words.now → ⊥) → input.new ≡ input.old }
+    ensures answered { Answered words.now found (outside (S.stream input.old) (K.stream output.old) (H.supply host.old))
+        (outside (S.stream input.new) (K.stream output.new) (H.supply host.new)) result }
+    ensures unread { (AsksToRun words.now → ⊥) ⊎ IsUnserved result → input.new ≡ input.old }
     ensures unused { (IsCommand words.now → ⊥) → host.new ≡ host.old }
-
-    // What the command that the words ask for took and wrote, and what it left on the volume.
-    ensures ends { (asked : Command) → Asks asked words.now → EndsWith asked result }
-    ensures finished { (asked : Command) → Asks asked words.now → result ≡ 0 → Served asked found (H.supply host.old) (H.supply host.new) (traffic (S.stream input.old) (S.stream input.new) (K.stream output.old) (K.stream output.new)) (OverStore FinishedRun) }
-    ensures bad_frame { (asked : Command) → Asks asked words.now → result ≡ 2 → Served asked found (H.supply host.old) (H.supply host.new) (traffic (S.stream input.old) (S.stream input.new) (K.stream output.old) (K.stream output.new)) (OverStore RefusedRun) }
-    ensures read_fault { (asked : Command) → Asks asked words.now → result ≡ 3 → Served asked found (H.supply host.old) (H.supply host.new) (traffic (S.stream input.old) (S.stream input.new) (K.stream output.old) (K.stream output.new)) (OverStore StoppedRun) }
-    ensures write_fault { (asked : Command) → Asks asked words.now → result ≡ 4 → Served asked found (H.supply host.old) (H.supply host.new) (traffic (S.stream input.old) (S.stream input.new) (K.stream output.old) (K.stream output.new)) CutShort }
-    ensures no_volume { (asked : Command) → Asks asked words.now → result ≡ 5 → Served asked found (H.supply host.old) (H.supply host.new) (traffic (S.stream input.old) (S.stream input.new) (K.stream output.old) (K.stream output.new)) NoVolume }
-    ensures damaged { (asked : Command) → Asks asked words.now → result ≡ 6 → Served asked found (H.supply host.old) (H.supply host.new) (traffic (S.stream input.old) (S.stream input.new) (K.stream output.old) (K.stream output.new)) Damaged }
-    ensures no_memory { (asked : Command) → Asks asked words.now → result ≡ 7 → Served asked found (H.supply host.old) (H.supply host.new) (traffic (S.stream input.old) (S.stream input.new) (K.stream output.old) (K.stream output.new)) OutOfMemory }
-
-    // Causes: a count rises exactly where its fault is the status, the usage line apart.
-    ensures read_cause { result ≡ 3 → HasRisen (S.stream input.old).reads_failed (S.stream input.new).reads_failed }
-    ensures reads_stay { (result ≡ 3 → ⊥) → (S.stream input.new).reads_failed ≡ (S.stream input.old).reads_failed }
-    ensures write_cause { result ≡ 4 → HasRisen (K.stream output.old).writes_failed (K.stream output.new).writes_failed }
-    ensures writes_stay { (result ≡ 4 → ⊥) → (result ≡ 1 → ⊥) → (K.stream output.new).writes_failed ≡ (K.stream output.old).writes_failed }
-
-    // Completeness: over whole frames and a volume that isn't made or is whole, and where no count rises, a command finishes unless
-    // memory runs out.
-    ensures complete { (asked : Command) → Asks asked words.now → (h : List Entry) → found ≡ Some h → IsServedWell asked (S.stream input.old).input
-        → NoneFailed (S.stream input.old) (S.stream input.new) (K.stream output.old) (K.stream output.new) (H.supply host.old) (H.supply host.new)
-        → (result ≡ 0) ⊎ (result ≡ 7) }
 {
     do_as_asked(alloc, words, input, output, host).number()
 }
@@ -105,8 +78,9 @@ fn do_as_asked<S: Source, K: Sink, H: Host>(
 ) -> Status
     ghost found: { Option (List Entry) }
     requires found { MayFind found (H.supply host.old).shelf }
-    ensures answered { Answered words.now found (S.stream input.old) (S.stream input.new) (K.stream output.old) (K.stream output.new) (H.supply host.old) (H.supply host.new) (number_of result) }
-    ensures unread { (AsksToRun words.now → ⊥) → input.new ≡ input.old }
+    ensures answered { Answered words.now found (outside (S.stream input.old) (K.stream output.old) (H.supply host.old))
+        (outside (S.stream input.new) (K.stream output.new) (H.supply host.new)) (number_of result) }
+    ensures unread { (AsksToRun words.now → ⊥) ⊎ IsUnserved (number_of result) → input.new ≡ input.old }
     ensures unused { (IsCommand words.now → ⊥) → host.new ≡ host.old }
 {
     match read_words(alloc, words) {
@@ -146,38 +120,25 @@ fn run<S: Source, K: Sink, H: Host>(
 ) -> Status
     ghost found: { Option (List Entry) }
     requires found { MayFind found (H.supply host.old).shelf }
-    ensures ran { Ran reply_bytes found (H.supply host.old) (H.supply host.new) (traffic (S.stream input.old) (S.stream input.new) (K.stream output.old) (K.stream output.new)) result }
+    ensures ran { Ran reply_bytes found (H.supply host.old) (H.supply host.new)
+        (traffic (S.stream input.old) (S.stream input.new) (K.stream output.old) (K.stream output.new)) result }
+    ensures unread { IsOfNoStore result → input.new ≡ input.old }
+    ensures named { Names (H.supply host.old).folders (H.supply host.new).folders (option_map (λ d. d.now) dir.entry) (result ≡ Status.NoMemory) }
     ensures reads { CountsReads (S.stream input.old).reads_failed (S.stream input.new).reads_failed result }
     ensures writes { CountsWrites (K.stream output.old).writes_failed (K.stream output.new).writes_failed result }
 {
-    let dir = match dir {
-        Some(dir) => Some(dir.bytes()),
-        None => None,
-    };
-    let mut wire = Both {
-        source: input,
-        sink: output,
-    };
-    run_wire(alloc, dir, &mut wire, host)
+    let mut front = FrameFront::new(alloc);
+    serve_ends(alloc, name_of(dir), &mut front, input, output, host)
 }
 
-/// Serves the frames of a wire.
-fn run_wire<W: Source + Sink, H: Host>(
-    alloc: Global,
-    dir: Option<&[u8]>,
-    wire: &mut W,
-    host: &mut H,
-) -> Status
-    ghost found: { Option (List Entry) }
-    requires found { MayFind found (H.supply host.old).shelf }
-    ensures ran { Ran reply_bytes found (H.supply host.old) (H.supply host.new) (traffic (W.Source.stream wire.old) (W.Source.stream wire.new) (W.Source.stream wire.old) (W.Source.stream wire.new)) result }
-    ensures reads { CountsReads (W.Source.stream wire.old).reads_failed (W.Source.stream wire.new).reads_failed result }
-    ensures writes { CountsWrites (W.Source.stream wire.old).writes_failed (W.Source.stream wire.new).writes_failed result }
-    ensures input_lent { (W.Source.stream wire.new).input_lent ≡ (W.Source.stream wire.old).input_lent }
-    ensures output_lent { (W.Source.stream wire.new).output_lent ≡ (W.Source.stream wire.old).output_lent }
+/// The bytes of a folder's name, where one is named.
+fn name_of(dir: Option<&Txt>) -> Option<&[u8]>
+    ensures { option_map (λ d. d.now) result ≡ option_map (λ d. d.now) dir.entry }
 {
-    let mut front = FrameFront::new(alloc);
-    serve_host(alloc, dir, &mut front, wire, host)
+    match dir {
+        Some(dir) => Some(dir.bytes()),
+        None => None,
+    }
 }
 
 /// Makes the generated input and serves it over a volume in memory.
@@ -191,7 +152,9 @@ fn generate<K: Sink, H: Host>(
     ghost found: { Option (List Entry) }
     requires found { MayFind found (H.supply host.old).shelf }
     requires few { lines ≤ MAX_GEN_LINES }
-    ensures ran { (left : Option (List ℕ)) × Ran (without_done reply_bytes) found (H.supply host.old) (H.supply host.new) (record { input = Some (generated number lines); left = left; output = (K.stream output.old).output; written = (K.stream output.new).output }) result }
+    ensures ran { (left : Option (List ℕ)) × Ran (without_done reply_bytes) found (H.supply host.old) (H.supply host.new)
+        (record { input = Some (generated number lines); left = left; output = (K.stream output.old).output; written = (K.stream output.new).output }) result }
+    ensures named { Names (H.supply host.old).folders (H.supply host.new).folders None (result ≡ Status.NoMemory) }
     ensures ends { EndsWith (Command.Gen number lines) (number_of result) }
     ensures writes { CountsWrites (K.stream output.old).writes_failed (K.stream output.new).writes_failed result }
 {
@@ -202,7 +165,7 @@ fn generate<K: Sink, H: Host>(
     FrameFront::one_reading();
     length_of(&text);
     let mut source = TextSource::new(text);
-    serve_ends_quietly(alloc, &mut source, output, host)
+    serve_quietly(alloc, &mut source, output, host)
 }
 
 /// The number of bytes of a text, which is one that offsets reach.
@@ -213,8 +176,8 @@ fn length_of(text: &Txt) -> usize
     text.bytes().len()
 }
 
-/// Serves the frames of a source, and prints every reply but those that acknowledge a write.
-fn serve_ends_quietly<S: Source, K: Sink, H: Host>(
+/// Serves the frames of a source over a volume in memory, and prints every reply but those that acknowledge a write.
+fn serve_quietly<S: Source, K: Sink, H: Host>(
     alloc: Global,
     input: &mut S,
     output: &mut K,
@@ -222,27 +185,12 @@ fn serve_ends_quietly<S: Source, K: Sink, H: Host>(
 ) -> Status
     ghost found: { Option (List Entry) }
     requires found { MayFind found (H.supply host.old).shelf }
-    ensures ran { Ran (without_done reply_bytes) found (H.supply host.old) (H.supply host.new) (traffic (S.stream input.old) (S.stream input.new) (K.stream output.old) (K.stream output.new)) result }
+    ensures ran { Ran (without_done reply_bytes) found (H.supply host.old) (H.supply host.new)
+        (traffic (S.stream input.old) (S.stream input.new) (K.stream output.old) (K.stream output.new)) result }
+    ensures named { Names (H.supply host.old).folders (H.supply host.new).folders None (result ≡ Status.NoMemory) }
     ensures reads { CountsReads (S.stream input.old).reads_failed (S.stream input.new).reads_failed result }
     ensures writes { CountsWrites (K.stream output.old).writes_failed (K.stream output.new).writes_failed result }
 {
-    let mut wire = Both {
-        source: input,
-        sink: output,
-    };
-    serve_quietly(alloc, &mut wire, host)
-}
-
-/// Serves the frames of a wire, and prints every reply but those that acknowledge a write.
-fn serve_quietly<W: Source + Sink, H: Host>(alloc: Global, wire: &mut W, host: &mut H) -> Status
-    ghost found: { Option (List Entry) }
-    requires found { MayFind found (H.supply host.old).shelf }
-    ensures ran { Ran (without_done reply_bytes) found (H.supply host.old) (H.supply host.new) (traffic (W.Source.stream wire.old) (W.Source.stream wire.new) (W.Source.stream wire.old) (W.Source.stream wire.new)) result }
-    ensures reads { CountsReads (W.Source.stream wire.old).reads_failed (W.Source.stream wire.new).reads_failed result }
-    ensures writes { CountsWrites (W.Source.stream wire.old).writes_failed (W.Source.stream wire.new).writes_failed result }
-    ensures input_lent { (W.Source.stream wire.new).input_lent ≡ (W.Source.stream wire.old).input_lent }
-    ensures output_lent { (W.Source.stream wire.new).output_lent ≡ (W.Source.stream wire.old).output_lent }
-{
     let mut quiet = Quiet::new(FrameFront::new(alloc));
-    serve_host(alloc, None, &mut quiet, wire, host)
+    serve_ends(alloc, None, &mut quiet, input, output, host)
 }

@@ -1,4 +1,4 @@
 use Rattle.qd_top.proofs.program.run.Given as goal
 
-abbrev pub ghost-run_wire : goal.ghost-run_wire
-ghost-run_wire g a = g.found
+abbrev pub ghost-serve_ends : goal.ghost-serve_ends
+ghost-serve_ends g a = g.found

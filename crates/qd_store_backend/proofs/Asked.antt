@@ -25,7 +25,7 @@ use Rattle.qd_session.specs.Asking.{asks_for}
 use Rattle.qd_sql_ast.specs.Kinds.{IsQuestion}
 use Rattle.qd_session.specs.Legal.{Answers, Handles, done_in}
 use Rattle.qd_session.specs.Looks.{look_at}
-use Rattle.qd_store.specs.Stores.{Store}
+use Rattle.qd_store.specs.Stores.{Book}
 use Rattle.qd_volume.specs.Disk.{Disk, reads_of}
 use Rattle.qd_sql_ast.specs.declared.tree.Stmt.{Stmt}
 use Rattle.qd_store_backend.specs.Backs.{Back, IsBack, IsLastDamage, IsPartDamage, IsPartDamaged, IsToldWhole, Parts, back_shown, current, database_in, kept_of, n_in, source_of}
@@ -40,8 +40,8 @@ quiet_asked : (old new : Back) → kept_of new.parts ≡ kept_of old.parts → n
 quiet_asked old new fixed before =
     let is = same_store old.parts new.parts fixed in
     record {
-      count = ap (λ (s : Store). length s.sequence.refs) is;
-      shown = ap (λ (s : Store). n_in (current s)) is;
+      count = ap (λ (s : Book). length s.sequence.refs) is;
+      shown = ap (λ (s : Book). n_in (current s)) is;
       told = ap (λ (p : Parts). p.history) fixed;
       before = before;
     }
@@ -164,5 +164,5 @@ pub asked_damage : {E : Type 0} (old new : Parts) (n : ℕ) (found : Result Answ
 asked_damage old new n found given file at fixed cause damage replies is =
     let at_last : new.last_damage ≡ Some (file, at) = (subst (λ (r : Result Answer PartFault). IfErr r (HasCause (source_of old) (source_of new))) (replied_part n found given file at replies is) cause).1 in
     let there : IsPartDamaged new.owned file at = subst (λ (o : Option (ℕ × ℕ)). IsLastDamage new.owned o) at_last damage in
-    subst (λ (s : Store). IfSome old.owned.storage.disk (λ d. IsPartDamage s (reads_of d) file at)) (ap (λ (p : Parts). p.owned.store) fixed)
+    subst (λ (s : Book). IfSome old.owned.storage.disk (λ d. IsPartDamage s (reads_of d) file at)) (ap (λ (p : Parts). p.owned.store) fixed)
     (subst (λ (o : Option Disk). IfSome o (λ d. IsPartDamage new.owned.store (reads_of d) file at)) (ap (λ (p : Parts). p.owned.storage.disk) fixed) there)

@@ -8,7 +8,7 @@ use Rattle.qd_catalog.specs.Versions.{version_at}
 use Rattle.qd_manifest.specs.Spelling.{schemas_in}
 use Rattle.qd_store.specs.Arriving.{IsPlaced}
 use Rattle.qd_store.specs.Calls.{Commits}
-use Rattle.qd_store.specs.Owned.{Owned}
+use Rattle.qd_store.specs.Owned.{Store}
 use Rattle.qd_store.specs.Stores.{IsStore}
 use Rattle.qd_store.proofs.OpenTold.{reads_now}
 use Rattle.qd_volume.specs.Disk.{Disk, reads_of}
@@ -18,7 +18,7 @@ use Rattle.qd_store_backend.specs.Backs.{CommitsTo, IsNextTold, IsParts, IsTold,
 use Rattle.qd_store_backend.proofs.Told.{histories_one, told_of}
 
 -- two histories that are told of a store are one
-told_one : OneEntryIsRead → (o : Owned) (g h : List Entry) → IsTold o g → IsTold o h → g ≡ h
+told_one : OneEntryIsRead → (o : Store) (g h : List Entry) → IsTold o g → IsTold o h → g ≡ h
 told_one one o g h (disk, next, is, holds) (other, last, also, stands) =
     let same : disk ≡ other = by o.storage.disk is also in
     let stood : IsStore o.store h last disk = subst (λ (d : Disk). IsStore o.store h last d) (sym same) stands in
@@ -27,7 +27,7 @@ told_one one o g h (disk, next, is, holds) (other, last, also, stands) =
     by : (d : Option Disk) → d ≡ Some disk → d ≡ Some other → disk ≡ other
     by d a b = cc
 
-module _ (T E : Type 0) (old new : Owned) (Own : Entry → Type 0) where
+module _ (T E : Type 0) (old new : Store) (Own : Entry → Type 0) where
   module _ (done : T) (told : Told old.storage.disk new.storage.disk (Commits {T = T} {E = E} (Ok done) old.store new.store Own)) where
     -- the history with the transaction
     committed : (h : List Entry) → IsTold old h → (e : Entry) × Own e × IsTold new (h ++ e ∷ [])
@@ -57,7 +57,7 @@ module _ (T E : Type 0) (old new : Owned) (Own : Entry → Type 0) where
 placed_count : (limits : Limits) (old new : Sequence) (writer : Option ℕ) → IsPlaced limits old new writer → length new.refs ≡ length old.refs + 1
 placed_count limits old new writer placed = omega (arith, simp length-append at (ap length placed.refs))
 
-pub commits_to : (T E : Type 0) (old : Parts) (owned : Owned) (then : Option (List Entry)) (Own : Entry → Type 0) (done : T) (writer : Option ℕ)
+pub commits_to : (T E : Type 0) (old : Parts) (owned : Store) (then : Option (List Entry)) (Own : Entry → Type 0) (done : T) (writer : Option ℕ)
     → OneEntryIsRead → IfSome old.history (IsTold old.owned)
     → IsPlaced old.owned.store.limits old.owned.store.sequence owned.store.sequence writer → owned.store.versions ≡ old.owned.store.versions → owned.store.limits ≡ old.owned.store.limits
     → Told old.owned.storage.disk owned.storage.disk (Commits {T = T} {E = E} (Ok done) old.owned.store owned.store Own) → IsNextTold old.history owned then
@@ -71,7 +71,7 @@ commits_to T E old owned then Own done writer one told placed versions limits co
 }
 
 -- a source whose store commits nothing keeps what it is
-pub still_parts : (T E : Type 0) (old : Parts) (owned : Owned) (Own : Entry → Type 0) (fault : E) → IsParts old → owned.store.versions ≡ old.owned.store.versions
+pub still_parts : (T E : Type 0) (old : Parts) (owned : Store) (Own : Entry → Type 0) (fault : E) → IsParts old → owned.store.versions ≡ old.owned.store.versions
     → Told old.owned.storage.disk owned.storage.disk (Commits {T = T} {E = E} (Err fault) old.owned.store owned.store Own)
     → IsParts (record { owned = owned; history = old.history; schemas = old.schemas; damages = old.damages; last_damage = None })
 still_parts T E old owned Own fault is same told = record {
@@ -82,7 +82,7 @@ still_parts T E old owned Own fault is same told = record {
 }
 
 -- and so does one whose store commits a transaction
-pub next_parts : (old : Parts) (owned : Owned) (then : Option (List Entry)) → IsParts old → owned.store.versions ≡ old.owned.store.versions → IsNextTold old.history owned then
+pub next_parts : (old : Parts) (owned : Store) (then : Option (List Entry)) → IsParts old → owned.store.versions ≡ old.owned.store.versions → IsNextTold old.history owned then
     → IsParts (record { owned = owned; history = then; schemas = old.schemas; damages = old.damages; last_damage = None })
 next_parts old owned then is same next = record {
   schemas = is.schemas ∙ sym (ap (λ (v : versions.Store). schemas_in (shape_in (version_at v.versions v.versions.current))) same);

@@ -8,8 +8,8 @@ use Rattle.qd_sequencer.specs.declared.fault.Committed.{Committed}
 use Rattle.qd_sequencer.specs.Sequences.{IsAsBefore, Sequence, chosen}
 use Rattle.qd_store.specs.Arriving.{IsPlaced, is_kept}
 use Rattle.qd_store.specs.Laws.{WritersGoOn}
-use Rattle.qd_store.specs.Owned.{Owned}
-use Rattle.qd_store.specs.Stores.{Store}
+use Rattle.qd_store.specs.Owned.{Store}
+use Rattle.qd_store.specs.Stores.{Book}
 use Rattle.qd_versions.specs.Stores as versions
 use Rattle.qd_wal.specs.declared.writer.WalWriter.{WalWriter}
 use Rattle.qd_store_backend.specs.Backs.{AreUsual, Back, CommitsTo, GoesOn, IsAlone, IsBack, IsWriterKept, IsLeftOf, Parts, ShowsAll, current, kept_of, n_in, writer_behind}
@@ -18,18 +18,18 @@ use Rattle.qd_store_backend.proofs.Leaving.{left_same}
 -- ---- a commit
 
 -- what is known of the writers behind it
-pub record Written (old new : Owned) (writer : Option ℕ) (done : Result Committed CommitFault) : Type 0 where
+pub record Written (old new : Store) (writer : Option ℕ) (done : Result Committed CommitFault) : Type 0 where
   pub law : WritersGoOn
   pub number : IfOk done (λ d. d.writer ≡ (chosen old.store.sequence writer).wal)
   pub place : OnOk done (IsPlaced old.store.limits old.store.sequence new.store.sequence writer)
   pub stays : OnErr done (IsAsBefore old.store.sequence new.store.sequence)
 
-kept_writer : (old new : Owned) (writer : Option ℕ) (done : Result Committed CommitFault) → Written old new writer done → IsWriterKept old writer → IsWriterKept new (writer_behind writer done)
+kept_writer : (old new : Store) (writer : Option ℕ) (done : Result Committed CommitFault) → Written old new writer done → IsWriterKept old writer → IsWriterKept new (writer_behind writer done)
 kept_writer old new writer (Ok d) w kept =
     subst (λ (n : ℕ). is_kept new.store.sequence.writers n ≡ true) (sym w.number) (w.law.kept old.store.limits old.store.sequence new.store.sequence writer w.place)
 kept_writer old new writer (Err fault) w kept = subst (λ (l : List WalWriter). IfSome writer (λ n. is_kept l n ≡ true)) (sym w.stays.writers) kept
 
-one_writer : (old new : Owned) (writer : Option ℕ) (n : ℕ) (done : Result Committed CommitFault) → Written old new writer done → IsWriterKept old writer → writer ≡ Some n
+one_writer : (old new : Store) (writer : Option ℕ) (n : ℕ) (done : Result Committed CommitFault) → Written old new writer done → IsWriterKept old writer → writer ≡ Some n
     → (writer_behind writer done ≡ Some n) × (length new.store.sequence.writers ≡ length old.store.sequence.writers)
 one_writer old new writer n (Ok d) w kept is =
     let there : is_kept old.store.sequence.writers n ≡ true = subst (λ (o : Option ℕ). IfSome o (λ m. is_kept old.store.sequence.writers m ≡ true)) is kept in
@@ -88,11 +88,11 @@ pub asked_back : (old : Back) (p : Parts) → IsBack old → kept_of p ≡ kept_
 asked_back old p kept fixed =
     let store : p.owned.store ≡ old.parts.owned.store = ap (λ (q : Parts). q.owned.store) fixed in
     record {
-      since = subst (λ (s : Store). old.before ≤ length s.sequence.refs) (sym store) kept.since;
-      within = subst (λ (s : Store). n_in (current s) ≤ length s.sequence.refs) (sym store) kept.within;
-      usual = subst (λ (s : Store). AreUsual s.limits) (sym store) kept.usual;
-      alone = subst (λ (s : Store). (row : ℕ) → IsLive s.versions.versions row → row ≡ s.versions.versions.current) (sym store) kept.alone;
-      writer = subst (λ (s : Store). IfSome old.writer (λ n. is_kept s.sequence.writers n ≡ true)) (sym store) kept.writer;
+      since = subst (λ (s : Book). old.before ≤ length s.sequence.refs) (sym store) kept.since;
+      within = subst (λ (s : Book). n_in (current s) ≤ length s.sequence.refs) (sym store) kept.within;
+      usual = subst (λ (s : Book). AreUsual s.limits) (sym store) kept.usual;
+      alone = subst (λ (s : Book). (row : ℕ) → IsLive s.versions.versions row → row ≡ s.versions.versions.current) (sym store) kept.alone;
+      writer = subst (λ (s : Book). IfSome old.writer (λ n. is_kept s.sequence.writers n ≡ true)) (sym store) kept.writer;
       left = subst (λ (h : Option (List Entry)). IsLeftOf h p.owned old.left) (sym (ap (λ (q : Parts). q.history) fixed)) (left_same old.parts.history old.parts.owned p.owned old.left store (ap (λ (q : Parts). q.owned.storage.disk) fixed) kept.left);
     }
 

@@ -33,7 +33,7 @@ use Rattle.qd_session.specs.Legal.{Answers, Handles}
 use Rattle.qd_session.specs.Looks.{Extends, Grows, look_at}
 use Rattle.qd_store.specs.Arriving.{SaysLines, SaysStmt}
 use Rattle.qd_store.specs.Faults.{Causes, IsFullFor, IsSettled}
-use Rattle.qd_store.specs.Stores.{Store}
+use Rattle.qd_store.specs.Stores.{Book}
 use Rattle.qd_sql_ast.specs.declared.tree.Stmt.{Stmt}
 use Rattle.qd_versions.specs.Stores as versions
 use Rattle.qd_store_backend.specs.Backs.{AreToldCount, AreToldSchemas, Back, CommitsTo, IsBack, IsLeftOf, IsTold, IsToldBehind, LeavesOwn, Parts, back_shown, current, n_in}
@@ -186,7 +186,7 @@ batch_refused schemas time batch text reads None are count count' counted same c
 batch_refused schemas time batch text reads (Some h) are count count' counted same c line fault =
     (c, refl, (batch, reads, subst (λ (s : List Schema). IsLineFault s time batch (lines.Refused c line)) (are ∙ ap schemas_of (sym (all_first h count count' counted same))) fault))
 
-batch_full : (s : Store) (time : ℕ) (batch : Reading) (text : List ℕ) → IsReading text batch → (o : Option (List Entry)) → IfSome o (λ h. s.sequence.schemas ≡ schemas_of (after h))
+batch_full : (s : Book) (time : ℕ) (batch : Reading) (text : List ℕ) → IsReading text batch → (o : Option (List Entry)) → IfSome o (λ h. s.sequence.schemas ≡ schemas_of (after h))
     → (count' : ℕ) → IfSome o (λ h. length s.sequence.refs ≡ length h) → count' ≡ length s.sequence.refs → s.limits.max_txns ≡ MAX_TXNS → IsFullFor s (SaysLines s.sequence.schemas time batch)
     → IsFullBatch o count' time text (number_of code.Full) 0
 batch_full s time batch text reads None are count' counted same usual full = (refl, refl, (let full = full.0 in omega (arith, full, usual, same)), tt)
@@ -252,7 +252,7 @@ stmt_refused schemas s None are count count' counted same c place is = (schemas,
 stmt_refused schemas s (Some h) are count count' counted same c place is =
     subst (λ (l : List Schema). IsRefusalOver l s (number_of c) place) (are ∙ ap schemas_of (sym (all_first h count count' counted same))) (_, is, refl, refl)
 
-stmt_full : (s : Store) (stmt : Stmt) (o : Option (List Entry)) → IfSome o (λ h. s.sequence.schemas ≡ schemas_of (after h))
+stmt_full : (s : Book) (stmt : Stmt) (o : Option (List Entry)) → IfSome o (λ h. s.sequence.schemas ≡ schemas_of (after h))
     → (count' : ℕ) → IfSome o (λ h. length s.sequence.refs ≡ length h) → count' ≡ length s.sequence.refs → s.limits.max_txns ≡ MAX_TXNS → IsFullFor s (SaysStmt s.sequence.schemas stmt)
     → IsFullWrite o count' stmt (number_of code.Full) 0
 stmt_full s stmt None are count' counted same usual full = (refl, refl, (let full = full.0 in omega (arith, full, usual, same)), tt)

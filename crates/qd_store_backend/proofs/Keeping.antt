@@ -6,8 +6,8 @@ use Rattle.qd_sequencer.specs.Histories.{IsPending}
 use Rattle.qd_store.specs.Calls.{MayBe, MayShow, ShowsOneOf}
 use Rattle.qd_store.specs.Found.{version_of}
 use Rattle.qd_store.specs.Laws.{StoresAreWhole}
-use Rattle.qd_store.specs.Owned.{Owned}
-use Rattle.qd_store.specs.Stores.{IsStore, Store}
+use Rattle.qd_store.specs.Owned.{Store}
+use Rattle.qd_store.specs.Stores.{IsStore, Book}
 use Rattle.qd_txnfile.specs.declared.half.Other.{Other}
 use Rattle.qd_txnfile.specs.declared.half.Other.TheVariants as other
 use Rattle.qd_txnfile.specs.States.{HasNext, IsDirty}
@@ -30,7 +30,7 @@ newer (other.Written n) current next dirty is = absurd dirty
 newer other.Older current next dirty is = absurd dirty
 newer other.Closed current next dirty is = absurd dirty
 
-module _ (s : Store) (h : List Entry) (next : Version) (disk : Disk) (holds : IsStore s h next disk) where
+module _ (s : Book) (h : List Entry) (next : Version) (disk : Disk) (holds : IsStore s h next disk) where
   shows_no_less : (v : Version) → MayShow s next v → n_in (current s) ≤ v.n
   shows_no_less v (inl is) =
       let same : v.n ≡ n_in (current s) = ap (λ (w : Version). w.n) is ∙ number_of s.versions.versions.next_block (current s) in
@@ -57,7 +57,7 @@ module _ (s : Store) (h : List Entry) (next : Version) (disk : Disk) (holds : Is
   keeps_one : StoresAreWhole → versions.IsStore s.versions → (left : Option Entry) → IsOnly left (IsPending s.sequence.pending disk) → Keeps h left (n_in (current s)) disk
   keeps_one law sound left only = record { whole = law.whole s h next disk sound holds; each = λ image now. leaves_one left only image (law.shows s h next disk sound holds image now) }
 
-pub keeps_told : StoresAreWhole → (o : Owned) → versions.IsStore o.store.versions → (history : Option (List Entry)) → IfSome history (IsTold o) → (left : Option Entry) → IsLeftOf history o left
+pub keeps_told : StoresAreWhole → (o : Store) → versions.IsStore o.store.versions → (history : Option (List Entry)) → IfSome history (IsTold o) → (left : Option Entry) → IsLeftOf history o left
     → IfSome history (λ h. KeepsTold o.storage.disk h left (n_in (current o.store)))
 keeps_told law o sound None told left is = tt
 keeps_told law o sound (Some h) (disk, next, at, holds) left is =

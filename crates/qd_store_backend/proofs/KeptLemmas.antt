@@ -18,9 +18,9 @@ use Rattle.qd_catalog.specs.declared.version.Version as catalog
 use Rattle.qd_catalog.specs.Versions.{version_at}
 use Rattle.qd_durable.specs.declared.fault.LogFault.{LogFault}
 use Rattle.qd_durable.specs.declared.fault.LogFault.TheVariants as damage
-use Rattle.qd_store.specs.Owned.{Owned}
+use Rattle.qd_store.specs.Owned.{Store}
 use Rattle.qd_store.specs.Reading.{IsShownPart}
-use Rattle.qd_store.specs.Stores.{IsStore, Store}
+use Rattle.qd_store.specs.Stores.{IsStore, Book}
 use Rattle.qd_txnfile.specs.Versions.{Version}
 use Rattle.qd_volume.specs.Disk.{Disk, reads_of}
 use Rattle.qd_versions.specs.Stores as versions
@@ -102,13 +102,13 @@ module _ {Z : Type 0} where
 -- ---- behind a commit
 
 -- no more is shown than there is
-shown_few : (owned : Owned) (h : List Entry) → IsTold owned h → n_in (current owned.store) ≤ length h
+shown_few : (owned : Store) (h : List Entry) → IsTold owned h → n_in (current owned.store) ≤ length h
 shown_few owned h (disk, next, same, is) = by (current owned.store) refl where
   by : (o : Option catalog.Version) → current owned.store ≡ o → n_in o ≤ length h
   by None at = omega arith
   by (Some x) at = (is.versions.live owned.store.versions.versions.current x at).few
 
-module _ (old new : Owned) (same : new.store.versions ≡ old.store.versions) where
+module _ (old new : Store) (same : new.store.versions ≡ old.store.versions) where
   number_stays : n_in (current new.store) ≡ n_in (current old.store)
   number_stays = ap (λ (v : versions.Store). n_in (version_at v.versions v.versions.current)) same
 
@@ -121,10 +121,10 @@ module _ (old new : Owned) (same : new.store.versions ≡ old.store.versions) wh
       ∙ ap (λ (l : List Entry). Some (after l)) (take-append-le (n_in (current old.store)) h (e ∷ []) (shown_few old h told))
 
 -- a source with another volume and history, and the same versions
-abbrev with_store : Parts → Owned → Option (List Entry) → Parts
+abbrev with_store : Parts → Store → Option (List Entry) → Parts
 with_store p owned history = record { owned = owned; history = history; schemas = p.schemas; damages = p.damages; last_damage = p.last_damage }
 
-module _ {Z : Type 0} (p : Parts) (owned : Owned) (kept : List ((ℕ × ℕ) × Arc Block Z)) (same : owned.store.versions ≡ p.owned.store.versions) where
+module _ {Z : Type 0} (p : Parts) (owned : Store) (kept : List ((ℕ × ℕ) × Arc Block Z)) (same : owned.store.versions ≡ p.owned.store.versions) where
   parts_stay : map (λ t. t.parts) (shape_in (current owned.store)) ≡ map (λ t. t.parts) (shape_in (current p.owned.store))
   parts_stay = ap (λ (v : versions.Store). map (λ t. t.parts) (shape_in (version_at v.versions v.versions.current))) same
 
@@ -139,7 +139,7 @@ module _ {Z : Type 0} (p : Parts) (owned : Owned) (kept : List ((ℕ × ℕ) × 
 -- ---- behind a sweep
 
 -- a source whose store shows the same version stays what it is, with the blocks that are kept
-pub keeping_swept : {Z : Type 0} (p : Parts) (owned : Owned) (last : Option (ℕ × ℕ)) (kept : List ((ℕ × ℕ) × Arc Block Z)) → IsKeeping p kept → current owned.store ≡ current p.owned.store → StaysTold p.owned owned → IsLastDamage owned last
+pub keeping_swept : {Z : Type 0} (p : Parts) (owned : Store) (last : Option (ℕ × ℕ)) (kept : List ((ℕ × ℕ) × Arc Block Z)) → IsKeeping p kept → current owned.store ≡ current p.owned.store → StaysTold p.owned owned → IsLastDamage owned last
     → IsKeeping (record { owned = owned; history = p.history; schemas = p.schemas; damages = p.damages; last_damage = last }) kept
 keeping_swept p owned last kept is same stays damage = record {
   parts = record {
@@ -158,7 +158,7 @@ keeping_swept p owned last kept is same stays damage = record {
 -- ---- behind a read
 
 -- what a read of a told store finds is never damage
-no_damage : (owned : Owned) (row table i file at : ℕ) → IfSome owned.storage.disk (λ disk. (h : List Entry) (next : Version) → IsStore owned.store h next disk → IsShownPart (Err (damage.Damaged file at)) owned.store h row table i)
+no_damage : (owned : Store) (row table i file at : ℕ) → IfSome owned.storage.disk (λ disk. (h : List Entry) (next : Version) → IsStore owned.store h next disk → IsShownPart (Err (damage.Damaged file at)) owned.store h row table i)
     → (h : List Entry) → IsTold owned h → ⊥
 no_damage owned row table i file at shown h (disk, next, same, is) =
     subst (λ (o : Option Disk). IfSome o (λ disk. (h : List Entry) (next : Version) → IsStore owned.store h next disk → ⊥)) same shown h next is
@@ -171,20 +171,20 @@ none_damaged p row table i file at damages fault are damaged shown h is =
     absurd (no_damage p.owned row table i file at found h (subst (λ (o : Option (List Entry)). IfSome o (IsTold p.owned)) is are.told))
 
 -- a source whose store is as it was stays what it is
-pub keeping_read : {Z : Type 0} (p : Parts) (owned : Owned) (damages : ℕ) (last : Option (ℕ × ℕ)) (kept : List ((ℕ × ℕ) × Arc Block Z)) → IsKeeping p kept → owned.store ≡ p.owned.store → owned.storage.disk ≡ p.owned.storage.disk
+pub keeping_read : {Z : Type 0} (p : Parts) (owned : Store) (damages : ℕ) (last : Option (ℕ × ℕ)) (kept : List ((ℕ × ℕ) × Arc Block Z)) → IsKeeping p kept → owned.store ≡ p.owned.store → owned.storage.disk ≡ p.owned.storage.disk
     → ((h : List Entry) → p.history ≡ Some h → damages ≡ 0) → IsLastDamage owned last → IsKeeping (record { owned = owned; history = p.history; schemas = p.schemas; damages = damages; last_damage = last }) kept
 keeping_read p owned damages last kept is same stays whole damage =
-    let swept = keeping_swept p owned last kept is (ap (λ (s : Store). current s) same) (λ h told. read_told p.owned owned h same stays told) damage in
+    let swept = keeping_swept p owned last kept is (ap (λ (s : Book). current s) same) (λ h told. read_told p.owned owned h same stays told) damage in
     record {
       parts = record { schemas = swept.parts.schemas; told = swept.parts.told; whole = whole; damage = damage };
       blocks = swept.blocks;
     }
   where
-    read_told : (old new : Owned) (h : List Entry) → new.store ≡ old.store → new.storage.disk ≡ old.storage.disk → IsTold old h → IsTold new h
-    read_told old new h same stays (disk, next, on, is) = (disk, next, stays ∙ on, subst (λ (s : Store). IsStore s h next disk) (sym same) is)
+    read_told : (old new : Store) (h : List Entry) → new.store ≡ old.store → new.storage.disk ≡ old.storage.disk → IsTold old h → IsTold new h
+    read_told old new h same stays (disk, next, on, is) = (disk, next, stays ∙ on, subst (λ (s : Book). IsStore s h next disk) (sym same) is)
 
 -- the last damage is there still where the store and its volume are as they were
-pub damage_stays : (old new : Owned) (last : Option (ℕ × ℕ)) → new.store ≡ old.store → new.storage.disk ≡ old.storage.disk → IsLastDamage old last → IsLastDamage new last
+pub damage_stays : (old new : Store) (last : Option (ℕ × ℕ)) → new.store ≡ old.store → new.storage.disk ≡ old.storage.disk → IsLastDamage old last → IsLastDamage new last
 damage_stays old new last same stays is =
-    subst (λ (s : Store). IsLastDamage (record { store = s; storage = new.storage }) last) (sym same)
+    subst (λ (s : Book). IsLastDamage (record { store = s; storage = new.storage }) last) (sym same)
     (subst (λ (o : Option Disk). IfSome last (λ place. IfSome o (λ disk. IsPartDamage old.store (reads_of disk) place.0 place.1))) (sym stays) is)

@@ -19,12 +19,12 @@ use Rattle.qd_apply.specs.Stands.{rows_in_parts, StandsFor}
 use Rattle.qd_manifest.specs.declared.shape.TableParts.{TableParts}
 use Rattle.qd_manifest.specs.Spelling.{no_part, schemas_in, AreParts}
 use Rattle.qd_scan.specs.Sources.{no_schema, no_table, part_at, parts_at, rows_at, rows_in_part, schema_at, table_rows, HasRowsOf, IsBlockOf, IsSource, SourceView, Tells}
-use Rattle.qd_store.specs.Owned.{Owned}
+use Rattle.qd_store.specs.Owned.{Store}
 use Rattle.qd_store.specs.Reading.{IsShownPart}
 use Rattle.qd_column_files.specs.Reading.{IsBlockRead}
 use Rattle.qd_durable.specs.declared.fault.LogFault.{LogFault}
 use Rattle.qd_durable.specs.declared.fault.LogFault.TheVariants as fault
-use Rattle.qd_store.specs.Stores.{IsStore, Store}
+use Rattle.qd_store.specs.Stores.{IsStore, Book}
 use Rattle.qd_store.proofs.PartsRead.{part_rows}
 use Rattle.qd_txnfile.specs.Versions.{Version}
 use Rattle.qd_versions.specs.Reading.{IsPartAt}
@@ -125,7 +125,7 @@ version_there None live = absurd (false≢true live)
 version_there (Some x) live = (x, refl)
 
 -- its tables stand for the first transactions, where they are told
-told_held : (o : Option (List Entry)) (owned : Owned) (x : catalog.Version) → current owned.store ≡ Some x → IfSome o (IsTold owned) → IfSome (database_in o (n_in (current owned.store))) (AreHeld (shape_in (current owned.store)))
+told_held : (o : Option (List Entry)) (owned : Store) (x : catalog.Version) → current owned.store ≡ Some x → IfSome o (IsTold owned) → IfSome (database_in o (n_in (current owned.store))) (AreHeld (shape_in (current owned.store)))
 told_held None owned x at told = tt
 told_held (Some h) owned x at told =
     let (disk, next, same, is) = told in
@@ -200,10 +200,10 @@ module _ (p q : Parts) (row table i : ℕ) (same : p ≡ q) (are : IsParts p) (i
           ∙ ap (λ (n : ℕ). rows_in_part has_part.t.schema.time_col (rows_at (first h n) table) has_part.part) has_part.n)
 
   -- damage of its files is that of a part of the current version
-  pub damage_found : (owned : Owned) (file at : ℕ) (cause : LogFault) → cause ≡ fault.Damaged file at → owned.store ≡ p.owned.store → owned.storage.disk ≡ p.owned.storage.disk
+  pub damage_found : (owned : Store) (file at : ℕ) (cause : LogFault) → cause ≡ fault.Damaged file at → owned.store ≡ p.owned.store → owned.storage.disk ≡ p.owned.storage.disk
       → ((t : TableParts) (part : Part) → IsPartAt p.owned.store.versions.versions row table i t part → IfSome p.owned.storage.disk (λ disk. IsBlockRead (Err cause) t.schema part (reads_of disk))) → IsPartDamaged owned file at
   damage_found owned file at cause damaged store disk read =
-      subst (λ (s : Store). IsPartDamaged (record { store = s; storage = owned.storage }) file at) (sym store)
+      subst (λ (s : Book). IsPartDamaged (record { store = s; storage = owned.storage }) file at) (sym store)
       (subst (λ (o : Option Disk). IfSome o (λ d. IsPartDamage p.owned.store (reads_of d) file at)) (sym disk)
       (by p.owned.storage.disk (subst (λ (f : LogFault). IfSome p.owned.storage.disk (λ disk. IsBlockRead (Err f) has_part.t.schema has_part.part (reads_of disk))) damaged (read has_part.t has_part.part has_part.at))))
     where

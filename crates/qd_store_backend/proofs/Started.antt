@@ -10,8 +10,8 @@ use Rattle.qd_store.specs.declared.fault.OpenFault.TheVariants as fault
 use Rattle.qd_store.specs.Calls.{Creates}
 use Rattle.qd_store.specs.Found.{Found, IsUnmade, version_of}
 use Rattle.qd_store.specs.Opening.{Opens}
-use Rattle.qd_store.specs.Owned.{IsOfVolume, Left, Owned, storage_in, store_in}
-use Rattle.qd_store.specs.Stores.{IsStore, Store}
+use Rattle.qd_store.specs.Owned.{IsOfVolume, Left, Store, storage_in, store_in}
+use Rattle.qd_store.specs.Stores.{IsStore, Book}
 use Rattle.qd_txnfile.specs.Versions.{Version}
 use Rattle.qd_volume.specs.Disk.{Disk, reads_of}
 use Rattle.qd_store_backend.specs.Volumes.{Holds, IsUnopened, Starts}
@@ -19,10 +19,10 @@ use Rattle.qd_store.proofs.OpenTold.{reads_now}
 
 -- ---- a store is opened
 
-stands_found : (s : Store) (f : Found) (h : List Entry) (after : Disk) → f.history ≡ h → IsStore s f.history (version_of f) after → IsStore s h (version_of f) after
+stands_found : (s : Book) (f : Found) (h : List Entry) (after : Disk) → f.history ≡ h → IsStore s f.history (version_of f) after → IsStore s h (version_of f) after
 stands_found s f h after is stands = subst (λ (l : List Entry). IsStore s l (version_of f) after) is stands
 
-opened_ok : (s : Store) (before after : Disk) → Opens (Ok s) before after → Starts (Ok s) before after
+opened_ok : (s : Book) (before after : Disk) → Opens (Ok s) before after → Starts (Ok s) before after
 opened_ok s before after o = record { whole = λ made. (o.found.2, o.reads); stands = by }
   where
     by : (h : List Entry) (n : ℕ) → Holds before h n → (s.versions.root.n ≡ n) × (next : Version) × IsStore s h next after
@@ -31,7 +31,7 @@ opened_ok s before after o = record { whole = λ made. (o.found.2, o.reads); sta
         let found = o.found.1 whole f finds in
         (found.shown ∙ number, version_of f, stands_found s f h after is (found.stands (version_of f)))
 
-pub opened_starts : (before after : Disk) (r : Result Store OpenFault) → (r ≡ Err fault.NotMade → Starts r before after) → Opens r before after → Starts r before after
+pub opened_starts : (before after : Disk) (r : Result Book OpenFault) → (r ≡ Err fault.NotMade → Starts r before after) → Opens r before after → Starts r before after
 opened_starts before after (Ok s) not o = opened_ok s before after o
 opened_starts before after (Err fault.NotMade) not o = not refl
 opened_starts before after (Err (fault.Damaged file at)) not o = record { made = o.found.0; damaged = o.found.1; not_whole = o.found.2; reads = o.reads }
@@ -47,7 +47,7 @@ unmade_stays before mid leaves unmade image now made =
     unmade from.0 from.1 (subst (λ (bytes : List ℕ). StandsAt bytes 0 (1 ∷ [])) (from.2 0 refl) made)
 
 module _ (before mid after : Disk) (o : Opens (Err fault.NotMade) before mid) where
-  made_ok : (s : Store) → Creates {E = OpenFault} (Ok s) mid after → s.versions.root.n ≡ 0 → Starts (Ok s) before after
+  made_ok : (s : Book) → Creates {E = OpenFault} (Ok s) mid after → s.versions.root.n ≡ 0 → Starts (Ok s) before after
   made_ok s c none = record { whole = λ made. absurd (o.found made); stands = by }
     where
       by : (h : List Entry) (n : ℕ) → Holds before h n → (s.versions.root.n ≡ n) × (next : Version) × IsStore s h next after
@@ -66,15 +66,15 @@ module _ (before mid after : Disk) (o : Opens (Err fault.NotMade) before mid) wh
   by_cause l fault.Vol is cause c = made_err fault.Vol c
   by_cause l fault.Memory is cause c = made_err fault.Memory c
 
-  pub made_starts : (r : Result Owned Left) → IfOk r (λ s. (s.store.sequence.refs ≡ []) × (s.store.versions.root.n ≡ 0)) → IfErr r IsOfVolume → Creates (store_in r) mid after → Starts (store_in r) before after
+  pub made_starts : (r : Result Store Left) → IfOk r (λ s. (s.store.sequence.refs ≡ []) × (s.store.versions.root.n ≡ 0)) → IfErr r IsOfVolume → Creates (store_in r) mid after → Starts (store_in r) before after
   made_starts (Ok s) empty cause c = made_ok s.store c empty.1
   made_starts (Err l) empty cause c = by_cause l l.why refl cause c
 
 -- what was opened and is not made is made
-pub started : (old mid : Option Disk) (r : Result Owned Left) → Told old mid (Opens (Err fault.NotMade)) → IfOk r (λ s. (s.store.sequence.refs ≡ []) × (s.store.versions.root.n ≡ 0)) → IfErr r IsOfVolume
+pub started : (old mid : Option Disk) (r : Result Store Left) → Told old mid (Opens (Err fault.NotMade)) → IfOk r (λ s. (s.store.sequence.refs ≡ []) × (s.store.versions.root.n ≡ 0)) → IfErr r IsOfVolume
     → Told mid (storage_in r).disk (Creates (store_in r)) → Told old (storage_in r).disk (Starts (store_in r))
 started old mid r opens empty cause creates =
     told_both (Opens (Err fault.NotMade)) (Creates (store_in r)) (Starts (store_in r)) old mid (storage_in r).disk (λ before between after o c. made_starts before between after o r empty cause c) opens creates
 
-pub opened : (old new : Option Disk) (r : Result Store OpenFault) → (r ≡ Err fault.NotMade → ⊥) → Told old new (Opens r) → Told old new (Starts r)
+pub opened : (old new : Option Disk) (r : Result Book OpenFault) → (r ≡ Err fault.NotMade → ⊥) → Told old new (Opens r) → Told old new (Starts r)
 opened old new r not told = told_map (Opens r) (Starts r) old new (λ before after o. opened_starts before after r (λ is. absurd (not is)) o) told

@@ -15,8 +15,8 @@ use Rattle.qd_store.specs.Calls.{Stands}
 use Rattle.qd_store.specs.Drafts.{Drafted, IsDraftedFrom, IsMerged, IsMergedOver, IsNextOf, Merging, between}
 use Rattle.qd_store.specs.Faults.{IsMoved}
 use Rattle.qd_store.specs.Merges.{PublishesMerged}
-use Rattle.qd_store.specs.Owned.{Owned}
-use Rattle.qd_store.specs.Stores.{IsStore, Store}
+use Rattle.qd_store.specs.Owned.{Store}
+use Rattle.qd_store.specs.Stores.{IsStore, Book}
 use Rattle.qd_store.proofs.Rounds.{Merges}
 use Rattle.qd_txnfile.specs.Versions.{Version}
 use Rattle.qd_versions.specs.Publishing.{IsFull}
@@ -38,7 +38,7 @@ shown_same a b list cur = ap₂ (λ (l : List (Option catalog.Version)) (row : �
 -- ---- sweeps
 
 -- what a call keeps that changes neither the history nor what the current version shows
-pub record Keeps (old new : Owned) : Type 0 where
+pub record Keeps (old new : Store) : Type 0 where
   pub alone : IsOnlyOne old.store.versions.versions → IsOnlyOne new.store.versions.versions
   pub shown : current new.store ≡ current old.store
   pub sequence : new.store.sequence ≡ old.store.sequence
@@ -47,10 +47,10 @@ pub record Keeps (old new : Owned) : Type 0 where
   pub left : LeavesNoOther old new
   pub faults : old.storage.faults ≤ new.storage.faults
 
-pub keeps_all : (o : Owned) → Keeps o o
+pub keeps_all : (o : Store) → Keeps o o
 keeps_all o = record { alone = λ a. a; shown = refl; sequence = refl; limits = refl; told = λ h is. is; left = leaves_here o; faults = omega arith }
 
-pub keeps_both : (a b c : Owned) → Keeps a b → Keeps b c → Keeps a c
+pub keeps_both : (a b c : Store) → Keeps a b → Keeps b c → Keeps a c
 keeps_both a b c k l = record {
   alone = λ x. l.alone (k.alone x);
   shown = l.shown ∙ k.shown;
@@ -61,12 +61,12 @@ keeps_both a b c k l = record {
   faults = omega (arith, k.faults, l.faults);
 }
 
-pub stands_told : (old new : Owned) → Told old.storage.disk new.storage.disk (Stands old.store new.store) → StaysTold old new
+pub stands_told : (old new : Store) → Told old.storage.disk new.storage.disk (Stands old.store new.store) → StaysTold old new
 stands_told old new told h (disk, next, is, holds) =
     let by = told_of (Stands old.store new.store) old.storage.disk new.storage.disk disk is told in
     (by.0, next, by.1, by.2.behind h next holds)
 
-module _ (old new : Owned) (limits : new.store.limits ≡ old.store.limits) (sequence : new.store.sequence ≡ old.store.sequence) (told : Told old.storage.disk new.storage.disk (Stands old.store new.store)) where
+module _ (old new : Store) (limits : new.store.limits ≡ old.store.limits) (sequence : new.store.sequence ≡ old.store.sequence) (told : Told old.storage.disk new.storage.disk (Stands old.store new.store)) where
   keeps_versions : new.store.versions.versions.versions ≡ old.store.versions.versions.versions → new.store.versions.versions.current ≡ old.store.versions.versions.current → old.storage.faults ≤ new.storage.faults → Keeps old new
   keeps_versions list cur faults = record {
     alone = alone_same old.store.versions.versions new.store.versions.versions list cur;
@@ -94,9 +94,9 @@ module _ (old new : Owned) (limits : new.store.limits ≡ old.store.limits) (seq
       keeps_versions (ap (λ (v : Versions). v.versions) same) (ap (λ (v : Versions). v.current) same) (counted_up (Err fault) counted)
 
 -- the last sweep of a queue: it was empty, or the volume failed, or there was no memory
-module _ (first old new : Owned) (before : Keeps first old) where
+module _ (first old new : Store) (before : Keeps first old) where
   pub swept_all : {T : Type 0} (done : T) → (old.store.versions.versions.retired ≡ []) × (new ≡ old) → IsSwept (Ok done) first new
-  swept_all done idle = ap (λ (o : Owned). o.store.versions.versions.retired) idle.1 ∙ idle.0
+  swept_all done idle = ap (λ (o : Store). o.store.versions.versions.retired) idle.1 ∙ idle.0
 
   pub swept_fault : (T : Type 0) (fault : IoFault) → Counts {T = Bool} old.storage.faults new.storage.faults (Err fault) → IsSwept {T = T} (Err fault) first new
   swept_fault T io.Failed (most, inl less) = let le = before.faults in inl (omega (arith, le, less))
@@ -123,7 +123,7 @@ of_volume result v m publish.Vol is moved full over alone rows = tt
 of_volume result v m publish.Memory is moved full over alone rows = tt
 
 -- a history stays told where its merge is published, and a version is let go
-pub turned_told : (T E : Type 0) (old mid new : Owned) (row : T) (m : Merging) → Told old.storage.disk mid.storage.disk (PublishesMerged {T = T} {E = E} (Ok row) old.store mid.store m)
+pub turned_told : (T E : Type 0) (old mid new : Store) (row : T) (m : Merging) → Told old.storage.disk mid.storage.disk (PublishesMerged {T = T} {E = E} (Ok row) old.store mid.store m)
     → new.storage ≡ mid.storage → ((h : List Entry) (next : Version) (disk : Disk) → IsStore mid.store h next disk → IsStore new.store h next disk)
     → (h : List Entry) → IsTold old h → IsNextOf old.store h m → IsTold new h
 turned_told T E old mid new row m told storage holds h (disk, next, is, stands) merged =
@@ -132,14 +132,14 @@ turned_told T E old mid new row m told storage holds h (disk, next, is, stands) 
 
 -- ---- drafts
 
-pub drafted : (d : Drafted) (m : Merging) (s : Store) (h : List Entry) (upto : ℕ) → Merges d m → m.upto ≡ upto → IsDraftedFrom (Ok d) s h upto → IsNextFrom (Ok m) s h
+pub drafted : (d : Drafted) (m : Merging) (s : Book) (h : List Entry) (upto : ℕ) → Merges d m → m.upto ≡ upto → IsDraftedFrom (Ok d) s h upto → IsNextFrom (Ok m) s h
 drafted d m s h upto merges same (x, contents, at, is) =
     (x, contents, at, subst (λ (k : ℕ). IsMerged s.versions.versions.next_block x (between h x.n k) contents (first h x.n) m) (sym same) (merges s.versions.versions.next_block x (between h x.n upto) contents (first h x.n) is))
 
 -- what follows from one history follows from each
-abbrev pub FromEach : (List Entry → Type 0) → Store → Option Disk → Type 0
+abbrev pub FromEach : (List Entry → Type 0) → Book → Option Disk → Type 0
 FromEach P s o = IfSome o (λ disk. (h : List Entry) (next : Version) → IsStore s h next disk → P h)
 
-pub from_each : (P Q : List Entry → Type 0) (s : Store) (o : Option Disk) → ((h : List Entry) → P h → Q h) → FromEach P s o → FromEach Q s o
+pub from_each : (P Q : List Entry → Type 0) (s : Book) (o : Option Disk) → ((h : List Entry) → P h → Q h) → FromEach P s o → FromEach Q s o
 from_each P Q s None weaker is = tt
 from_each P Q s (Some disk) weaker is = λ h next holds. weaker h (is h next holds)

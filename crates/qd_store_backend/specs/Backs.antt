@@ -20,8 +20,8 @@ use Rattle.qd_sequencer.specs.Histories.{IsPending}
 use Rattle.qd_sequencer.specs.declared.fault.Committed.{Committed}
 use Rattle.qd_store.specs.Arriving.{is_kept}
 use Rattle.qd_store.specs.Damage.{IsDraftDamage}
-use Rattle.qd_store.specs.Owned.{Owned}
-use Rattle.qd_store.specs.Stores.{IsStore, Store}
+use Rattle.qd_store.specs.Owned.{Store}
+use Rattle.qd_store.specs.Stores.{IsStore, Book}
 use Rattle.qd_txnfile.specs.Versions.{Version}
 use Rattle.qd_versions.specs.Reading.{IsPartAt}
 use Rattle.qd_volume.specs.Disk.{Disk, Image, reads_of}
@@ -30,7 +30,7 @@ use Rattle.qd_base.specs.declared.limits.TheConstants.{MAX_TXNS}
 -- what contracts see of a source over the current version of a store
 pub record Parts : Type 0 where
   -- the store with its volume
-  pub owned : Owned
+  pub owned : Store
   -- the transactions of its history, where they are told: no code reads them
   pub history : Option (List Entry)
   -- the schemas of the current version's tables
@@ -48,7 +48,7 @@ pub record Back : Type 0 where
   pub left : Option Entry
 
 -- the current version, its tables and its number
-abbrev pub current : Store → Option catalog.Version
+abbrev pub current : Book → Option catalog.Version
 current s = version_at s.versions.versions s.versions.versions.current
 
 abbrev pub shape_in : Option catalog.Version → List TableParts
@@ -86,7 +86,7 @@ kept_of p = record {
 }
 
 -- A history is told of a store: its volume is told, and holds it.
-abbrev pub IsTold : Owned → List Entry → Type 0
+abbrev pub IsTold : Store → List Entry → Type 0
 IsTold owned h = (disk : Disk) × (next : Version) × (owned.storage.disk ≡ Some disk) × IsStore owned.store h next disk
 
 -- No damage was found where a history is told: it is that of a whole store.
@@ -94,7 +94,7 @@ abbrev pub IsToldWhole : Parts → Type 0
 IsToldWhole p = (h : List Entry) → p.history ≡ Some h → p.damages ≡ 0
 
 -- The files of a part of the current version are damaged at a byte: so they hold no block that is the part's.
-pub record IsPartDamage (s : Store) (image : Image) (file at : ℕ) : Type 0 where
+pub record IsPartDamage (s : Book) (image : Image) (file at : ℕ) : Type 0 where
   pub row : ℕ
   pub table : ℕ
   pub i : ℕ
@@ -105,19 +105,19 @@ pub record IsPartDamage (s : Store) (image : Image) (file at : ℕ) : Type 0 whe
   pub damaged : IsBlockRead (Err (fault.Damaged file at)) of.schema part image
 
 -- a place of what a volume holds is damaged, where that is told
-abbrev pub IsDamageTold : Owned → (Image → ℕ → ℕ → Type 0) → ℕ → ℕ → Type 0
+abbrev pub IsDamageTold : Store → (Image → ℕ → ℕ → Type 0) → ℕ → ℕ → Type 0
 IsDamageTold owned Damage file at = IfSome owned.storage.disk (λ disk. Damage (reads_of disk) file at)
 
 -- that of a part of the current version
-abbrev pub IsPartDamaged : Owned → ℕ → ℕ → Type 0
+abbrev pub IsPartDamaged : Store → ℕ → ℕ → Type 0
 IsPartDamaged owned file at = IsDamageTold owned (IsPartDamage owned.store) file at
 
 -- that of a draft of all transactions
-abbrev pub IsDraftDamaged : Owned → ℕ → ℕ → Type 0
+abbrev pub IsDraftDamaged : Store → ℕ → ℕ → Type 0
 IsDraftDamaged owned file at = IsDamageTold owned (IsDraftDamage owned.store (length owned.store.sequence.refs)) file at
 
 -- the last damage that was found is there still
-abbrev pub IsLastDamage : Owned → Option (ℕ × ℕ) → Type 0
+abbrev pub IsLastDamage : Store → Option (ℕ × ℕ) → Type 0
 IsLastDamage owned last = IfSome last (λ place. IsPartDamaged owned place.0 place.1)
 
 -- what a source keeps
@@ -139,7 +139,7 @@ IsOnly None P = (e : Entry) → P e → ⊥
 IsOnly (Some e) P = P e × ((x : Entry) → P x → x ≡ e)
 
 -- It is the one that may be there behind a told history; where none is told, nothing is said.
-abbrev pub IsLeftOf : Option (List Entry) → Owned → Option Entry → Type 0
+abbrev pub IsLeftOf : Option (List Entry) → Store → Option Entry → Type 0
 IsLeftOf None owned left = left ≡ None
 IsLeftOf (Some h) owned left = (disk : Disk) → owned.storage.disk ≡ Some disk → IsOnly left (IsPending owned.store.sequence.pending disk)
 
@@ -150,19 +150,19 @@ left_of (Some []) = None
 left_of (Some (e ∷ es)) = Some e
 
 -- No other than before may be left behind a told history by a call.
-abbrev pub LeavesNoOther : (old new : Owned) → Type 0
+abbrev pub LeavesNoOther : (old new : Store) → Type 0
 LeavesNoOther old new = (h : List Entry) (next : Version) (disk later : Disk) → old.storage.disk ≡ Some disk → IsStore old.store h next disk → new.storage.disk ≡ Some later
     → PendsAsBefore old.store.sequence.pending new.store.sequence.pending disk later
 
 -- that, or one of which a fact holds
-abbrev pub LeavesOwn : (old new : Owned) → (Entry → Type 0) → Type 0
+abbrev pub LeavesOwn : (old new : Store) → (Entry → Type 0) → Type 0
 LeavesOwn old new Own = (h : List Entry) (next : Version) (disk later : Disk) → old.storage.disk ≡ Some disk → IsStore old.store h next disk → new.storage.disk ≡ Some later
     → PendsOwn old.store.sequence.pending new.store.sequence.pending Own disk later
 
 -- ---- the writer by which a backend commits
 
 -- it is one that the store keeps
-abbrev pub IsWriterKept : Owned → Option ℕ → Type 0
+abbrev pub IsWriterKept : Store → Option ℕ → Type 0
 IsWriterKept owned writer = IfSome writer (λ w. is_kept owned.store.sequence.writers w ≡ true)
 
 -- the writer once a commit is answered: the one of that
@@ -207,7 +207,7 @@ back_shown b = record {
 }
 
 -- a history grew by one transaction, where it is told
-abbrev pub IsNextTold : Option (List Entry) → Owned → Option (List Entry) → Type 0
+abbrev pub IsNextTold : Option (List Entry) → Store → Option (List Entry) → Type 0
 IsNextTold None owned then = then ≡ None
 IsNextTold (Some h) owned then = (e : Entry) × (then ≡ Some (h ++ e ∷ [])) × IsTold owned (h ++ e ∷ [])
 
@@ -256,6 +256,6 @@ pub record ShowsAll {E : Type 0} (result : Result ℕ E) (old new : Parts) : Typ
   pub damages : new.damages ≡ old.damages
 
 -- A store was found behind transactions, or is without one: what a backend begins with, where that is told.
-abbrev pub BeginsWith : Option (List Entry) → Owned → Type 0
+abbrev pub BeginsWith : Option (List Entry) → Store → Type 0
 BeginsWith None owned = Unit {0}
 BeginsWith (Some h) owned = IsTold owned h

@@ -10,8 +10,8 @@ use Rattle.qd_io.specs.declared.fault.IoFault.TheVariants as io
 use Rattle.qd_store.specs.declared.fault.PublishFault.{PublishFault}
 use Rattle.qd_store.specs.declared.fault.PublishFault.TheVariants as publish
 use Rattle.qd_store.specs.Drafts.{IsNextOf, Merging}
-use Rattle.qd_store.specs.Owned.{Owned}
-use Rattle.qd_store.specs.Stores.{Store}
+use Rattle.qd_store.specs.Owned.{Store}
+use Rattle.qd_store.specs.Stores.{Book}
 use Rattle.qd_store_backend.specs.Backs.{IsTold, current}
 use Rattle.qd_store_backend.specs.declared.parts.Round.{Round}
 
@@ -20,14 +20,14 @@ abbrev pub IsOnlyOne : Versions → Type 0
 IsOnlyOne v = (row : ℕ) → IsLive v row → row ≡ v.current
 
 -- What is merged are the transactions of a history behind the current version. What the files hold is never damaged.
-abbrev pub IsNextFrom : Result Merging LogFault → Store → List Entry → Type 0
+abbrev pub IsNextFrom : Result Merging LogFault → Book → List Entry → Type 0
 IsNextFrom (Ok m) s h = IsNextOf s h m
 IsNextFrom (Err (fault.Damaged file at)) s h = ⊥
 IsNextFrom (Err fault.Vol) s h = Unit {0}
 IsNextFrom (Err fault.Memory) s h = Unit {0}
 
 -- A merge is the current version, or that is as it was: the volume failed, or there was no memory.
-abbrev pub IsTurned : {T : Type 0} → Result T LogFault → Store → Store → Merging → Type 0
+abbrev pub IsTurned : {T : Type 0} → Result T LogFault → Book → Book → Merging → Type 0
 IsTurned (Ok done) old new m = current new ≡ Some (record { n = m.upto; shape = m.shape })
 IsTurned (Err (fault.Damaged file at)) old new m = ⊥
 IsTurned (Err fault.Vol) old new m = current new ≡ current old
@@ -48,13 +48,13 @@ fault_of publish.Vol = fault.Vol
 fault_of publish.Memory = fault.Memory
 
 -- what is told of a store is told of it behind a call
-abbrev pub StaysTold : Owned → Owned → Type 0
+abbrev pub StaysTold : Store → Store → Type 0
 StaysTold old new = (h : List Entry) → IsTold old h → IsTold new h
 
 -- ---- sweeps
 
 -- The queue of blocks that no version lists any more is empty; or the volume failed, or there was no memory.
-abbrev pub IsSwept : {T : Type 0} → Result T IoFault → (old new : Owned) → Type 0
+abbrev pub IsSwept : {T : Type 0} → Result T IoFault → (old new : Store) → Type 0
 IsSwept (Ok done) old new = new.store.versions.versions.retired ≡ []
 IsSwept (Err io.Failed) old new = HasRisen old.storage.faults new.storage.faults
 IsSwept (Err io.Memory) old new = Unit {0}

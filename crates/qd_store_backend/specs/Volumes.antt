@@ -8,7 +8,7 @@ use Rattle.qd_store.specs.Calls.{IsBeingMade}
 use Rattle.qd_store.specs.Found.{Finds, Found, IsUnmade, IsWhole}
 use Rattle.qd_store.specs.Marks.{IsMade}
 use Rattle.qd_store.specs.Opening.{IsDamaged, IsUndamaged}
-use Rattle.qd_store.specs.Stores.{IsStore, Store}
+use Rattle.qd_store.specs.Stores.{IsStore, Book}
 use Rattle.qd_txnfile.specs.Versions.{Version}
 use Rattle.qd_volume.specs.Disk.{Disk, Image, reads_of}
 
@@ -49,11 +49,11 @@ pub record IsDamagedAt (file at : ℕ) (before after : Disk) : Type 0 where
 
 -- A volume of which a store is opened or made is undamaged, or isn't made. The store stands behind the history that the volume holds,
 -- and shows as many of its transactions as that volume's version.
-pub record StartsOver (s : Store) (before after : Disk) : Type 0 where
+pub record StartsOver (s : Book) (before after : Disk) : Type 0 where
   pub whole : IsMade (reads_of before) → IsUndamaged (reads_of before) × ReadsAlike before after
   pub stands : (h : List Entry) (n : ℕ) → Holds before h n → (s.versions.root.n ≡ n) × (next : Version) × IsStore s h next after
 
-abbrev pub Starts : Result Store OpenFault → Disk → Disk → Type 0
+abbrev pub Starts : Result Book OpenFault → Disk → Disk → Type 0
 Starts (Ok s) before after = StartsOver s before after
 Starts (Err fault.NotMade) before after = ⊥
 Starts (Err (fault.Damaged file at)) before after = IsDamagedAt file at before after

@@ -35,7 +35,7 @@ use Rattle.qd_store.specs.declared.fault.OpenFault.{OpenFault}
 use Rattle.qd_store.specs.declared.fault.OpenFault.TheVariants as fault
 use Rattle.qd_store.specs.Faults.{CountsOpen}
 use Rattle.qd_store.specs.Laws.{StoresAreWhole}
-use Rattle.qd_store.specs.Owned.{Owned}
+use Rattle.qd_store.specs.Owned.{Store as Owned}
 use Rattle.qd_store.specs.Stores.{IsBook}
 use Rattle.qd_top.specs.declared.status.Status.{Status}
 use Rattle.qd_top.specs.declared.status.Status.TheVariants as status

@@ -14,7 +14,7 @@ use Rattle.qd_print.specs.Printed.{reply_bytes}
 use Rattle.qd_session.specs.Session.{PutTo}
 use Rattle.qd_store.specs.declared.fault.OpenFault.{OpenFault}
 use Rattle.qd_store.specs.declared.fault.OpenFault.TheVariants as fault
-use Rattle.qd_store.specs.Owned.{Owned}
+use Rattle.qd_store.specs.Owned.{Store as Owned}
 use Rattle.qd_top.specs.declared.status.Status.{Status}
 use Rattle.qd_top.specs.declared.status.Status.TheVariants as status
 use Rattle.qd_top.specs.Run.{AsksFor, IsBegun, IsEnded, RanOver, Store, Traffic, fresh}

@@ -1,6 +1,6 @@
 use Rattle.std.proofs.Common.{inl, inr, refl, subst, sym}
 use Rattle.qd_store.specs.declared.fault.OpenFault.{OpenFault}
-use Rattle.qd_store.specs.Owned.{Owned}
+use Rattle.qd_store.specs.Owned.{Store as Owned}
 use Rattle.qd_store_backend.specs.Volumes.{MayFind}
 use Rattle.qd_top.specs.Stores.{HasNoStore, IsServable, with_volume}
 use Rattle.qd_top.proofs.HostLemmas.{asks-failed, asks-memory, asks-ok, if_err, if_ok, names-later, no_store_alike, not_had, servable_alike, volume_given}

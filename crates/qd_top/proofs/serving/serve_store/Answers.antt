@@ -1,6 +1,6 @@
 use Rattle.std.proofs.Common.{List, Option, None, subst}
 use Rattle.qd_base.specs.declared.op.Entry.{Entry}
-use Rattle.qd_store.specs.Owned.{Owned}
+use Rattle.qd_store.specs.Owned.{Store as Owned}
 use Rattle.qd_store_backend.proofs.Begun.{told_over}
 use Rattle.qd_store_backend.proofs.Leaving.{settled_left}
 use Rattle.qd_top.specs.Run.{fresh, traffic}

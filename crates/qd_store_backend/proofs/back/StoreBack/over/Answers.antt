@@ -1,6 +1,6 @@
 use Rattle.std.proofs.Common.{List, Option, IfSome, ◌∙◌, subst, sym}
 use Rattle.qd_base.specs.declared.op.Entry.{Entry}
-use Rattle.qd_store.specs.Owned.{Owned}
+use Rattle.qd_store.specs.Owned.{Store}
 use Rattle.qd_store_backend.specs.Backs.{IsLeftOf, IsTold, left_of}
 use Rattle.qd_store_backend.proofs.Begun.{begun, told_over}
 use Rattle.qd_store_backend.proofs.back.StoreBack.over.Goals as goal
@@ -17,4 +17,4 @@ returns-clause-history g c = c.over-parts.ensures.history ∙ c.of-telling.ensur
 pub returns-clause-left : goal.returns-clause-left
 returns-clause-left g c =
     subst (λ (h : Option (List Entry)). IsLeftOf h c.args.store (left_of c.left_behind.result.history)) (c.over-parts.ensures.history ∙ c.of-telling.ensures)
-    (subst (λ (o : Owned). IsLeftOf c.over-parts.result.history o (left_of c.left_behind.result.history)) c.over-parts.ensures.store c.left_behind.ensures.left)
+    (subst (λ (o : Store). IsLeftOf c.over-parts.result.history o (left_of c.left_behind.result.history)) c.over-parts.ensures.store c.left_behind.ensures.left)

@@ -99,7 +99,8 @@ impl<V: Volume> StoreBack<V> {
     /// the last answers were over; a transaction whose write failed may stand behind it, where one may have been left.
     pub fn into_volume(self) -> V
         ensures volume { V.storage result ≡ self.parts.owned.storage }
-        ensures kept { IfSome self.parts.history (λ h. KeepsTold (V.storage result).disk h (back_shown self).pending (back_shown self).known) }
+        ensures kept { IfSome self.parts.history (λ h.
+            KeepsTold (V.storage result).disk h (back_shown self).pending (back_shown self).known) }
     {
         stores_are_whole();
         self.parts.is_told();
@@ -167,7 +168,8 @@ impl<V: Volume> Backend for StoreBack<V> {
     /// writer.
     fn lines(&mut self, alloc: Global, batch: &Batch, now: u64) -> Result<Reply, Memory>
         requires read { IsRead batch.now }
-        ensures handled { (text : List ℕ) → IsReading text batch.now → Handles AllowedAlone (back_shown self.old) (back_shown self.new) now (request.Write text) result }
+        ensures handled { (text : List ℕ) → IsReading text batch.now
+            → Handles AllowedAlone (back_shown self.old) (back_shown self.new) now (request.Write text) result }
         ensures one_writer { GoesOn self.old self.new }
     {
         one_entry_is_read();
@@ -186,7 +188,8 @@ impl<V: Volume> Backend for StoreBack<V> {
         requires short { length text.now ≤ MAX_QUERY_BYTES }
         ensures handled { Handles AllowedAlone (back_shown self.old) (back_shown self.new) 0 (request.Sql text.now) result }
         ensures one_writer { GoesOn self.old self.new }
-        ensures damaged { (file : ℕ) (at : ℕ) → result ≡ Ok (reply.Damaged file at) → IsPartDamaged self.old.parts.owned file at }
+        ensures damaged { (file : ℕ) (at : ℕ) → result ≡ Ok (reply.Damaged file at)
+            → IsPartDamaged self.old.parts.owned file at }
     {
         inserts_are_short();
         match parse_stmt(alloc, text.bytes()) {
@@ -201,7 +204,8 @@ impl<V: Volume> Backend for StoreBack<V> {
     fn apply(&mut self, alloc: Global) -> Result<Reply, Memory>
         ensures handled { Handles AllowedAlone (back_shown self.old) (back_shown self.new) 0 request.Apply result }
         ensures one_writer { GoesOn self.old self.new }
-        ensures damaged { (file : ℕ) (at : ℕ) → result ≡ Ok (reply.Damaged file at) → IsDraftDamaged self.old.parts.owned file at }
+        ensures damaged { (file : ℕ) (at : ℕ) → result ≡ Ok (reply.Damaged file at)
+            → IsDraftDamaged self.old.parts.owned file at }
     {
         one_entry_is_read();
         self.parts.is_told();

@@ -11,13 +11,13 @@ use Rattle.qd_score_model.specs.declared.view.Version.{Version}
 use Rattle.qd_score_model.specs.declared.view.View.{View}
 use Rattle.qd_score_model.specs.Machine.{Book, Board, GoLive, SetCurrent, Retire, MayGoLive, MaySetCurrent, MayRetire, put_at, version_at, sight, sees, refuses, retired}
 use Rattle.qd_score_model.proofs.Boards.{put_same, put_other, test_same, test_other, same_of_test, below_rows, live_now, live_still}
-use Rattle.qd_score_model.proofs.Follows.{pins_small}
+use Rattle.qd_score_model.proofs.Follows.{pins_small, no_pins}
 use Rattle.qd_score.specs.declared.limits.TheConstants.{VERSIONS_END}
 use Rattle.qd_score.specs.declared.table.Knows.{Knows}
 use Rattle.qd_score.specs.Rule.{Ruled, Stands, with_view, place_word, row_word}
 use Rattle.qd_score.specs.Publishing.{MayMakeLive, MayMakeCurrent, MayLetGo, with_live, with_current, without_row, GoesLive, SetsCurrent, Retires}
 use Rattle.qd_score.proofs.Words.{held_by, row_words, place_words, place_of_word, turned_on}
-use Rattle.qd_score.proofs.Steps.{ruled_by, ruled_to, slot_else, slot_held, holds}
+use Rattle.qd_score.proofs.Steps.{ruled_by, ruled_to, slot_else, slot_held, holds, view_there}
 
 module _ {I S : Type 0} (blocks : S → List ℕ) where
   -- a row that the holder sees live is one of the scoreboard's
@@ -141,6 +141,7 @@ module _ {I S B F : Type 0} (book : B → Book I S) (sound : B → Type 0) (fixe
               gone = λ is. record { hold = h; held = hold; seat = ap (λ k. (with_view me.0 (sees me.0.view (without_row h k)), me.1)) same; stands = r'.1 };
               stays = λ ne. absurd (ne one);
               pinned = λ ne. absurd (ne one);
+              alone = λ sole idle. one;
               stands = r'.1;
             }),
           )
@@ -163,6 +164,7 @@ module _ {I S B F : Type 0} (book : B → Book I S) (sound : B → Type 0) (fixe
               gone = λ is. absurd (other is);
               stays = λ ne. ap (λ k. (with_view me.0 (refuses me.0.view k found), me.1)) same;
               pinned = λ ne. more;
+              alone = λ sole idle. absurd (some_left (no_pins blocks r.state r.kept id me.0.view (view_there book sound fixed blocks t r id me.0 at) sole idle row));
               stands = r'.1;
             }),
           )

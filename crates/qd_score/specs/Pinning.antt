@@ -1,5 +1,5 @@
 -- What the steps of a pin tell its seat, and what a pin shows.
-use Rattle.std.specs.Prelude.{◌≡◌, ℕ, ◌<◌, ◌≤◌, false, List, Option, Some, None}
+use Rattle.std.specs.Prelude.{◌≡◌, ℕ, ◌<◌, ◌≤◌, false, List, [], ◌∷◌, ◌++◌, Option, Some, None}
 use Rattle.atomic_table.specs.Table.{Me, Step}
 use Rattle.qd_score_model.specs.declared.view.Place.{Place}
 use Rattle.qd_score_model.specs.declared.view.Phase.{Phase}
@@ -23,9 +23,13 @@ module _ {I S : Type 0} where
   current_in None = record { n = 0; row = 0 }
   current_in (Some h) = h.current
 
-  -- the view of a seat that has no pin, and has read the number of a current version
-  abbrev pub moved_on : View I S → ℕ → View I S
-  moved_on v n = record v { phase = Idle; known = n }
+  -- the view of a seat that has read this place twice, and nothing else, and has pinned the version there
+  abbrev pub pinned_by : View I S → Place → View I S
+  pinned_by v place = record v { phase = Pinned place; known = place.n; reads = v.reads ++ place ∷ place ∷ [] }
+
+  -- the view of a seat that has read one place and then another, and has no pin
+  abbrev pub moved_on : View I S → Place → Place → View I S
+  moved_on v first second = record v { phase = Idle; known = second.n; reads = v.reads ++ first ∷ second ∷ [] }
 
 module _ {I S B : Type 0} (blocks : S → List ℕ) where
   -- the current place was read; it is no older than what the seat knew

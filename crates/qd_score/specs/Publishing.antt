@@ -2,7 +2,9 @@
 use Rattle.std.specs.Prelude.{◌≡◌, ◌≢◌, ℕ, ◌+◌, ◌<◌, ◌≤◌, List, [], ◌∷◌, length, slice_set, Option, Some, None}
 use Rattle.atomic_table.specs.Table.{Me, Step}
 use Rattle.qd_score_model.specs.declared.limits.TheConstants.{ROWS}
+use Rattle.qd_score_model.specs.declared.view.Mode.TheVariants.{Sole}
 use Rattle.qd_score_model.specs.declared.view.Place.{Place}
+use Rattle.qd_score_model.specs.declared.view.Phase.TheVariants.{Idle}
 use Rattle.qd_score_model.specs.declared.view.Sight.{Sight}
 use Rattle.qd_score_model.specs.declared.view.Version.{Version}
 use Rattle.qd_score_model.specs.Machine.{Book, version_at, IsGreatest, sees, refuses}
@@ -58,6 +60,7 @@ module _ {I S B : Type 0} (blocks : S → List ℕ) where
     pub gone : found ≡ 1 → HasChanged (λ h. without_row h row) me now
     pub stays : found ≢ 1 → now ≡ (with_view me.0 (refuses me.0.view row found), me.1)
     pub pinned : found ≢ 1 → 3 ≤ found
+    pub alone : me.0.view.mode ≡ Sole → me.0.view.phase ≡ Idle → found ≡ 1
     pub stands : Stands blocks now.0.view
 
   abbrev pub Retires : Step (Option B) → Me (Option B) (Knows I S B) → ℕ → Me (Option B) (Knows I S B) → Type 0

@@ -8,7 +8,7 @@ ghost use Rattle.qd_score_model.specs.declared.view.Sight.{Sight};
 ghost use Rattle.qd_score_model.specs.Machine.{looked, tries, confirmed, dropped, pinned_held, same_place};
 ghost use Rattle.qd_score.specs.Rule.{with_view, place_of};
 ghost use Rattle.qd_score.specs.Calls.{IsSeatOf, known_by, view_of};
-ghost use Rattle.qd_score.specs.Pinning.{moved_on};
+ghost use Rattle.qd_score.specs.Pinning.{moved_on, pinned_by};
 
 use crate::booked::Booked;
 use crate::score::{FIRST_ROW, Hold, PLACE, Score, Seat};
@@ -112,16 +112,17 @@ impl<B: Booked> Score<B> {
             .fetch_sub::<Release>(seat, row + FIRST_ROW, 2);
     }
 
-    /// Pins the current version, without the lock and without a wait: four steps at most. At `Moved` a newer version than
-    /// the one that was tried was published meanwhile, the seat has no pin, and its caller may try again.
+    /// Pins the current version, without the lock and without a wait: four steps at most. The current place is read twice.
+    /// `Moved` comes exactly where the second read finds another place than the first: a newer version was published
+    /// meanwhile, the seat has no pin, and its caller may try again.
     pub fn pin(&self, seat: &mut Seat<B>) -> Result<Pin, Moved>
         requires seat { IsSeatOf B.blocks self.now.table.shared.table_id seat.old }
         requires idle { (view_of seat.old).phase ≡ Idle }
         requires kind { (view_of seat.old).mode ≢ Keeper }
         ensures seat { IsSeatOf B.blocks self.now.table.shared.table_id seat.new }
-        ensures pinned { IfOk result (λ p. known_by seat.new ≡ with_view (known_by seat.old) (pinned_held (view_of seat.old) (record { n = p.n; row = p.row }))) }
+        ensures pinned { IfOk result (λ p. known_by seat.new ≡ with_view (known_by seat.old) (pinned_by (view_of seat.old) (record { n = p.n; row = p.row }))) }
         ensures fresh { IfOk result (λ p. (view_of seat.old).known ≤ p.n) }
-        ensures moved { IfErr result (λ m. known_by seat.new ≡ with_view (known_by seat.old) (moved_on (view_of seat.old) m.published)) }
+        ensures moved { IfErr result (λ m. (first : Place) × (second : Place) × (first.n < second.n) × (second.n ≡ m.published) × (known_by seat.new ≡ with_view (known_by seat.old) (moved_on (view_of seat.old) first second))) }
         ensures newer { IfErr result (λ m. (view_of seat.old).known < m.published) }
     {
         let word = self.look(seat);

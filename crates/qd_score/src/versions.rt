@@ -1,6 +1,8 @@
 //! Versions go live, become the current one, and are retired, by the steps of the seat that holds the lock.
-ghost use Rattle.std.specs.Prelude.{◌≡◌, ◌≢◌, ℕ, ◌<◌, ◌≤◌, Option, Some, None, IfOk, IfErr};
+ghost use Rattle.std.specs.Prelude.{◌≡◌, ◌≢◌, ℕ, ◌<◌, ◌≤◌, Option, Some, None, IsOk, IfOk, IfErr};
 ghost use Rattle.qd_score_model.specs.declared.limits.TheConstants.{ROWS};
+ghost use Rattle.qd_score_model.specs.declared.view.Mode.TheVariants.{Sole};
+ghost use Rattle.qd_score_model.specs.declared.view.Phase.TheVariants.{Idle};
 ghost use Rattle.qd_score_model.specs.declared.view.Place.{Place};
 ghost use Rattle.qd_score_model.specs.declared.view.Sight.{Sight};
 ghost use Rattle.qd_score_model.specs.declared.view.Version.{Version};
@@ -68,6 +70,7 @@ impl<B: Booked> Score<B> {
         ensures gone { result ≡ 1 → (h : Sight B.Item B.Shape) × ((view_of seat.old).hold ≡ Some h) × (known_by seat.new ≡ with_view (known_by seat.old) (sees (view_of seat.old) (without_row h row))) }
         ensures stays { result ≢ 1 → known_by seat.new ≡ with_view (known_by seat.old) (refuses (view_of seat.old) row result) }
         ensures pinned { result ≢ 1 → 3 ≤ result }
+        ensures alone { (view_of seat.old).mode ≡ Sole → (view_of seat.old).phase ≡ Idle → result ≡ 1 }
     {
         self.table
             .shared
@@ -75,7 +78,7 @@ impl<B: Booked> Score<B> {
     }
 
     /// Retires a live row that isn't the current one, unless a seat counts on it. At `Pinned` it stays live, and may be
-    /// tried again.
+    /// tried again. A Sole seat that has no pin itself never finds one.
     pub fn retire(&self, seat: &mut Seat<B>, _hold: &Hold<B>, row: u8) -> Result<(), Pinned>
         requires seat { IsSeatOf B.blocks self.now.table.shared.table_id seat.old }
         requires may { (h : Sight B.Item B.Shape) × ((view_of seat.old).hold ≡ Some h) × MayLetGo h row }
@@ -83,6 +86,7 @@ impl<B: Booked> Score<B> {
         ensures gone { IfOk result (λ _. (h : Sight B.Item B.Shape) × ((view_of seat.old).hold ≡ Some h) × (known_by seat.new ≡ with_view (known_by seat.old) (sees (view_of seat.old) (without_row h row)))) }
         ensures stays { IfErr result (λ p. known_by seat.new ≡ with_view (known_by seat.old) (refuses (view_of seat.old) row p.word)) }
         ensures pinned { IfErr result (λ p. 3 ≤ p.word) }
+        ensures alone { (view_of seat.old).mode ≡ Sole → (view_of seat.old).phase ≡ Idle → IsOk result }
     {
         let word = self.try_retire(seat, row);
         if word == 1 {

@@ -5,6 +5,7 @@ use mathlib.Core.Option.{some, some-injective}
 use lib.ListN.{get_elem?}
 use Rattle.qd_score_model.specs.declared.limits.TheConstants.{PINS_END}
 use Rattle.qd_score_model.specs.declared.view.Place.{Place}
+use Rattle.qd_score_model.specs.declared.view.Mode.TheVariants.{Sole}
 use Rattle.qd_score_model.specs.declared.view.Phase.{Phase}
 use Rattle.qd_score_model.specs.declared.view.Phase.TheVariants.{Idle, Pinned}
 use Rattle.qd_score_model.specs.declared.view.View.{View}
@@ -85,13 +86,15 @@ pins_small {I} {S} blocks s k row =
 pub pins_stay_small : (I S : Type 0) → PinsStaySmall I S
 pins_stay_small I S blocks book s r row = pins_small blocks s (kept_reached blocks book s r) row
 
-pub sole_seat_retires : (I S : Type 0) → SoleSeatRetires I S
-sole_seat_retires I S blocks book s r seat v at sole idle row =
-    let k = kept_reached blocks book s r in
-    k.pins.pins row ∙ sum_none (λ (u : View I S). once_on row u.phase) s.views (λ i u there. ap (once_on row) (all_idle k i u there))
+-- while a Sole seat is idle no row has a pin
+pub no_pins : {I S : Type 0} (blocks : S → List ℕ) (s : State I S) → Kept blocks s → (seat : ℕ) (v : View I S) → get_elem? s.views seat ≡ some v → v.mode ≡ Sole → v.phase ≡ Idle → (row : ℕ) → s.board.pins row ≡ 0
+no_pins {I} {S} blocks s k seat v at sole idle row = k.pins.pins row ∙ sum_none (λ (u : View I S). once_on row u.phase) s.views (λ i u there. ap (once_on row) (all_idle i u there))
   where
-    all_idle : Kept blocks s → (i : ℕ) (u : View I S) → get_elem? s.views i ≡ some u → u.phase ≡ Idle
-    all_idle k i u there = ⊎_elim
+    all_idle : (i : ℕ) (u : View I S) → get_elem? s.views i ≡ some u → u.phase ≡ Idle
+    all_idle i u there = ⊎_elim
         (λ (same : i ≡ seat). let a : get_elem? s.views seat ≡ some u = ap (get_elem? s.views) (sym same) ∙ there in let b : v ≡ u = some-injective v u (sym at ∙ a) in ap (λ (z : View I S). z.phase) (sym b) ∙ idle)
         (λ (ne : i ≢ seat). k.keepers i u there ((k.sole seat v at sole).others i u there ne))
         (same_or_other i seat)
+
+pub sole_seat_retires : (I S : Type 0) → SoleSeatRetires I S
+sole_seat_retires I S blocks book s r seat v at sole idle row = no_pins blocks s (kept_reached blocks book s r) seat v at sole idle row

@@ -145,13 +145,13 @@ module _ {I S : Type 0} where
 
   -- a view once the current place was read, a row was counted up, the place was read again, and the row counted down
   abbrev pub looked : View I S → Place → View I S
-  looked v now = record v { phase = Looked now; known = now.n }
+  looked v now = record v { phase = Looked now; known = now.n; reads = v.reads ++ now ∷ [] }
 
   abbrev pub tries : View I S → Place → View I S
   tries v place = record v { phase = Trying place }
 
   abbrev pub confirmed : View I S → Place → Place → View I S
-  confirmed v now place = record v { phase = if same_place now place then Pinned place else Trying place; known = now.n }
+  confirmed v now place = record v { phase = if same_place now place then Pinned place else Trying place; known = now.n; reads = v.reads ++ now ∷ [] }
 
   abbrev pub dropped : View I S → View I S
   dropped v = record v { phase = Idle }
@@ -207,7 +207,7 @@ module _ {I S : Type 0} where
 
   -- the view of a seat that is split off
   abbrev pub newcomer : View I S → Mode → View I S
-  newcomer v mode = record { spent = false; mode = mode; room = 0; seen = v.seen; own = []; known = v.known; phase = Idle; noted = v.noted; records = []; refused = []; hold = None }
+  newcomer v mode = record { spent = false; mode = mode; room = 0; seen = v.seen; own = []; known = v.known; phase = Idle; reads = []; noted = v.noted; records = []; refused = []; hold = None }
 
   -- the view that takes in another
   abbrev pub joined : View I S → View I S → View I S
@@ -215,7 +215,7 @@ module _ {I S : Type 0} where
 
   -- what a join leaves of the other
   abbrev pub gone : View I S
-  gone = record { spent = true; mode = Keeper; room = 0; seen = []; own = []; known = 0; phase = Idle; noted = []; records = []; refused = []; hold = None }
+  gone = record { spent = true; mode = Keeper; room = 0; seen = []; own = []; known = 0; phase = Idle; reads = []; noted = []; records = []; refused = []; hold = None }
 
   abbrev pub join_views : List (View I S) → ℕ → View I S → ℕ → Found (View I S) → List (View I S)
   join_views views seat v other none = views
@@ -330,7 +330,7 @@ module _ {I S : Type 0} (blocks : S → List ℕ) where
 module _ {I S : Type 0} where
   -- the view of the first seat
   abbrev pub first_view : Book I S → View I S
-  first_view book = record { spent = false; mode = Sole; room = MAX_SPLITS; seen = book.history; own = []; known = book.current.n; phase = Idle; noted = []; records = []; refused = []; hold = None }
+  first_view book = record { spent = false; mode = Sole; room = MAX_SPLITS; seen = book.history; own = []; known = book.current.n; phase = Idle; reads = []; noted = []; records = []; refused = []; hold = None }
 
   abbrev pub opening : Book I S → State I S
   opening book = record {

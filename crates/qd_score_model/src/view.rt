@@ -84,6 +84,8 @@ pub struct View<I, S> {
     /// The greatest number of a current version that it has read.
     pub known: u64,
     pub phase: Phase,
+    /// The current places that it has read for pins without the lock, one after another.
+    pub reads: LinkedList<Place>,
     /// The versions that its last give left live, one for each row.
     pub noted: LinkedList<Option<Version<S>>>,
     /// One record for each of its gives.

@@ -22,3 +22,6 @@ returns-clause-stays g c ne = ap (λ m. m.0) ((c.compare_exchange.ensures.2 c.ar
 
 pub returns-clause-pinned : goal.returns-clause-pinned
 returns-clause-pinned g c ne = (c.compare_exchange.ensures.2 c.args.row refl).pinned ne
+
+pub returns-clause-alone : goal.returns-clause-alone
+returns-clause-alone g c sole idle = (c.compare_exchange.ensures.2 c.args.row refl).alone sole idle

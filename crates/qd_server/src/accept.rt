@@ -1,0 +1,197 @@
+//! Connections are taken one after another, and each is given to a job of its own.
+ghost use Rattle.std.specs.Prelude.{◌≡◌, ◌≢◌, ◌+◌, ◌<◌, ◌≤◌, ℕ, List, [], ◌∷◌, length, true, false};
+ghost use Rattle.std.specs.VecDeque.{deque_capacity};
+ghost use Rattle.qd_io.specs.Ends.{Counts};
+ghost use Rattle.qd_server.specs.Accepting.{Accepts, GoesOn, HasOut, Takes, Round};
+
+use crate::maker::{MOST, Maker};
+use qd_io::{IoFault, Memory};
+use qd_net::Listener;
+use qd_threads::{Job, Started, Threads};
+use std::alloc::Global;
+use std::collections::VecDeque;
+use std::sync::Wait;
+use std::thread;
+
+/// The place of a work that has finished, or else of the one that was started first.
+fn next_to_join<J: Job>(outs: &VecDeque<Started<J>>) -> usize
+    requires { 0 < length outs.now.items }
+    ensures { result < length outs.now.items }
+{
+    for place in 0..outs.len() {
+        if outs[place].is_finished() {
+            return place;
+        }
+    }
+    0
+}
+
+/// Joins the work at this place.
+fn settle<R: thread::Threads + Wait, W, M: Maker<W>>(
+    rt: &R,
+    maker: &mut M,
+    outs: &mut VecDeque<Started<M::Work>>,
+    place: usize,
+)
+    requires out { HasOut M.works maker.old outs.old.items }
+    requires there { place < length outs.old.items }
+    ensures goes_on { (failed : ℕ) → GoesOn M.works maker.old maker.new outs.old.items outs.new.items [] failed failed }
+    ensures fewer { length outs.new.items + 1 ≡ length outs.old.items }
+    ensures capacity { deque_capacity outs.new ≡ deque_capacity outs.old }
+{
+    if let Some(started) = outs.remove(place) {
+        maker.done(started.join(rt));
+    }
+}
+
+/// Joins a work where as many are out as may be.
+fn make_room<R: thread::Threads + Wait, W, M: Maker<W>>(
+    rt: &R,
+    maker: &mut M,
+    outs: &mut VecDeque<Started<M::Work>>,
+)
+    requires out { HasOut M.works maker.old outs.old.items }
+    requires few { length outs.old.items ≤ MOST }
+    ensures goes_on { (failed : ℕ) → GoesOn M.works maker.old maker.new outs.old.items outs.new.items [] failed failed }
+    ensures room { length outs.new.items < MOST }
+    ensures capacity { deque_capacity outs.new ≡ deque_capacity outs.old }
+{
+    if outs.len() == MOST {
+        let place = next_to_join(outs);
+        settle::<R, W, M>(rt, maker, outs, place);
+    }
+}
+
+/// Starts the work of a wire. One that can't be started goes back to its maker.
+fn admit<R: thread::Threads + Wait + Copy + Send + Drop + 'static, W, M: Maker<W>>(
+    threads: &mut Threads<R>,
+    maker: &mut M,
+    outs: &mut VecDeque<Started<M::Work>>,
+    wire: W,
+) -> Result<(), Memory>
+    requires out { HasOut M.works maker.old outs.old.items }
+    requires few { length outs.old.items < MOST }
+    requires capacity { deque_capacity outs.old ≡ MOST }
+    ensures goes_on { GoesOn M.works maker.old maker.new outs.old.items outs.new.items (wire ∷ []) threads.old.failed threads.new.failed }
+    ensures few { length outs.new.items ≤ MOST }
+    ensures capacity { deque_capacity outs.new ≡ MOST }
+{
+    let work = maker.make(wire)?;
+    match threads.start(work) {
+        Ok(started) => outs.push_back_reserved(started),
+        Err(work) => maker.refused(work),
+    }
+    Ok(())
+}
+
+/// Takes the next wire and starts its work, and says whether there was one.
+fn accept_next<
+    R: thread::Threads + Wait + Copy + Send + Drop + 'static,
+    L: Listener,
+    M: Maker<L::Wire>,
+>(
+    rt: &R,
+    listener: &mut L,
+    threads: &mut Threads<R>,
+    maker: &mut M,
+    outs: &mut VecDeque<Started<M::Work>>,
+) -> Result<bool, IoFault>
+    requires out { HasOut M.works maker.old outs.old.items }
+    requires few { length outs.old.items ≤ MOST }
+    requires capacity { deque_capacity outs.old ≡ MOST }
+    ensures accepts { (wires : List L.Wire) × Takes wires (L.arrivals listener.old).ahead (L.arrivals listener.new).ahead × GoesOn M.works maker.old maker.new outs.old.items outs.new.items wires threads.old.failed threads.new.failed × Round wires (L.arrivals listener.new).closed result }
+    ensures counted { Counts (L.arrivals listener.old).faults (L.arrivals listener.new).faults result }
+    ensures few { length outs.new.items ≤ MOST }
+    ensures capacity { deque_capacity outs.new ≡ MOST }
+{
+    make_room::<R, L::Wire, M>(rt, maker, outs);
+    let Some(wire) = listener.next_wire()? else {
+        return Ok(false);
+    };
+    admit::<R, L::Wire, M>(threads, maker, outs, wire)?;
+    Ok(true)
+}
+
+/// Whether as many wires were taken as were asked for, where 0 is no end.
+fn is_enough(taken: u64, most: u64) -> bool
+    ensures yes { result ≡ true → (most ≢ 0) × (taken ≡ most) }
+    ensures no { result ≡ false → most ≢ 0 → taken ≢ most }
+{
+    most != 0 && taken == most
+}
+
+/// Takes wires until none comes, or as many as are asked for.
+fn accept_on<
+    R: thread::Threads + Wait + Copy + Send + Drop + 'static,
+    L: Listener,
+    M: Maker<L::Wire>,
+>(
+    rt: &R,
+    listener: &mut L,
+    threads: &mut Threads<R>,
+    maker: &mut M,
+    outs: &mut VecDeque<Started<M::Work>>,
+    most: u64,
+) -> Result<u64, IoFault>
+    requires out { HasOut M.works maker.old outs.old.items }
+    requires few { length outs.old.items ≤ MOST }
+    requires capacity { deque_capacity outs.old ≡ MOST }
+    ensures accepts { Accepts M.works (record { listener = L.arrivals listener.old; maker = maker.old; outs = outs.old.items; failed = threads.old.failed }) (record { listener = L.arrivals listener.new; maker = maker.new; outs = outs.new.items; failed = threads.new.failed }) most result }
+    ensures counted { Counts (L.arrivals listener.old).faults (L.arrivals listener.new).faults result }
+{
+    let mut taken: u64 = 0;
+    for _ in rt.forever() {
+        if is_enough(taken, most) {
+            return Ok(taken);
+        }
+        if !accept_next::<R, L, M>(rt, listener, threads, maker, outs)? {
+            return Ok(taken);
+        }
+        taken = taken.saturating_add(1);
+    }
+    unreachable!()
+}
+
+/// Joins all works that are out.
+fn settle_all<R: thread::Threads + Wait, W, M: Maker<W>>(
+    rt: &R,
+    maker: &mut M,
+    outs: &mut VecDeque<Started<M::Work>>,
+)
+    requires out { HasOut M.works maker.old outs.old.items }
+    ensures goes_on { (failed : ℕ) → GoesOn M.works maker.old maker.new outs.old.items [] [] failed failed }
+{
+    while !outs.is_empty() {
+        settle::<R, W, M>(rt, maker, outs, 0);
+    }
+}
+
+/// Serves the wires of a listener: each goes to one `make` of the maker, and its work is started in a thread of its own.
+///
+/// It ends with `Ok` where `most` wires were taken, which 0 never is, or the listener answers that none comes any more, and
+/// gives how many were taken, up to the greatest `u64`. It ends with `Failed` where the listener fails, and with `Memory`
+/// where there is no memory, for the maker or for the listener too. Then all works are joined, so that none is out.
+///
+/// At most [`MOST`] works are out. Where as many are out, one that has finished is joined before the next wire is waited for, or
+/// else the one that was started first. It takes memory for so many started works, once.
+pub fn accept_all<
+    R: thread::Threads + Wait + Copy + Send + Drop + 'static,
+    L: Listener,
+    M: Maker<L::Wire>,
+>(
+    rt: &R,
+    alloc: Global,
+    listener: &mut L,
+    threads: &mut Threads<R>,
+    maker: &mut M,
+    most: u64,
+) -> Result<u64, IoFault>
+    requires none_out { HasOut M.works maker.old [] }
+    ensures accepts { Accepts M.works (record { listener = L.arrivals listener.old; maker = maker.old; outs = []; failed = threads.old.failed }) (record { listener = L.arrivals listener.new; maker = maker.new; outs = []; failed = threads.new.failed }) most result }
+    ensures counted { Counts (L.arrivals listener.old).faults (L.arrivals listener.new).faults result }
+{
+    let mut outs = VecDeque::with_capacity(alloc, MOST)?;
+    let ended = accept_on::<R, L, M>(rt, listener, threads, maker, &mut outs, most);
+    settle_all::<R, L::Wire, M>(rt, maker, &mut outs);
+    ended
+}

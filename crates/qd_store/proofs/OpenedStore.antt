@@ -18,6 +18,7 @@ use Rattle.qd_volume.specs.Disk.{Disk}
 use Rattle.qd_store.specs.Marks.{IsMade}
 use Rattle.qd_store.specs.Prefixes.{IsShown}
 use Rattle.qd_store.specs.Found.{Found, version_of}
+use Rattle.qd_store.specs.Opening.{HasFirstRow}
 use Rattle.qd_store.specs.Stores.{HasVersions}
 use Rattle.qd_store.proofs.Creating.{row_is}
 use Rattle.qd_store.proofs.Opened.{same_found}
@@ -60,6 +61,9 @@ module _ (c : rows.Versions) (n next : ℕ) (shape : List TableParts) (opened : 
   alone_of_it row live =
       only_first (record { n = n; shape = shape }) row 63 (subst (λ (l : List (Option catalog.Version)). is_some (get_or l row None) ≡ true) opened.versions live)
       ∙ sym opened.current
+
+  pub first_of_it : HasFirstRow c
+  first_of_it = record { n = n; shape = shape; versions = opened.versions; current = opened.current }
 
 module _ (manifests : OneManifestIsSpelled) (v : versions.Store) (m : Manifest) (sound : IsManifest v.root.n m) (opened : rows.IsOpened v.versions v.root.n m.next_block m.shape)
     (f : Found) (found : IsManifest f.n f.manifest) (is : current_version v.versions ≡ version_of f) where

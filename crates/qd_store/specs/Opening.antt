@@ -1,8 +1,10 @@
 -- What is found when a store is opened.
 use Rattle.std.specs.Prelude.{◌≡◌, ℕ, List, length, drop, Result, Ok, Err}
 use Rattle.qd_base.specs.declared.part.WalRef.{WalRef}
+use Rattle.qd_catalog.specs.Versions.{Versions, first_row}
 use Rattle.qd_durable.specs.Moments.{LeavesEarlier}
 use Rattle.qd_manifest.specs.declared.shape.Manifest.{Manifest}
+use Rattle.qd_manifest.specs.declared.shape.TableParts.{TableParts}
 use Rattle.qd_manifest.specs.Spelling.{schemas_in, IsManifest}
 use Rattle.qd_seq.specs.Damage as log
 use Rattle.qd_seq.specs.Layout.{GivesList}
@@ -27,6 +29,13 @@ pub data IsDamaged (image : Image) : (file at : ℕ) → Type 0 where
 -- no place of it is damaged
 abbrev pub IsUndamaged : Image → Type 0
 IsUndamaged image = (file at : ℕ) → IsDamaged image file at → ⊥
+
+-- row 0 is the one live row, and the current one
+pub record HasFirstRow (v : Versions) : Type 0 where
+  pub n : ℕ
+  pub shape : List TableParts
+  pub versions : v.versions ≡ first_row n shape
+  pub current : v.current ≡ 0
 
 -- what was opened of a whole volume: exactly its history, and its version
 pub record Opened (s : Book) (f : Found) (after : Disk) : Type 0 where

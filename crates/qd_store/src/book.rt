@@ -3,6 +3,7 @@ ghost use Rattle.qd_catalog.specs.Versions.{IsLive};
 ghost use Rattle.qd_durable.specs.Moments.{Told};
 ghost use Rattle.qd_io.specs.Ends.{Counts};
 ghost use Rattle.qd_store.specs.Calls.{Creates};
+ghost use Rattle.qd_store.specs.Opening.{HasFirstRow};
 ghost use Rattle.qd_store.specs.Stores.{AreLimits, IsBook};
 ghost use Rattle.qd_versions.specs.Stores as versions;
 ghost use Rattle.std.specs.Prelude.{◌≡◌, ℕ, [], IfOk, None};
@@ -46,6 +47,7 @@ impl Book {
         ensures empty { IfOk result (λ b. (b.sequence.refs ≡ []) × (b.versions.root.n ≡ 0)) }
         ensures clean { IfOk result (λ b. b.sequence.pending ≡ None) }
         ensures alone { IfOk result (λ b. (row : ℕ) → IsLive b.versions.versions row → row ≡ b.versions.versions.current) }
+        ensures first { IfOk result (λ b. HasFirstRow b.versions.versions) }
         ensures told { Told (V.storage volume.old).disk (V.storage volume.new).disk (Creates result) }
         ensures counted { Counts (V.storage volume.old).faults (V.storage volume.new).faults result }
     {

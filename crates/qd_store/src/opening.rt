@@ -2,7 +2,7 @@
 ghost use Rattle.qd_catalog.specs.Versions.{IsLive};
 ghost use Rattle.qd_durable.specs.Moments.{Told};
 ghost use Rattle.qd_store.specs.Faults.{CountsOpen};
-ghost use Rattle.qd_store.specs.Opening.{Opens};
+ghost use Rattle.qd_store.specs.Opening.{HasFirstRow, Opens};
 ghost use Rattle.qd_store.specs.Stores.{AreLimits};
 ghost use Rattle.std.specs.Prelude.{◌≡◌, ℕ, IfOk, None};
 
@@ -30,6 +30,7 @@ pub(crate) fn open<V: Volume>(
     ensures limits { IfOk result (λ b. b.limits ≡ limits) }
     ensures clean { IfOk result (λ b. b.sequence.pending ≡ None) }
     ensures alone { IfOk result (λ b. (row : ℕ) → IsLive b.versions.versions row → row ≡ b.versions.versions.current) }
+    ensures first { IfOk result (λ b. HasFirstRow b.versions.versions) }
     ensures told { Told (V.storage volume.old).disk (V.storage volume.new).disk (Opens result) }
     ensures counted { CountsOpen (V.storage volume.old).faults (V.storage volume.new).faults result }
 {

@@ -26,7 +26,7 @@ ghost use Rattle.qd_store.specs.Damage.{IsDraftDamage};
 ghost use Rattle.qd_store.specs.Drafts.{IsDraftOver, IsDraftedFrom, IsMergedOver};
 ghost use Rattle.qd_store.specs.Faults.{Causes, CountsOpen, CountsPublish, IsFullFor, IsMoved, IsSettled};
 ghost use Rattle.qd_store.specs.Merges.{PublishesMerged};
-ghost use Rattle.qd_store.specs.Opening.{Opens};
+ghost use Rattle.qd_store.specs.Opening.{HasFirstRow, Opens};
 ghost use Rattle.qd_store.specs.Owned.{IsOfVolume, storage_in, store_in};
 ghost use Rattle.qd_store.specs.Reading.{IsShownPart};
 ghost use Rattle.qd_store.specs.Stores.{AreLimits, IsBook, IsStore};
@@ -106,6 +106,7 @@ impl<V: Volume> Store<V> {
         ensures empty { IfOk result (λ s. (s.store.sequence.refs ≡ []) × (s.store.versions.root.n ≡ 0)) }
         ensures clean { IfOk result (λ s. s.store.sequence.pending ≡ None) }
         ensures alone { IfOk result (λ s. (row : ℕ) → IsLive s.store.versions.versions row → row ≡ s.store.versions.versions.current) }
+        ensures first { IfOk result (λ s. HasFirstRow s.store.versions.versions) }
         ensures causes { IfErr result IsOfVolume }
         ensures told { Told (V.storage volume).disk (storage_in result).disk (Creates (store_in result)) }
         ensures counted { CountsOpen (V.storage volume).faults (storage_in result).faults (store_in result) }
@@ -133,6 +134,7 @@ impl<V: Volume> Store<V> {
         ensures limits { IfOk result (λ s. s.store.limits ≡ limits) }
         ensures clean { IfOk result (λ s. s.store.sequence.pending ≡ None) }
         ensures alone { IfOk result (λ s. (row : ℕ) → IsLive s.store.versions.versions row → row ≡ s.store.versions.versions.current) }
+        ensures first { IfOk result (λ s. HasFirstRow s.store.versions.versions) }
         ensures told { Told (V.storage volume).disk (storage_in result).disk (Opens (store_in result)) }
         ensures counted { CountsOpen (V.storage volume).faults (storage_in result).faults (store_in result) }
     {

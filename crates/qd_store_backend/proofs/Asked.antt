@@ -46,22 +46,22 @@ quiet_asked old new fixed before =
       before = before;
     }
 
-given_rows : (m : Result Table Refusal) (t : Table) → answer.Rows t ≡ query.given m → m ≡ Ok t
+pub given_rows : (m : Result Table Refusal) (t : Table) → answer.Rows t ≡ query.given m → m ≡ Ok t
 given_rows (Ok t') t is = cc
 given_rows (Err r) t is = absurd (cc (is))
 
-given_none : (m : Result Table Refusal) (number place : ℕ) → answer.Refused number place ≡ query.given m → (r : Refusal) × (m ≡ Err r) × (number ≡ number_of r.code) × (place ≡ r.place)
+pub given_none : (m : Result Table Refusal) (number place : ℕ) → answer.Refused number place ≡ query.given m → (r : Refusal) × (m ≡ Err r) × (number ≡ number_of r.code) × (place ≡ r.place)
 given_none (Ok t) number place is = absurd (cc (is))
 given_none (Err r) number place is = (r, refl, cc, cc)
 
-rows_told : (s : Stmt) (t : Table) (n n' : ℕ) (old new : Option (List Entry)) → new ≡ old → n ≡ n' → IfSome (database_in old n') (λ db. answer.Rows t ≡ answer_of db s) → IfSome new (λ h. meaning.answer (first h n) s ≡ Ok t)
+pub rows_told : (s : Stmt) (t : Table) (n n' : ℕ) (old new : Option (List Entry)) → new ≡ old → n ≡ n' → IfSome (database_in old n') (λ db. answer.Rows t ≡ answer_of db s) → IfSome new (λ h. meaning.answer (first h n) s ≡ Ok t)
 rows_told s t n n' None new told is says = subst (λ (o : Option (List Entry)). IfSome o (λ h. meaning.answer (first h n) s ≡ Ok t)) (sym told) tt
 rows_told s t n n' (Some h) new told is says =
     subst (λ (o : Option (List Entry)). IfSome o (λ k. meaning.answer (first k n) s ≡ Ok t)) (sym told)
     (subst (λ (m : ℕ). meaning.answer (first h m) s ≡ Ok t) (sym is) (given_rows (meaning.answer (first h n') s) t says))
 
 -- A refusal is that of the first transactions, where they are told.
-none_told : (s : Stmt) (number place : ℕ) (n n' : ℕ) (old new : Option (List Entry)) → new ≡ old → n ≡ n' → IfSome (database_in old n') (λ db. answer.Refused number place ≡ answer_of db s)
+pub none_told : (s : Stmt) (number place : ℕ) (n n' : ℕ) (old new : Option (List Entry)) → new ≡ old → n ≡ n' → IfSome (database_in old n') (λ db. answer.Refused number place ≡ answer_of db s)
     → (old ≡ None → IsRefusedQuestion None n s number place) → IsRefusedQuestion new n s number place
 none_told s number place n n' None new told is says untold = subst (λ (o : Option (List Entry)). IsRefusedQuestion o n s number place) (sym told) (untold refl)
 none_told s number place n n' (Some h) new told is says untold =

@@ -112,7 +112,7 @@ quiet_failed : (old new : Back) (Own : Entry → Type 0) (e : CommitFault) → n
 quiet_failed old new Own e before commits = record { count = commits.count; shown = same_shown old.parts new.parts commits.versions; told = commits.told; before = before }
 
 -- A transaction is the next one: it is the last of a told history.
-next_told : (Own : Entry → Type 0) (P : Database → Entry → Type 0) (d : Committed) (n count : ℕ) (old new : Option (List Entry)) → IsToldBehind {T = Committed} {E = CommitFault} (Ok d) old new Own
+pub next_told : (Own : Entry → Type 0) (P : Database → Entry → Type 0) (d : Committed) (n count : ℕ) (old new : Option (List Entry)) → IsToldBehind {T = Committed} {E = CommitFault} (Ok d) old new Own
     → IfSome old (λ h. count ≡ length h) → n ≡ count + 1 → IfSome old (λ h. (e : Entry) → Own e → P (after h) e) → IfSome new (λ h. HasTransaction h n (P (first h (n - 1))))
 next_told Own P d n count None new told counted is says = subst (λ (o : Option (List Entry)). IfSome o (λ h. HasTransaction h n (P (first h (n - 1))))) (sym told) tt
 next_told Own P d n count (Some h) new (e, own, is_new) counted is says =
@@ -170,23 +170,23 @@ module _ {E : Type 0} (old new : Back) (done : Result Committed CommitFault) (gi
       by h e was (inr own) = inr (leaves, told_at (λ (k : List Entry). (e : Entry) → Own e → SaysOwn k (length new.parts.owned.store.sequence.refs) time asked e) old.parts.history h was says e own)
 
 -- the front that all transactions of a told history are
-all_first : (h : List Entry) (count count' : ℕ) → count ≡ length h → count' ≡ count → first h count' ≡ after h
+pub all_first : (h : List Entry) (count count' : ℕ) → count ≡ length h → count' ≡ count → first h count' ≡ after h
 all_first h count count' is same = ap (first h) (same ∙ is) ∙ ap after (take_all (length h) h (omega arith))
 
 -- ---- batches
 
-batch_done : (schemas : List Schema) (time : ℕ) (batch : Reading) (text : List ℕ) → IsReading text batch → (o : Option (List Entry)) → IfSome o (λ h. schemas ≡ schemas_of (after h))
+pub batch_done : (schemas : List Schema) (time : ℕ) (batch : Reading) (text : List ℕ) → IsReading text batch → (o : Option (List Entry)) → IfSome o (λ h. schemas ≡ schemas_of (after h))
     → IfSome o (λ h. (e : Entry) → SaysLines schemas time batch e → SaysBatch (schemas_of (after h)) time text (Ok e))
 batch_done schemas time batch text reads None are = tt
 batch_done schemas time batch text reads (Some h) are = λ e own. (batch, reads, subst (λ (s : List Schema). SaysLines s time batch e) are own)
 
-batch_refused : (schemas : List Schema) (time : ℕ) (batch : Reading) (text : List ℕ) → IsReading text batch → (o : Option (List Entry)) → IfSome o (λ h. schemas ≡ schemas_of (after h))
+pub batch_refused : (schemas : List Schema) (time : ℕ) (batch : Reading) (text : List ℕ) → IsReading text batch → (o : Option (List Entry)) → IfSome o (λ h. schemas ≡ schemas_of (after h))
     → (count count' : ℕ) → IfSome o (λ h. count ≡ length h) → count' ≡ count → (c : Code) (line : ℕ) → IsLineFault schemas time batch (lines.Refused c line) → IsRefusedBatch o count' time text (number_of c) line
 batch_refused schemas time batch text reads None are count count' counted same c line fault = says_code time (start schemas) 1 batch.lines batch.whole c line fault
 batch_refused schemas time batch text reads (Some h) are count count' counted same c line fault =
     (c, refl, (batch, reads, subst (λ (s : List Schema). IsLineFault s time batch (lines.Refused c line)) (are ∙ ap schemas_of (sym (all_first h count count' counted same))) fault))
 
-batch_full : (s : Book) (time : ℕ) (batch : Reading) (text : List ℕ) → IsReading text batch → (o : Option (List Entry)) → IfSome o (λ h. s.sequence.schemas ≡ schemas_of (after h))
+pub batch_full : (s : Book) (time : ℕ) (batch : Reading) (text : List ℕ) → IsReading text batch → (o : Option (List Entry)) → IfSome o (λ h. s.sequence.schemas ≡ schemas_of (after h))
     → (count' : ℕ) → IfSome o (λ h. length s.sequence.refs ≡ length h) → count' ≡ length s.sequence.refs → s.limits.max_txns ≡ MAX_TXNS → IsFullFor s (SaysLines s.sequence.schemas time batch)
     → IsFullBatch o count' time text (number_of code.Full) 0
 batch_full s time batch text reads None are count' counted same usual full = (refl, refl, (let full = full.0 in omega (arith, full, usual, same)), tt)
@@ -242,17 +242,17 @@ lines_handled old new time batch (Err commit.Memory) (Err e) c text reads =
 
 -- ---- statements that write
 
-stmt_done : (schemas : List Schema) (s : Stmt) (o : Option (List Entry)) → IfSome o (λ h. schemas ≡ schemas_of (after h)) → IfSome o (λ h. (e : Entry) → SaysStmt schemas s e → write (schemas_of (after h)) s ≡ Ok e)
+pub stmt_done : (schemas : List Schema) (s : Stmt) (o : Option (List Entry)) → IfSome o (λ h. schemas ≡ schemas_of (after h)) → IfSome o (λ h. (e : Entry) → SaysStmt schemas s e → write (schemas_of (after h)) s ≡ Ok e)
 stmt_done schemas s None are = tt
 stmt_done schemas s (Some h) are = λ e own. subst (λ (l : List Schema). write l s ≡ Ok e) are own
 
-stmt_refused : (schemas : List Schema) (s : Stmt) (o : Option (List Entry)) → IfSome o (λ h. schemas ≡ schemas_of (after h)) → (count count' : ℕ) → IfSome o (λ h. count ≡ length h) → count' ≡ count
+pub stmt_refused : (schemas : List Schema) (s : Stmt) (o : Option (List Entry)) → IfSome o (λ h. schemas ≡ schemas_of (after h)) → (count count' : ℕ) → IfSome o (λ h. count ≡ length h) → count' ≡ count
     → (c : Code) (place : ℕ) → write schemas s ≡ Err (record { code = c; place = place }) → IsRefusedWrite o count' s (number_of c) place
 stmt_refused schemas s None are count count' counted same c place is = (schemas, (_, is, refl, refl))
 stmt_refused schemas s (Some h) are count count' counted same c place is =
     subst (λ (l : List Schema). IsRefusalOver l s (number_of c) place) (are ∙ ap schemas_of (sym (all_first h count count' counted same))) (_, is, refl, refl)
 
-stmt_full : (s : Book) (stmt : Stmt) (o : Option (List Entry)) → IfSome o (λ h. s.sequence.schemas ≡ schemas_of (after h))
+pub stmt_full : (s : Book) (stmt : Stmt) (o : Option (List Entry)) → IfSome o (λ h. s.sequence.schemas ≡ schemas_of (after h))
     → (count' : ℕ) → IfSome o (λ h. length s.sequence.refs ≡ length h) → count' ≡ length s.sequence.refs → s.limits.max_txns ≡ MAX_TXNS → IsFullFor s (SaysStmt s.sequence.schemas stmt)
     → IsFullWrite o count' stmt (number_of code.Full) 0
 stmt_full s stmt None are count' counted same usual full = (refl, refl, (let full = full.0 in omega (arith, full, usual, same)), tt)

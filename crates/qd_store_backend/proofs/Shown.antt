@@ -33,13 +33,13 @@ use Rattle.qd_versions.specs.Stores.{AreTables}
 use Rattle.qd_volume.specs.Disk.{Disk, reads_of}
 use Rattle.qd_store_backend.specs.Backs.{current, database_in, n_in, shape_in, source_of, IsPartDamage, IsPartDamaged, IsParts, IsTold, Parts}
 
-abbrev no_table_parts : TableParts
+abbrev pub no_table_parts : TableParts
 no_table_parts = record { schema = no_schema; parts = [] }
 
 -- ---- the tables of a version
 
 -- what a source of tables shows
-abbrev source_over : List Schema → List TableParts → Option Database → ℕ → ℕ → Option (ℕ × ℕ) → SourceView
+abbrev pub source_over : List Schema → List TableParts → Option Database → ℕ → ℕ → Option (ℕ × ℕ) → SourceView
 source_over schemas shape database faults damages last = record {
   schemas = schemas;
   parts = map (λ (t : TableParts). t.parts) shape;
@@ -50,17 +50,17 @@ source_over schemas shape database faults damages last = record {
 }
 
 -- the blocks of tables are told: they stand for a database
-abbrev AreHeld : List TableParts → Database → Type 0
+abbrev pub AreHeld : List TableParts → Database → Type 0
 AreHeld shape db = (blocks : ℕ → Block) × StandsFor blocks shape db
 
 -- one table of them
-record IsTable (schemas : List Schema) (shape : List TableParts) (table : ℕ) (t : TableParts) : Type 0 where
+pub record IsTable (schemas : List Schema) (shape : List TableParts) (table : ℕ) (t : TableParts) : Type 0 where
   pub within : table < length shape
   pub there : slice_get shape table ≡ Some t
   pub schema : get_or schemas table no_schema ≡ t.schema
   pub parts : get_or (map (λ (u : TableParts). u.parts) shape) table [] ≡ t.parts
 
-is_table : (schemas : List Schema) (shape : List TableParts) (table : ℕ) → schemas ≡ schemas_in shape → table < length schemas → IsTable schemas shape table (get_or shape table no_table_parts)
+pub is_table : (schemas : List Schema) (shape : List TableParts) (table : ℕ) → schemas ≡ schemas_in shape → table < length schemas → IsTable schemas shape table (get_or shape table no_table_parts)
 is_table schemas shape table same lt =
     let low : table < length shape = omega (arith, lt, ap length same, length-map shape (λ (u : TableParts). u.schema)) in
     record {
@@ -75,7 +75,7 @@ flat_map_agree f g [] h = refl
 flat_map_agree f g (x ∷ xs) h = ap₂ (λ a l. a ++ l) h.0 (flat_map_agree f g xs h.1)
 
 -- a table's rows are those of its parts' blocks
-rows_of_parts : (blocks : ℕ → Block) (shape : List TableParts) (db : Database) (table : ℕ) → StandsFor blocks shape db → table < length shape
+pub rows_of_parts : (blocks : ℕ → Block) (shape : List TableParts) (db : Database) (table : ℕ) → StandsFor blocks shape db → table < length shape
     → rows_at db table ≡ rows_in_parts (get_or shape table no_table_parts).schema.cols blocks (get_or shape table no_table_parts).parts
 rows_of_parts blocks shape db table stands low =
     let f : TableParts → List Row = λ (u : TableParts). rows_in_parts u.schema.cols blocks u.parts in
@@ -97,7 +97,7 @@ all_told blocks shape db table t stands low is =
     ∙ sym (rows_of_parts blocks shape db table stands low)
 
 -- the law of a source of tables
-tables_law : (schemas : List Schema) (shape : List TableParts) (database : Option Database) (faults damages : ℕ) (last : Option (ℕ × ℕ)) → schemas ≡ schemas_in shape → AreTables shape → IfSome database (AreHeld shape)
+pub tables_law : (schemas : List Schema) (shape : List TableParts) (database : Option Database) (faults damages : ℕ) (last : Option (ℕ × ℕ)) → schemas ≡ schemas_in shape → AreTables shape → IfSome database (AreHeld shape)
     → IsSource (source_over schemas shape database faults damages last)
 tables_law schemas shape database faults damages last same are held = record {
   schemas = subst AreSchemas (sym same) are.schemas;

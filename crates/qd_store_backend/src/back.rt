@@ -1,13 +1,12 @@
 //! The backend: what it keeps, and how it answers.
 ghost use Rattle.std.specs.Prelude.{◌≡◌, ◌≤◌, ℕ, List, Option, Ok, length, IfErr, IfOk, IfSome};
 ghost use Rattle.qd_base.specs.declared.limits.TheConstants.{MAX_QUERY_BYTES};
-ghost use Rattle.qd_base.specs.Codes.{number_of};
 ghost use Rattle.qd_base.specs.declared.request.Reply.TheVariants as reply;
 ghost use Rattle.qd_base.specs.declared.request.Request.TheVariants as request;
 ghost use Rattle.qd_catalog.specs.Versions.{IsLive};
 ghost use Rattle.qd_base.specs.declared.op.Entry.{Entry};
 ghost use Rattle.qd_store_backend.specs.Backs.{back_shown, left_of, writer_behind, AreUsual, BeginsWith, GoesOn, IsDraftDamaged, IsLeftOf, IsPartDamaged, IsTold};
-ghost use Rattle.qd_store_backend.specs.Replies.{RepliesOver, RepliesTo, RepliesWith};
+ghost use Rattle.qd_store_backend.specs.Replies.{RepliesWith};
 ghost use Rattle.qd_store_backend.specs.Rounds.{number_in};
 ghost use Rattle.qd_store_backend.specs.Volumes.{KeepsTold};
 ghost use Rattle.qd_ilp.specs.Whole.{IsReading};
@@ -20,13 +19,13 @@ ghost use Rattle.qd_session.specs.Timing.{IsRead};
 
 use crate::kept::KeptBlocks;
 use crate::parts::{Round, StoreParts};
+use crate::replies::{refused, reply_of, reply_over};
 use qd_apply::schemas_of;
 use qd_base::{Code, Memory, Reply, Txt};
 use qd_durable::LogFault;
 use qd_ghost::{Telling, Turning};
 use qd_ilp::Batch;
-use qd_query::{Answer, run_query};
-use qd_scan::PartFault;
+use qd_query::run_query;
 use qd_session::Backend;
 use qd_sql::{SqlFault, parse_stmt};
 use qd_sql_ast::Stmt;
@@ -254,33 +253,6 @@ fn writer_after(writer: Option<u32>, done: &Result<Committed, CommitFault>) -> O
     }
 }
 
-/// The reply to a write.
-fn reply_of(done: Result<Committed, CommitFault>) -> Result<Reply, Memory>
-    ensures reply { RepliesTo done result }
-    ensures undamaged { (file : ℕ) (at : ℕ) → result ≡ Ok (reply.Damaged file at) → ⊥ }
-{
-    match done {
-        Ok(Committed { n, writer: _ }) => Ok(Reply::Done { n }),
-        Err(CommitFault::Refused { code, place }) => Ok(refused(code, place)),
-        Err(CommitFault::Full) => Ok(refused(Code::Full, 0)),
-        Err(CommitFault::Vol) => Ok(refused(Code::Volume, 0)),
-        Err(CommitFault::Memory) => Err(AllocError),
-    }
-}
-
-/// The reply to a statement that asks, over the first `n` transactions.
-fn reply_over(n: u64, answer: Result<Answer, PartFault>) -> Result<Reply, Memory>
-    ensures reply { RepliesOver n answer result }
-{
-    match answer {
-        Ok(Answer::Rows(table)) => Ok(Reply::Rows { n, table }),
-        Ok(Answer::Refused { code, place }) => Ok(Reply::QueryRefused { n, code, place }),
-        Err(PartFault::Vol) => Ok(refused(Code::Volume, 0)),
-        Err(PartFault::Damaged { file, at }) => Ok(Reply::Damaged { file, at }),
-        Err(PartFault::Memory) => Err(AllocError),
-    }
-}
-
 /// The reply to an apply. What a sweep left is removed by a later one.
 fn reply_with(done: Result<Round, LogFault>) -> Result<Reply, Memory>
     ensures reply { RepliesWith (number_in done) result }
@@ -290,15 +262,5 @@ fn reply_with(done: Result<Round, LogFault>) -> Result<Reply, Memory>
         Err(LogFault::Vol) => Ok(refused(Code::Volume, 0)),
         Err(LogFault::Damaged { file, at }) => Ok(Reply::Damaged { file, at }),
         Err(LogFault::Memory) => Err(AllocError),
-    }
-}
-
-/// The refusal with a code at a place.
-fn refused(code: Code, place: u64) -> Reply
-    ensures { result ≡ reply.Refused (number_of code) place }
-{
-    Reply::Refused {
-        code: code.number(),
-        place,
     }
 }

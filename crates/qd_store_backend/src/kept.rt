@@ -13,13 +13,13 @@ use std::sync::Arc;
 
 /// Blocks by the table and the position of their part: those that were asked for last, as many as the usual limits let a cache keep.
 #[derive(Drop)]
-pub(crate) struct KeptBlocks {
-    cache: LruCache<(usize, usize), Arc<Block<SymbolMap>>>,
+pub struct KeptBlocks {
+    pub(crate) cache: LruCache<(usize, usize), Arc<Block<SymbolMap>>>,
 }
 
 impl KeptBlocks {
-    /// Keeps none.
-    pub(crate) fn none(alloc: Global) -> Result<KeptBlocks, Memory>
+    /// Keeps none yet. It takes memory for as many places as blocks may be kept; want of that is the only error.
+    pub fn none(alloc: Global) -> Result<KeptBlocks, Memory>
         ensures none { IfOk result (λ k. k.cache.entries ≡ []) }
     {
         let places = NonZeroUsize::new(Limits::usual().cache_blocks as usize).unwrap();
@@ -28,8 +28,8 @@ impl KeptBlocks {
         })
     }
 
-    /// Gives the block of a part, where it is kept.
-    pub(crate) fn find(
+    /// Gives the block of a part, where it is kept, in time that doesn't grow with their number. Want of memory is the only error.
+    pub fn find(
         &mut self,
         table: usize,
         i: usize,
@@ -46,8 +46,8 @@ impl KeptBlocks {
     }
 
     /// Shares a block, and keeps it for its part, in the place of the one that was asked for longest ago where there are as many as
-    /// may be. Where there is no memory to keep it, it isn't kept.
-    pub(crate) fn share(
+    /// may be. Where there is no memory to keep it, it isn't kept; where there is none to share it, that is the error.
+    pub fn share(
         &mut self,
         alloc: Global,
         table: usize,
@@ -63,7 +63,7 @@ impl KeptBlocks {
     }
 
     /// Keeps none any more.
-    pub(crate) fn forget(&mut self)
+    pub fn forget(&mut self)
         ensures none { self.new.cache.entries ≡ [] }
     {
         self.cache.clear();

@@ -17,8 +17,9 @@ use qd_store::{Merged, PublishFault, Store};
 use qd_volume::Volume;
 use std::alloc::Global;
 
-/// Merges the transactions behind the current version, up to a number.
-pub(crate) fn next_of<V: Volume>(
+/// Merges the transactions behind the current version, up to a number. It costs what [`Store::draft`] and the merge cost; after an `Err`
+/// the store is as it was, and the call may be made again, but behind damage, which is no whole store's.
+pub fn next_of<V: Volume>(
     store: &mut Store<V>,
     alloc: Global,
     upto: u64,

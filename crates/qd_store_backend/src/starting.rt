@@ -5,6 +5,7 @@ ghost use Rattle.qd_store_backend.specs.Volumes.{Starts};
 ghost use Rattle.qd_durable.specs.Moments.{Told};
 ghost use Rattle.qd_store.specs.declared.fault.OpenFault.TheVariants as fault;
 ghost use Rattle.qd_store.specs.Faults.{CountsOpen};
+ghost use Rattle.qd_store.specs.Opening.{HasFirstRow};
 ghost use Rattle.qd_store.specs.Owned.{storage_in, store_in};
 ghost use Rattle.std.specs.Prelude.{◌≡◌, ◌≢◌, IfErr, IfOk, None};
 
@@ -23,6 +24,7 @@ use std::alloc::Global;
 pub fn open_or_create<V: Volume>(alloc: Global, volume: V) -> Result<Store<V>, Unmade<V>>
     ensures usual { IfOk result (λ s. AreUsual s.store.limits) }
     ensures alone { IfOk result (λ s. IsOnlyOne s.store.versions.versions) }
+    ensures first { IfOk result (λ s. HasFirstRow s.store.versions.versions) }
     ensures settled { IfOk result (λ s. s.store.sequence.pending ≡ None) }
     ensures made { IfErr result (λ unmade. unmade.why ≢ fault.NotMade) }
     ensures told { Told (V.storage volume).disk (storage_in result).disk (Starts (store_in result)) }

@@ -6,7 +6,7 @@ use Rattle.qd_manifest.specs.declared.shape.TableParts.{TableParts}
 use Rattle.qd_seq.specs.States.{Log}
 use Rattle.qd_store.specs.Stores.{Book}
 use Rattle.qd_store.proofs.OpenSteps.{book_of_one, entries_failed, log_failed, log_opened, mark_failed, no_mark, no_memory, number_here, ready, root_opened, store_opened, sync_failed, tables_here, versions_failed}
-use Rattle.qd_store.proofs.OpenedStore.{alone_of_it}
+use Rattle.qd_store.proofs.OpenedStore.{alone_of_it, first_of_it}
 use Rattle.qd_store.proofs.opening.open.Goals as goal
 use Rattle.qd_base.specs.declared.limits.TheConstants.{MAX_TXNS}
 
@@ -86,3 +86,9 @@ returns-clause-alone g c =
     let v = c.in_ok-versions.versions in
     let o = c.in_ok-versions.ensures.opened in
     alone_of_it v.versions v.root.n o.0.next_block o.0.shape o.2
+
+pub returns-clause-first : goal.returns-clause-first
+returns-clause-first g c =
+    let v = c.in_ok-versions.versions in
+    let o = c.in_ok-versions.ensures.opened in
+    first_of_it v.versions v.root.n o.0.next_block o.0.shape o.2

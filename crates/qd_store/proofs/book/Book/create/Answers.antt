@@ -2,7 +2,7 @@ use Rattle.std.proofs.Common.{[]}
 use Rattle.std.proofs.lemmas.Result.{err_from_is_err_and}
 use Rattle.qd_store.specs.Stores.{Book}
 use Rattle.qd_store.proofs.CreateTold.{book_of_none, is_marked_told, none_shown, not_logged_told, not_marked_told, not_rooted_told, sound_of}
-use Rattle.qd_store.proofs.OpenedStore.{alone_of_it}
+use Rattle.qd_store.proofs.OpenedStore.{alone_of_it, first_of_it}
 use Rattle.qd_store.proofs.book.Book.create.Goals as goal
 
 pub returns-in_err-sequencer-clause-told : goal.returns-in_err-sequencer-clause-told
@@ -36,3 +36,6 @@ returns-clause-told g c =
 
 pub returns-clause-alone : goal.returns-clause-alone
 returns-clause-alone g c = alone_of_it c.in_ok-versions.versions.versions 0 0 [] c.in_ok-versions.ensures.opened
+
+pub returns-clause-first : goal.returns-clause-first
+returns-clause-first g c = first_of_it c.in_ok-versions.versions.versions 0 0 [] c.in_ok-versions.ensures.opened

@@ -29,11 +29,7 @@ impl KeptBlocks {
     }
 
     /// Gives the block of a part, where it is kept, in time that doesn't grow with their number. Want of memory is the only error.
-    pub fn find(
-        &mut self,
-        table: usize,
-        i: usize,
-    ) -> Result<Option<Arc<Block<SymbolMap>>>, Memory>
+    pub fn find(&mut self, table: usize, i: usize) -> Result<Option<Arc<Block<SymbolMap>>>, Memory>
         ensures found { IfOk result (λ o. IfSome o (λ b. IsKept self.old.cache.entries table i (arc_value b))) }
         ensures keeps { KeepsNoOther self.old.cache.entries self.new.cache.entries }
     {

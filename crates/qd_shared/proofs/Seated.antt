@@ -212,6 +212,7 @@ module _ (p : Pass) (table' : TableId) (then : Knowing) (found left : Desk) (r :
       ap (λ (l : List Row). version_at l place.row) (h.noted ∙ ap (λ (b : Book). map version_of b.versions.versions.versions) store)
           ∙ (on_board found place.row y live ∙ ap₂ (λ (m : ℕ) (l : List TableParts). Some (record { n = m; shape = l })) number same),
     );
+    shown = ap (λ (b : Book). n_in (current b)) store;
     history = told;
     count = counted_items left c;
     block = λ t q has. block t q (part_pinned found place row table i shape y is_row live same t q has);

@@ -17,6 +17,7 @@ use Rattle.qd_score_model.specs.declared.view.Phase.{Phase}
 use Rattle.qd_score_model.specs.declared.view.Phase.TheVariants.{Pinned}
 use Rattle.qd_score_model.specs.declared.view.Place.{Place}
 use Rattle.qd_score_model.specs.Machine.{version_at}
+use Rattle.qd_store_backend.specs.Backs.{current, n_in}
 use Rattle.qd_versions.specs.Stores.{AreTables}
 use Rattle.qd_shared.specs.declared.snap.Snap.{Snap}
 use Rattle.qd_shared.specs.Desks.{Desk, items_in}
@@ -71,6 +72,7 @@ pub record ReadsPart (result : Result Block LogFault) (old new : Pass) (place : 
   pub left : Desk
   pub holds : Holds old new found left
   pub noted : Notes new place.n shape
+  pub shown : n_in (current left.owned.store) ≡ n_in (current found.owned.store)
   pub history : history_of new ≡ left.history
   pub count : IfSome left.history (λ h. length (items_in left) ≡ length h)
   pub block : (t : TableParts) (p : Part) → HasPart shape table i t p → IfOk result (λ b. IsBlockOf t.schema p b)

@@ -7,8 +7,6 @@
 #[cfg(test)]
 mod exprs;
 #[cfg(test)]
-mod shareds;
-#[cfg(test)]
 mod stores;
 #[cfg(test)]
 mod tops;

@@ -1,4 +1,4 @@
-mod Items
+pub mod Items
 mod Taken
 mod Held
 mod Committing

@@ -68,9 +68,10 @@ module _ (p : Pass) (table table' : TableId) (k now then : Knowing) (is : at_tab
     count = counted_items found counted;
   }
 
-  -- what it has noted then, and the history that it has seen
-  pub noted_here : MayEnd now found → Gives now then found → IsCounted found → ((view_of (at_table table' then)).noted ≡ versions_in found) × (history_of (at_table table' then) ≡ found.history)
-  noted_here may gave counted = ((held found (grows_refl found) may gave).noted, told_left found (grows_refl found) may gave counted)
+  -- what it has noted and seen then
+  pub noted_here : MayEnd now found → Gives now then found → IsCounted found
+      → ((view_of (at_table table' then)).noted ≡ versions_in found) × ((view_of (at_table table' then)).seen ≡ items_in found) × (history_of (at_table table' then) ≡ found.history)
+  noted_here may gave counted = let h = held found (grows_refl found) may gave in (h.noted, h.seen, told_left found (grows_refl found) may gave counted)
 
   pub committed_pass : (asked : Asked) (result : Result Committed CommitFault) (left : Desk) → CommitsTo asked result found left → MayEnd now left → Gives now then left → IsCounted left → Commits asked result p (at_table table' then)
   committed_pass asked result left c may gave counted =
@@ -127,14 +128,15 @@ noted_pinned p table k found place shape y is f (row, noted) at n =
 
 -- what is copied of it
 pub snap_of_pinned : {E : Type 0} (r : Result Snap E) (new : Pass) (found : Desk) (place : Place) (n row : ℕ) (y : catalog.Version) → n ≡ place.n → row ≡ place.row → rows.version_at found.owned.store.versions.versions place.row ≡ Some y → y.n ≡ place.n
-    → (view_of new).noted ≡ versions_in found → history_of new ≡ found.history
-    → IfOk r (λ s. s.n ≡ n) → IfOk r (λ s. (x : catalog.Version) → rows.version_at found.owned.store.versions.versions row ≡ Some x → s.shape ≡ x.shape) → IfOk r (λ s. IsCopied s found.history) → IfOk r (IsSnapOf new place)
-snap_of_pinned (Err e) new found place n row y is at live number noted told count shape copied = tt
-snap_of_pinned (Ok s) new found place n row y is at live number noted told count shape copied =
+    → (view_of new).noted ≡ versions_in found → (view_of new).seen ≡ items_in found → history_of new ≡ found.history
+    → IfOk r (λ s. s.n ≡ n) → IfOk r (λ s. n ≤ length found.owned.store.sequence.refs) → IfOk r (λ s. (x : catalog.Version) → rows.version_at found.owned.store.versions.versions row ≡ Some x → s.shape ≡ x.shape) → IfOk r (λ s. IsCopied s found.history) → IfOk r (IsSnapOf new place)
+snap_of_pinned (Err e) new found place n row y is at live number noted seen told count few shape copied = tt
+snap_of_pinned (Ok s) new found place n row y is at live number noted seen told count few shape copied =
     let same : s.shape ≡ y.shape = shape y (ap (λ (r : ℕ). rows.version_at found.owned.store.versions.versions r) at ∙ live) in
     let many : s.n ≡ y.n = count ∙ (is ∙ sym number) in
     record {
       number = count ∙ is;
+      within = (let all : length (view_of new).seen ≡ length found.owned.store.sequence.refs = ap length seen ∙ items_count found.owned.store.sequence.refs found.history in omega (arith, all, count, few));
       noted = (place.row, ap (λ (l : List Row). version_at l place.row) noted ∙ (on_board found place.row y live ∙ ap₂ (λ (m : ℕ) (l : List TableParts). Some (record { n = m; shape = l })) (sym many) (sym same)));
       copied = subst (λ (o : Option (List Entry)). IsCopied s o) (sym told) copied;
     }
@@ -213,6 +215,7 @@ module _ (p : Pass) (table' : TableId) (then : Knowing) (found left : Desk) (r :
           ∙ (on_board found place.row y live ∙ ap₂ (λ (m : ℕ) (l : List TableParts). Some (record { n = m; shape = l })) number same),
     );
     shown = ap (λ (b : Book). n_in (current b)) store;
+    items = ap₂ items_of (ap (λ (b : Book). b.sequence.refs) store) history;
     history = told;
     count = counted_items left c;
     block = λ t q has. block t q (part_pinned found place row table i shape y is_row live same t q has);

@@ -51,6 +51,7 @@ pub record IsCopied (s : Snap) (history : Option (List Entry)) : Type 0 where
 -- that of the version which a pass has pinned
 pub record IsSnapOf (p : Pass) (place : Place) (s : Snap) : Type 0 where
   pub number : s.n ≡ place.n
+  pub within : s.n ≤ length (view_of p).seen
   pub noted : Notes p s.n s.shape
   pub copied : IsCopied s (history_of p)
 
@@ -73,6 +74,7 @@ pub record ReadsPart (result : Result Block LogFault) (old new : Pass) (place : 
   pub holds : Holds old new found left
   pub noted : Notes new place.n shape
   pub shown : n_in (current left.owned.store) ≡ n_in (current found.owned.store)
+  pub items : items_in left ≡ items_in found
   pub history : history_of new ≡ left.history
   pub count : IfSome left.history (λ h. length (items_in left) ≡ length h)
   pub block : (t : TableParts) (p : Part) → HasPart shape table i t p → IfOk result (λ b. IsBlockOf t.schema p b)

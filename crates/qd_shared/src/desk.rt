@@ -179,6 +179,7 @@ impl<V: Volume + Drop> Desk<V> {
     pub(crate) fn snap_of(&self, alloc: Global, row: u8, n: u64) -> Result<Snap, Memory>
         requires live { (x : catalog.Version) × (version_at self.now.owned.store.versions.versions row ≡ Some x) × (x.n ≡ n) }
         ensures number { IfOk result (λ s. s.n ≡ n) }
+        ensures within { IfOk result (λ s. n ≤ length self.now.owned.store.sequence.refs) }
         ensures shape { IfOk result (λ s. (x : catalog.Version) → version_at self.now.owned.store.versions.versions row ≡ Some x → s.shape ≡ x.shape) }
         ensures copied { IfOk result (λ s. IsCopied s self.now.history) }
     {

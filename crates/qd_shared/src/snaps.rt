@@ -1,5 +1,5 @@
 //! Pinned versions: what is copied of them, and their parts.
-ghost use Rattle.std.specs.Prelude.{◌≡◌, IfOk, List};
+ghost use Rattle.std.specs.Prelude.{◌≡◌, IfOk};
 ghost use Rattle.qd_base.specs.declared.part.Part.{Part};
 ghost use Rattle.qd_block.specs.Blocks.{IsWhole};
 ghost use Rattle.qd_manifest.specs.declared.shape.TableParts.{TableParts};
@@ -39,7 +39,7 @@ impl<V: Volume + Drop> Shared<V> {
         snap
     }
 
-    /// Reads a part of the version that the pass has pinned, in one hold of the lock, as
+    /// Reads a part of the version that the pass has pinned, of which `_snap` was copied, in one hold of the lock, as
     /// [`Store::read_part`](qd_store::Store::read_part) does.
     pub fn read_part<R: Wait>(
         &self,
@@ -47,15 +47,15 @@ impl<V: Volume + Drop> Shared<V> {
         alloc: Global,
         pass: &mut Pass<V>,
         pin: &Pin,
+        _snap: &Snap,
         table: usize,
         i: usize,
     ) -> Result<Block<SymbolMap>, LogFault>
-        ghost shape: { List TableParts }
         requires pass { pass.old.table ≡ self.now }
         requires pinned { IsPinned pass.old (pinned_at pin.now) }
-        requires noted { Notes pass.old pin.now.n shape }
-        requires there { (t : TableParts) × (p : Part) × HasPart shape table i t p }
-        ensures reads { ReadsPart result pass.old pass.new (pinned_at pin.now) shape table i }
+        requires noted { Notes pass.old pin.now.n _snap.now.shape }
+        requires there { (t : TableParts) × (p : Part) × HasPart _snap.now.shape table i t p }
+        ensures reads { ReadsPart result pass.old pass.new (pinned_at pin.now) _snap.now.shape table i }
         ensures whole { IfOk result (λ b. IsWhole b) }
     {
         let mut hold = self.take(rt, &mut pass.seat);

@@ -17,6 +17,13 @@ schemas_of-requires g c =
     let here : version_at c.self.inside.store.store.versions.versions c.args.row ≡ Some x = subst (λ (d : Desk). version_at d.owned.store.versions.versions c.args.row ≡ Some x) (sym c.self.view_is) at in
     record { schemas = subst (λ (l : List TableParts). AreSchemas (schemas_in l)) (sym (c.shape_of-shape.ensures.shape x here)) (c.keeps_its_law.ensures.versions.tables c.args.row x here).schemas }
 
+pub returns-clause-within : goal.returns-clause-within
+returns-clause-within g c =
+    let (x, at, n) = c.requires.live in
+    let here : version_at c.self.inside.store.store.versions.versions c.args.row ≡ Some x = subst (λ (d : Desk). version_at d.owned.store.versions.versions c.args.row ≡ Some x) (sym c.self.view_is) at in
+    subst (λ (d : Desk). c.args.n ≤ length d.owned.store.sequence.refs) c.self.view_is
+    (subst (λ (k : ℕ). k ≤ length c.self.inside.store.store.sequence.refs) n (c.keeps_its_law.ensures.book.shown c.args.row x here))
+
 pub returns-clause-copied : goal.returns-clause-copied
 returns-clause-copied g c =
     let (x, at, n) = c.requires.live in

@@ -135,10 +135,11 @@ impl<V: Volume + Drop> Shared<V> {
         self.score.give(seat, hold);
     }
 
-    /// Takes the lock for good, and gives the store: nobody gets the lock any more. What the pass had seen is the beginning of the
-    /// store's history, where that is told, and its version is no older than the pass knew.
-    pub fn close<R: Wait>(self, rt: &R, pass: Pass<V>) -> Store<V>
-        requires pass { pass.table ≡ self }
+    /// Takes the lock for good, and gives the store. What the pass had seen is the beginning of the store's history, where that is
+    /// told, and its version is no older than the pass knew. Whoever asks for the lock behind that waits without end: it is for the
+    /// last pass, which has joined all others.
+    pub fn close<R: Wait>(&self, rt: &R, pass: Pass<V>) -> Store<V>
+        requires pass { pass.table ≡ self.now }
         ensures closes { Closes pass result }
     {
         let Pass { mut seat } = pass;

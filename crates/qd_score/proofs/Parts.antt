@@ -1,7 +1,8 @@
 -- Seats are split and joined, and the first one opens the table.
 use Rattle.std.proofs.Common.{◌≡◌, ◌≢◌, ℕ, zero, suc, ◌+◌, ◌-◌, ◌*◌, ◌<◌, lit<, replicate, true, false, List, [], ◌∷◌, ◌++◌, set, Some, refl, sym, ap, ◌∙◌, subst, inl, ⊎_elim, arith}
-use Rattle.std.specs.Prelude.{slice_index, Option, ◌==◌}
+use Rattle.std.specs.Prelude.{slice_index, Option, ◌==◌, All}
 use mathlib.Core.Option.{some, some-injective, some-ne-none}
+use mathlib.Core.List.{IsPrefix}
 use lib.ListN.{get_elem?}
 use Rattle.atomic_table.specs.Table.{Splits, Joins, opening as table_opening}
 use Rattle.atomic_table.proofs.Lists.{at_set, at_snoc, set_else}
@@ -18,9 +19,17 @@ use Rattle.qd_score_model.proofs.Seats.{joins, kept_opening}
 use Rattle.qd_score.specs.declared.limits.TheConstants.{VERSIONS_END}
 use Rattle.qd_score.specs.declared.table.Knows.{Knows}
 use Rattle.qd_score.specs.Rule.{Ruled, Stands, view_in, with_view, nobody, first_seat, place_word, row_word}
-use Rattle.qd_score.specs.Calls.{IsLoose}
+use Rattle.qd_score.specs.Calls.{IsLoose, HasSeenBoth}
 use Rattle.qd_score.proofs.Words.{map_set, map_push}
 use Rattle.qd_score.proofs.Steps.{view_there}
+
+module _ {I S B : Type 0} (blocks : S → List ℕ) where
+  -- the view shows what both had seen, and it stands
+  pub seen_both : (k w now : Knows I S B) → Stands blocks now.view → now ≡ with_view k (joined k.view w.view) → HasSeenBoth k.view w.view now.view
+  seen_both k w now st is = record { first = met 0 [] (omega arith); other = met 1 [] (omega arith) }
+    where
+      met : All (λ xs. IsPrefix xs now.view.seen) (k.view.seen ∷ w.view.seen ∷ k.view.met)
+      met = subst (All (λ xs. IsPrefix xs now.view.seen)) (ap (λ (z : Knows I S B). z.view.met) is) (st.2.history.seats st.1 now.view st.3).met
 
 module _ {I S B F : Type 0} (book : B → Book I S) (sound : B → Type 0) (fixed : B → F) (blocks : S → List ℕ) where
   pub splits : (id : ℕ) (k : Knows I S B) (mode : Mode) → k.view.spent ≡ false → MaySplit k.view mode

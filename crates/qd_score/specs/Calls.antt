@@ -38,6 +38,11 @@ module _ {I S : Type 0} where
     pub no_lock : v.hold ≡ None
     pub no_pin : (v.phase ≡ Idle) ⊎ ((place : Place) × (v.phase ≡ Looked place))
 
+  -- what each of two seats had seen is a beginning of what one sees that took in the other
+  pub record HasSeenBoth (v w now : View I S) : Type 0 where
+    pub first : IsPrefix v.seen now.seen
+    pub other : IsPrefix w.seen now.seen
+
   -- What a hold may give back. The history goes on behind its end, and a Keeper's stays; neither count falls; live rows,
   -- their numbers and shapes, and the current place are as the seat's own steps left them; no live version is newer than
   -- the current one, and every block that a live version lists is present.

@@ -10,7 +10,7 @@ ghost use Rattle.std.specs.Borrow.{sem, follows};
 ghost use Rattle.qd_score.specs.Lending.{with_book};
 ghost use Rattle.qd_score.specs.contracts.score.Hold.{the_row};
 ghost use Rattle.qd_score.specs.Rule.{sight_of, IsInOrder, with_view, first_seat};
-ghost use Rattle.qd_score.specs.Calls.{MaySit, IsSeatOf, IsLoose, IsOfSeat, MayGiveBack, known_by, view_of};
+ghost use Rattle.qd_score.specs.Calls.{MaySit, IsSeatOf, IsLoose, HasSeenBoth, IsOfSeat, MayGiveBack, known_by, view_of};
 
 use crate::booked::Booked;
 use crate::table::{Give, KeeperOff, KnowsOf, Learn, Merge, Scored, Share, Take, WriterOff};
@@ -242,13 +242,15 @@ impl<B: Booked> Score<B> {
     }
 
     /// A seat takes in another, which holds neither the lock nor a pin: the longer of what they have seen, the greater number
-    /// known, both lists of positions, and the other's room and one more.
+    /// known, both lists of positions, and the other's room and one more. Both had seen beginnings of the one history, so the
+    /// longer of these goes on behind each.
     pub fn join(&self, seat: &mut Seat<B>, other: Seat<B>)
         requires seat { IsSeatOf B.blocks self.now.table.shared.table_id seat.old }
         requires other { IsSeatOf B.blocks self.now.table.shared.table_id other }
         requires loose { IsLoose (view_of other) }
         ensures seat { IsSeatOf B.blocks self.now.table.shared.table_id seat.new }
         ensures joined { known_by seat.new ≡ with_view (known_by seat.old) (joined (view_of seat.old) (view_of other)) }
+        ensures seen { HasSeenBoth (view_of seat.old) (view_of other) (view_of seat.new) }
     {
         self.table.shared.join_seat::<Merge>(seat, other);
         self.stand(seat);

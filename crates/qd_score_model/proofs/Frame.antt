@@ -35,7 +35,7 @@ module _ {I S : Type 0} where
   same_fits b pins holder v h = record {
     gone = h.gone;
     phase = at_phase v.phase h.phase;
-    seen = record { seen = h.seen.seen; own = h.seen.own; known = h.seen.known; faults = h.seen.faults; removed = h.seen.removed };
+    seen = record { seen = h.seen.seen; met = h.seen.met; own = h.seen.own; known = h.seen.known; faults = h.seen.faults; removed = h.seen.removed };
     noted = h.noted;
     keeper = h.keeper;
     sole = h.sole;

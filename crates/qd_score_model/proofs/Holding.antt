@@ -14,7 +14,7 @@ use Rattle.qd_score_model.specs.declared.view.Version.{Version}
 use Rattle.qd_score_model.specs.declared.view.View.{View}
 use Rattle.qd_score_model.specs.Machine.{Book, Board, State, Take, Give, GoLive, SetCurrent, Retire, version_at, sight, hold_of, happens, Needs, put_at, IsGreatest, behind, record_of, retired}
 use Rattle.qd_score_model.specs.Kept.{times, RisesWithin, claimed, IsLive, WasCurrent, PhaseFits, VersionsStand, NotedFits, Kept}
-use Rattle.qd_score_model.proofs.Lists.{at_below, sum_at, sum_at_le, sum_none, prefix_refl, prefix_trans, prefix_length}
+use Rattle.qd_score_model.proofs.Lists.{at_below, sum_at, sum_at_le, sum_none, prefix_refl, prefix_trans, prefix_length, met_further}
 use Rattle.qd_score_model.proofs.Numbers.{rises_wider, rises_behind, rises_append, times_above, times_below, times_once, times_append, never_falls_wider, never_falls_push}
 use Rattle.qd_score_model.proofs.Frame.{once_on, Fits, same_fits, Stands, stands_of, fits_of, kept_set}
 use Rattle.qd_score_model.proofs.Boards.{hold_none, hold_own, hold_other, version_here, version_else, live_now, live_still, below_rows, put_same, put_other, same_or_other, one_at_same}
@@ -29,7 +29,7 @@ module _ {I S : Type 0} where
   refit b v refused hold h = record {
     gone = h.gone;
     phase = h.phase;
-    seen = record { seen = h.seen.seen; own = h.seen.own; known = h.seen.known; faults = h.seen.faults; removed = h.seen.removed };
+    seen = record { seen = h.seen.seen; met = h.seen.met; own = h.seen.own; known = h.seen.known; faults = h.seen.faults; removed = h.seen.removed };
     noted = h.noted;
     keeper = h.keeper;
     sole = h.sole;
@@ -94,7 +94,7 @@ module _ {I S : Type 0} (blocks : S → List ℕ) where
       moved j u there h = record {
         gone = h.gone;
         phase = phases j u there h.phase;
-        seen = record { seen = h.seen.seen; own = h.seen.own; known = le_trans h.seen.known le; faults = h.seen.faults; removed = h.seen.removed };
+        seen = record { seen = h.seen.seen; met = h.seen.met; own = h.seen.own; known = le_trans h.seen.known le; faults = h.seen.faults; removed = h.seen.removed };
         noted = noted u h.noted;
         keeper = h.keeper;
         sole = h.sole;
@@ -290,6 +290,7 @@ module _ {I S : Type 0} (blocks : S → List ℕ) where
         phase = h.phase;
         seen = record {
           seen = prefix_trans u.seen s.board.history book.history h.seen.seen need.history;
+          met = h.seen.met;
           own = h.seen.own;
           known = h.seen.known;
           faults = never_falls_wider (λ r. r.faults_found) (λ r. r.faults_left) 0 s.board.faults book.faults u.records need.faults h.seen.faults;
@@ -306,6 +307,7 @@ module _ {I S : Type 0} (blocks : S → List ℕ) where
         phase = h.phase;
         seen = record {
           seen = prefix_refl book.history;
+          met = met_further v.seen book.history v.met (prefix_trans v.seen s.board.history book.history h.seen.seen need.history) h.seen.met;
           own = rises_append v.own added 0 (length s.board.history) (length book.history) (rises_wider 0 (length v.seen) (length s.board.history) v.own (prefix_length v.seen s.board.history h.seen.seen) h.seen.own)
               (rises_behind (length s.board.history) (length book.history - length s.board.history) (length book.history) (let g = grown in omega arith));
           known = le_refl s.board.current.n;

@@ -1,18 +1,17 @@
 -- What a seat has seen, and the number that it knows, never get less.
 use Rattle.std.proofs.Common.{◌≡◌, ◌≢◌, ◌⊎◌, ℕ, zero, suc, ◌+◌, ◌-◌, ◌*◌, ◌<◌, ◌≤◌, Bool, true, false, List, [], ◌∷◌, ◌++◌, length, set, refl, sym, ap, ◌∙◌, subst, inl, inr, ⊎_elim, arith, le_refl}
-use Rattle.std.specs.Prelude.{◌==◌, nat_le, if◌then◌else◌}
-use Rattle.std.proofs.lemmas.List.{append-nil, length-set, length-append}
-use Rattle.std.proofs.lemmas.Bool.Decides.{leb_tells}
+use Rattle.std.specs.Prelude.{◌==◌, if◌then◌else◌}
+use Rattle.std.proofs.lemmas.List.{length-set, length-append}
 use mathlib.Core.Option.{some, some-injective, some-ne-none}
-use mathlib.Core.List.{IsPrefix}
 use lib.ListN.{get_elem?}
 use Rattle.qd_score_model.specs.declared.view.View.{View}
-use Rattle.qd_score_model.specs.Machine.{State, Event, Take, Give, Look, Raise, Confirm, Drop, HeldRaise, GoLive, SetCurrent, Retire, Split, Join, Share, Step, behind, sight, sees, refuses, retired, view_after, happens, happens_if, next, after, Needs, MayHappen, MayJoin, IsRun, newcomer, joined, gone, lent, join_views, longer}
+use Rattle.qd_score_model.specs.Machine.{State, Event, Take, Give, Look, Raise, Confirm, Drop, HeldRaise, GoLive, SetCurrent, Retire, Split, Join, Share, Step, behind, sight, sees, refuses, retired, view_after, happens, happens_if, next, after, Needs, MayHappen, MayJoin, IsRun, newcomer, joined, gone, lent, join_views}
 use Rattle.qd_score_model.specs.Kept.{times, SeenFits, Kept}
 use Rattle.qd_score_model.specs.Laws.{IsIncludedIn}
-use Rattle.qd_score_model.proofs.Lists.{at_below, each_set, each_push, set_else, prefix_refl, prefix_trans, prefix_length, prefix_either}
+use Rattle.qd_score_model.proofs.Lists.{at_below, each_set, each_push, set_else, prefix_refl, prefix_trans}
 use Rattle.qd_score_model.proofs.Numbers.{times_append, times_merged}
 use Rattle.qd_score_model.proofs.Boards.{same_or_other}
+use Rattle.qd_score_model.proofs.Seats.{longer_on, longer_on_second}
 use Rattle.qd_score_model.proofs.Runs.{kept_next}
 
 module _ {A : Type 0} where
@@ -30,29 +29,6 @@ module _ {A : Type 0} where
   at_push [] x i v e = absurd (some-ne-none v (sym e))
   at_push (y ∷ ys) x zero v e = e
   at_push (y ∷ ys) x (suc i) v e = at_push ys x i v e
-
-  -- a list that begins one no longer is that one
-  prefix_back : (xs ys r : List A) → xs ++ r ≡ ys → length ys ≤ length xs → IsPrefix ys xs
-  prefix_back xs ys [] e le = ([], append-nil ys ∙ (sym e ∙ append-nil xs))
-  prefix_back xs ys (x ∷ r) e le = let l = length-append xs (x ∷ r) in let m : length (xs ++ x ∷ r) ≡ length ys = ap length e in absurd (omega arith)
-
-  -- of two beginnings of a list, the longer one goes on behind each
-  longer_on_second : (xs ys l : List A) → IsPrefix xs l → IsPrefix ys l → IsPrefix ys (longer xs ys)
-  longer_on_second xs ys l p q = choose (nat_le (length ys) (length xs)) (leb_tells (length ys) (length xs))
-    where
-      choose : (b : Bool) → ((b ≡ true) × (length ys ≤ length xs)) ⊎ ((b ≡ false) × (length xs < length ys)) → IsPrefix ys (if b then xs else ys)
-      choose true t = ⊎_elim (λ (h : (true ≡ true) × (length ys ≤ length xs)). ⊎_elim (λ (r : IsPrefix xs ys). prefix_back xs ys r.0 r.1 h.1) (λ (r : IsPrefix ys xs). r) (prefix_either xs ys l p q)) (λ (h : (true ≡ false) × (length xs < length ys)). absurd (cc)) t
-      choose false t = prefix_refl ys
-
-  longer_on : (xs ys l : List A) → IsPrefix xs l → IsPrefix ys l → IsPrefix xs (longer xs ys)
-  longer_on xs ys l p q = choose (nat_le (length ys) (length xs)) (leb_tells (length ys) (length xs))
-    where
-      choose : (b : Bool) → ((b ≡ true) × (length ys ≤ length xs)) ⊎ ((b ≡ false) × (length xs < length ys)) → IsPrefix xs (if b then xs else ys)
-      choose true t = prefix_refl xs
-      choose false t = ⊎_elim (λ (h : (false ≡ true) × (length ys ≤ length xs)). absurd (cc))
-          (λ (h : (false ≡ false) × (length xs < length ys)).
-          ⊎_elim (λ (r : IsPrefix xs ys). r) (λ (r : IsPrefix ys xs). let a = prefix_length ys xs r in let l : length xs < length ys = h.1 in absurd (omega arith)) (prefix_either xs ys l p q))
-          t
 
 module _ {I S : Type 0} where
   -- a view of the same seat later on: the seat went into another, or it stood and stands, and knows no less

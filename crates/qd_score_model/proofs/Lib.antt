@@ -1,5 +1,6 @@
 pub mod Lists
 pub mod Numbers
+pub mod Merging
 pub mod Frame
 pub mod Boards
 pub mod Pinning

@@ -1,8 +1,9 @@
 -- Lists read by `get_elem?`: one element is changed, or one comes behind.
 use Rattle.std.proofs.Common.{◌≡◌, ◌≢◌, ◌⊎◌, ℕ, zero, suc, ◌+◌, ◌<◌, ◌≤◌, List, [], ◌∷◌, ◌++◌, length, get_or, set, refl, sym, ap, ◌∙◌, subst, inl, inr, ⊎_elim, arith, zero-le}
-use Rattle.std.specs.Prelude.{sum_by}
+use Rattle.std.specs.Prelude.{sum_by, All}
 use Rattle.std.proofs.lemmas.List.{append-nil, append_assoc, length-append}
 use Rattle.std.proofs.lemmas.List.Sums.{sum_by-set, sum_by-cons}
+use Rattle.std.proofs.lemmas.List.Elements.{All-weaker}
 use mathlib.Core.Option.{some, some-injective, some-ne-none}
 use mathlib.Core.List.{IsPrefix}
 use lib.ListN.{get_elem?}
@@ -63,6 +64,15 @@ module _ {A : Type 0} where
 
   pub prefix_length : (a b : List A) → IsPrefix a b → length a ≤ length b
   prefix_length a b p = let l = length-append a p.0 in let e : length (a ++ p.0) ≡ length b = ap length p.1 in omega arith
+
+  -- beginnings of a list begin one that goes on behind it
+  pub met_further : (a b : List A) (met : List (List A)) → IsPrefix a b → All (λ xs. IsPrefix xs a) met → All (λ xs. IsPrefix xs b) met
+  met_further a b met p h = All-weaker (λ xs. IsPrefix xs a) (λ xs. IsPrefix xs b) (λ xs q. prefix_trans xs a b q p) met h
+
+  -- a list that begins one no longer is that one
+  pub prefix_back : (xs ys r : List A) → xs ++ r ≡ ys → length ys ≤ length xs → IsPrefix ys xs
+  prefix_back xs ys [] e le = ([], append-nil ys ∙ (sym e ∙ append-nil xs))
+  prefix_back xs ys (x ∷ r) e le = let l = length-append xs (x ∷ r) in let m : length (xs ++ x ∷ r) ≡ length ys = ap length e in absurd (omega arith)
 
   -- of two beginnings of a list, one begins the other
   pub prefix_either : (a b l : List A) → IsPrefix a l → IsPrefix b l → IsPrefix a b ⊎ IsPrefix b a

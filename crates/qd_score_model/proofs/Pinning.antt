@@ -23,7 +23,7 @@ module _ {I S : Type 0} where
   refit b v p known reads h fits le idle = record {
     gone = h.gone;
     phase = fits;
-    seen = record { seen = h.seen.seen; own = h.seen.own; known = le; faults = h.seen.faults; removed = h.seen.removed };
+    seen = record { seen = h.seen.seen; met = h.seen.met; own = h.seen.own; known = le; faults = h.seen.faults; removed = h.seen.removed };
     noted = h.noted;
     keeper = idle;
     sole = h.sole;

@@ -1,8 +1,9 @@
 -- Seats are split, joined and shared, and the first one opens the board: the rule is kept.
 use Rattle.std.proofs.Common.{◌≡◌, ◌≢◌, ◌⊎◌, ℕ, zero, suc, ◌+◌, ◌-◌, ◌<◌, ◌≤◌, Bool, true, false, List, [], ◌∷◌, ◌++◌, length, set, leb, replicate, Some, None, refl, sym, ap, ◌∙◌, subst, inl, inr, ⊎_elim, arith, zero-le, le_refl}
-use Rattle.std.specs.Prelude.{◌==◌, nat_le, if◌then◌else◌, Option, is_some}
+use Rattle.std.specs.Prelude.{◌==◌, nat_le, if◌then◌else◌, Option, is_some, All}
 use Rattle.std.proofs.lemmas.List.{length-set, length-append}
 use Rattle.std.proofs.lemmas.List.Sums.{sum_by_push}
+use Rattle.std.proofs.lemmas.List.Elements.{All-nil, All-cons}
 use Rattle.std.proofs.lemmas.Bool.Decides.{eqb_tells, leb_tells}
 use mathlib.Core.Option.{some, some-injective, some-ne-none}
 use mathlib.Core.List.{IsPrefix}
@@ -16,7 +17,7 @@ use Rattle.qd_score_model.specs.declared.view.Version.{Version}
 use Rattle.qd_score_model.specs.declared.view.View.{View}
 use Rattle.qd_score_model.specs.Machine.{Book, Board, State, Split, Join, Share, version_at, hold_of, happens, Needs, MayJoin, MayOpen, newcomer, joined, gone, join_views, longer, opening, first_view}
 use Rattle.qd_score_model.specs.Kept.{times, Each, Kept}
-use Rattle.qd_score_model.proofs.Lists.{each_set, each_push, set_else, sum_at, prefix_refl, prefix_length}
+use Rattle.qd_score_model.proofs.Lists.{each_set, each_push, set_else, sum_at, prefix_refl, prefix_length, prefix_back, prefix_either, met_further}
 use Rattle.qd_score_model.proofs.Numbers.{rises_wider, rises_merged, times_merged}
 use Rattle.qd_score_model.proofs.Frame.{once_on, weight, Fits, stands_of, fits_of, kept_set, kept_from}
 use Rattle.qd_score_model.proofs.Boards.{hold_other, hold_none, test_other}
@@ -30,6 +31,24 @@ module _ {A : Type 0} where
       choose true = p
       choose false = q
 
+  -- of two beginnings of a list, the longer one goes on behind each
+  pub longer_on_second : (xs ys l : List A) → IsPrefix xs l → IsPrefix ys l → IsPrefix ys (longer xs ys)
+  longer_on_second xs ys l p q = choose (nat_le (length ys) (length xs)) (leb_tells (length ys) (length xs))
+    where
+      choose : (b : Bool) → ((b ≡ true) × (length ys ≤ length xs)) ⊎ ((b ≡ false) × (length xs < length ys)) → IsPrefix ys (if b then xs else ys)
+      choose true t = ⊎_elim (λ (h : (true ≡ true) × (length ys ≤ length xs)). ⊎_elim (λ (r : IsPrefix xs ys). prefix_back xs ys r.0 r.1 h.1) (λ (r : IsPrefix ys xs). r) (prefix_either xs ys l p q)) (λ (h : (true ≡ false) × (length xs < length ys)). absurd (cc)) t
+      choose false t = prefix_refl ys
+
+  pub longer_on : (xs ys l : List A) → IsPrefix xs l → IsPrefix ys l → IsPrefix xs (longer xs ys)
+  longer_on xs ys l p q = choose (nat_le (length ys) (length xs)) (leb_tells (length ys) (length xs))
+    where
+      choose : (b : Bool) → ((b ≡ true) × (length ys ≤ length xs)) ⊎ ((b ≡ false) × (length xs < length ys)) → IsPrefix xs (if b then xs else ys)
+      choose true t = prefix_refl xs
+      choose false t = ⊎_elim (λ (h : (false ≡ true) × (length ys ≤ length xs)). absurd (cc))
+          (λ (h : (false ≡ false) × (length xs < length ys)).
+          ⊎_elim (λ (r : IsPrefix xs ys). r) (λ (r : IsPrefix ys xs). let a = prefix_length ys xs r in let l : length xs < length ys = h.1 in absurd (omega arith)) (prefix_either xs ys l p q))
+          t
+
   longer_length : (xs ys : List A) → (length xs ≤ length (longer xs ys)) × (length ys ≤ length (longer xs ys))
   longer_length xs ys = choose (leb (length ys) (length xs)) (leb_tells (length ys) (length xs))
     where
@@ -40,6 +59,12 @@ module _ {A : Type 0} where
   longer_whole : (xs ys : List A) → length ys ≤ length xs → longer xs ys ≡ xs
   longer_whole xs ys le = ⊎_elim (λ (h : (leb (length ys) (length xs) ≡ true) × (length ys ≤ length xs)). ap (λ t. if t then xs else ys) h.0) (λ (h : (leb (length ys) (length xs) ≡ false) × (length xs < length ys)). let l : length xs < length ys = h.1 in absurd (omega arith)) (leb_tells (length ys) (length xs))
 
+  both_met : (xs ys l : List A) (met : List (List A)) → IsPrefix xs l → IsPrefix ys l → All (λ zs. IsPrefix zs xs) met → All (λ zs. IsPrefix zs (longer xs ys)) (xs ∷ ys ∷ met)
+  both_met xs ys l met p q h =
+      let on = longer_on xs ys l p q in
+      let P = λ (zs : List A). IsPrefix zs (longer xs ys) in
+      All-cons P xs (ys ∷ met) on (All-cons P ys met (longer_on_second xs ys l p q) (met_further xs (longer xs ys) met on h))
+
 module _ {I S : Type 0} where
   weight_of : (v : View I S) → v.spent ≡ false → weight v ≡ v.room + 1
   weight_of v e = ap (λ t. if t then 0 else v.room + 1) e
@@ -48,7 +73,7 @@ module _ {I S : Type 0} where
   fits_newcomer b v mode h kind = record {
     gone = λ e. absurd (cc);
     phase = tt;
-    seen = record { seen = h.seen.seen; own = zero-le; known = h.seen.known; faults = zero-le; removed = zero-le };
+    seen = record { seen = h.seen.seen; met = All-nil (λ xs. IsPrefix xs v.seen); own = zero-le; known = h.seen.known; faults = zero-le; removed = zero-le };
     noted = h.noted;
     keeper = λ m. refl;
     sole = λ m. absurd (⊎_elim (λ (e : mode ≡ Keeper). cc) (λ (e : mode ≡ Writer). cc) kind);
@@ -58,7 +83,7 @@ module _ {I S : Type 0} where
   fits_room b v room h = record {
     gone = h.gone;
     phase = h.phase;
-    seen = record { seen = h.seen.seen; own = h.seen.own; known = h.seen.known; faults = h.seen.faults; removed = h.seen.removed };
+    seen = record { seen = h.seen.seen; met = h.seen.met; own = h.seen.own; known = h.seen.known; faults = h.seen.faults; removed = h.seen.removed };
     noted = h.noted;
     keeper = h.keeper;
     sole = h.sole;
@@ -68,7 +93,7 @@ module _ {I S : Type 0} where
   fits_gone b = record {
     gone = λ e. refl;
     phase = tt;
-    seen = record { seen = (b.history, refl); own = zero-le; known = zero-le; faults = zero-le; removed = zero-le };
+    seen = record { seen = (b.history, refl); met = All-nil (λ xs. IsPrefix xs []); own = zero-le; known = zero-le; faults = zero-le; removed = zero-le };
     noted = λ row x e. absurd (cc);
     keeper = λ m. refl;
     sole = λ m. absurd (cc);
@@ -92,7 +117,7 @@ module _ {I S : Type 0} (blocks : S → List ℕ) where
         fits = record {
           gone = λ e. absurd (cc);
           phase = h.phase;
-          seen = record { seen = h.seen.seen; own = h.seen.own; known = h.seen.known; faults = h.seen.faults; removed = h.seen.removed };
+          seen = record { seen = h.seen.seen; met = h.seen.met; own = h.seen.own; known = h.seen.known; faults = h.seen.faults; removed = h.seen.removed };
           noted = h.noted;
           keeper = λ m. absurd (cc);
           sole = λ m. absurd (cc);
@@ -201,6 +226,7 @@ module _ {I S : Type 0} (blocks : S → List ℕ) where
             phase = h.phase;
             seen = record {
               seen = longer_prefix v.seen w.seen s.board.history h.seen.seen g.seen.seen;
+              met = both_met v.seen w.seen s.board.history v.met h.seen.seen g.seen.seen h.seen.met;
               own = rises_merged 0 (length (longer v.seen w.seen)) v.own w.own (rises_wider 0 (length v.seen) (length (longer v.seen w.seen)) v.own l.0 h.seen.own) (rises_wider 0 (length w.seen) (length (longer v.seen w.seen)) w.own l.1 g.seen.own) apart;
               known = let a = h.seen.known in let b = g.seen.known in omega arith;
               faults = h.seen.faults;
@@ -241,7 +267,7 @@ module _ {I S : Type 0} (blocks : S → List ℕ) where
       (one (λ j u. Fits (opening book).board u) (record {
         gone = λ e. absurd (cc);
         phase = tt;
-        seen = record { seen = prefix_refl book.history; own = zero-le; known = le_refl book.current.n; faults = zero-le; removed = zero-le };
+        seen = record { seen = prefix_refl book.history; met = All-nil (λ xs. IsPrefix xs book.history); own = zero-le; known = le_refl book.current.n; faults = zero-le; removed = zero-le };
         noted = λ row x e. absurd (cc);
         keeper = λ m. refl;
         sole = λ m. refl;

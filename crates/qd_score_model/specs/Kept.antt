@@ -1,5 +1,5 @@
 -- What every event keeps, in nine parts.
-use Rattle.std.specs.Prelude.{◌≡◌, ◌≢◌, ℕ, ◌+◌, ◌<◌, ◌≤◌, Bool, true, false, ◌==◌, if◌then◌else◌, List, [], ◌∷◌, length, sum_by, count_by, is_some, Some, None}
+use Rattle.std.specs.Prelude.{◌≡◌, ◌≢◌, ℕ, ◌+◌, ◌<◌, ◌≤◌, Bool, true, false, ◌==◌, if◌then◌else◌, List, [], ◌∷◌, length, sum_by, count_by, is_some, Some, None, All}
 use mathlib.Core.Option.{some}
 use mathlib.Core.List.{IsPrefix}
 use lib.ListN.{get_elem?}
@@ -87,9 +87,10 @@ module _ {I S : Type 0} where
     pub newer : (row other : ℕ) (x y : Version S) → version_at b.versions row ≡ Some x → version_at b.versions other ≡ Some y → b.current.n < x.n → b.current.n < y.n → row ≡ other
     pub newest : b.holder ≡ None → IsGreatest b.current.n b.versions
 
-  -- what a seat has seen is a beginning of the one history; its own positions lie within it
+  -- what a seat has seen is a beginning of the one history, and what it met is of that; its own positions lie within it
   pub record SeenFits (b : Board I S) (v : View I S) : Type 0 where
     pub seen : IsPrefix v.seen b.history
+    pub met : All (λ xs. IsPrefix xs v.seen) v.met
     pub own : RisesWithin 0 (length v.seen) v.own
     pub known : v.known ≤ b.current.n
     pub faults : NeverFalls (λ r. r.faults_found) (λ r. r.faults_left) 0 b.faults v.records

@@ -207,15 +207,15 @@ module _ {I S : Type 0} where
 
   -- the view of a seat that is split off
   abbrev pub newcomer : View I S → Mode → View I S
-  newcomer v mode = record { spent = false; mode = mode; room = 0; seen = v.seen; own = []; known = v.known; phase = Idle; reads = []; noted = v.noted; records = []; refused = []; hold = None }
+  newcomer v mode = record { spent = false; mode = mode; room = 0; seen = v.seen; met = []; own = []; known = v.known; phase = Idle; reads = []; noted = v.noted; records = []; refused = []; hold = None }
 
   -- the view that takes in another
   abbrev pub joined : View I S → View I S → View I S
-  joined v w = record v { room = v.room + w.room + 1; seen = longer v.seen w.seen; own = merged v.own w.own; known = max v.known w.known }
+  joined v w = record v { room = v.room + w.room + 1; seen = longer v.seen w.seen; met = v.seen ∷ w.seen ∷ v.met; own = merged v.own w.own; known = max v.known w.known }
 
   -- what a join leaves of the other
   abbrev pub gone : View I S
-  gone = record { spent = true; mode = Keeper; room = 0; seen = []; own = []; known = 0; phase = Idle; reads = []; noted = []; records = []; refused = []; hold = None }
+  gone = record { spent = true; mode = Keeper; room = 0; seen = []; met = []; own = []; known = 0; phase = Idle; reads = []; noted = []; records = []; refused = []; hold = None }
 
   abbrev pub join_views : List (View I S) → ℕ → View I S → ℕ → Found (View I S) → List (View I S)
   join_views views seat v other none = views
@@ -330,7 +330,7 @@ module _ {I S : Type 0} (blocks : S → List ℕ) where
 module _ {I S : Type 0} where
   -- the view of the first seat
   abbrev pub first_view : Book I S → View I S
-  first_view book = record { spent = false; mode = Sole; room = MAX_SPLITS; seen = book.history; own = []; known = book.current.n; phase = Idle; reads = []; noted = []; records = []; refused = []; hold = None }
+  first_view book = record { spent = false; mode = Sole; room = MAX_SPLITS; seen = book.history; met = []; own = []; known = book.current.n; phase = Idle; reads = []; noted = []; records = []; refused = []; hold = None }
 
   abbrev pub opening : Book I S → State I S
   opening book = record {

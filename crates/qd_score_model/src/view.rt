@@ -79,6 +79,8 @@ pub struct View<I, S> {
     pub room: u64,
     /// The items that it has seen.
     pub seen: LinkedList<I>,
+    /// For each of its joins, what it had seen by then, and what the other had.
+    pub met: LinkedList<LinkedList<I>>,
     /// The positions that its own gives added, from 1 on, rising.
     pub own: LinkedList<u64>,
     /// The greatest number of a current version that it has read.

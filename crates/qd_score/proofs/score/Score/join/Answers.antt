@@ -1,5 +1,5 @@
-use Rattle.std.proofs.Common.{arith, refl}
-use Rattle.qd_score.proofs.Parts.{joins_seat}
+use Rattle.std.proofs.Common.{arith, refl, ap, ◌∙◌}
+use Rattle.qd_score.proofs.Parts.{joins_seat, seen_both}
 use Rattle.qd_score.proofs.Sits.{same_sits}
 use Rattle.qd_score.proofs.score.Score.join.Goals as goal
 
@@ -14,3 +14,6 @@ join_seat-requires g c = (
 
 pub stand-requires : goal.stand-requires
 stand-requires g c = same_sits _ c.args.seat.now _ c.requires.seat.sits c.join_seat.ensures.0 _ c.join_seat.ensures.2 refl c.requires.seat.sits.there
+
+pub returns-clause-seen : goal.returns-clause-seen
+returns-clause-seen g c = seen_both g.B.Booked.blocks c.args.seat.now.me.0 c.args.other.me.0 _ c.stand.ensures.seat.stands (c.stand.ensures.same ∙ ap (λ m. m.0) c.join_seat.ensures.2)

@@ -168,7 +168,11 @@ impl ListBack {
 }
 
 impl Backend for ListBack {
+    type Fixed = ();
+
     ghost shown = { listed_shown };
+
+    ghost fixed = { λ _. tt };
 
     ghost rule = { AllowedAlone };
 

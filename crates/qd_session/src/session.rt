@@ -39,6 +39,7 @@ pub fn serve<F: Front, B: Backend, W: Source + Sink, C: Clock>(
     ensures served { Serves B.rule (moment (F.protocol front.old) (B.shown back.old) (W.stream wire.old) (C.timeline clock.old))
         (moment (F.protocol front.new) (B.shown back.new) (W.stream wire.new) (C.timeline clock.new)) result }
     ensures history { Extends (B.shown back.old).history (B.shown back.new).history }
+    ensures fixed { B.fixed back.new ≡ B.fixed back.old }
 
     // Faults come exactly where the wire counts one.
     ensures faults { Faults (W.stream wire.old) (W.stream wire.new) (Some result) }
@@ -80,6 +81,7 @@ fn take_step<F: Front, B: Backend, W: Source + Sink, C: Clock>(
     ensures faults { Faults (W.stream wire.old) (W.stream wire.new) result }
     ensures lasting { IsLasting B.rule }
     ensures counted { IsCounted (B.shown back.old) }
+    ensures fixed { B.fixed back.new ≡ B.fixed back.old }
 {
     back.keeps_to_its_rule();
     back.is_counted();
@@ -107,6 +109,7 @@ fn take_request<F: Front, B: Backend, W: Sink, C: Clock>(
         (C.timeline clock.old) (C.timeline clock.new) (W.stream wire.old) (W.stream wire.new) asked.now result }
     ensures faults { Faults (W.stream wire.old) (W.stream wire.new) result }
     ensures front { ReadsOn (F.protocol front.old) (F.protocol front.new) }
+    ensures fixed { B.fixed back.new ≡ B.fixed back.old }
 {
     let given = handle(alloc, back, clock, asked);
     match print(alloc, front, wire, &given) {
@@ -124,7 +127,8 @@ fn handle<B: Backend, C: Clock>(
     asked: &Request,
 ) -> Reply
     requires { IsAskable asked.now }
-    ensures { IsHandled B.rule (B.shown back.old) (B.shown back.new) (C.timeline clock.old) (C.timeline clock.new) asked.now result }
+    ensures handled { IsHandled B.rule (B.shown back.old) (B.shown back.new) (C.timeline clock.old) (C.timeline clock.new) asked.now result }
+    ensures fixed { B.fixed back.new ≡ B.fixed back.old }
 {
     let handled = match asked {
         Request::Write(text) => return handle_batch(alloc, back, clock, text.bytes()),
@@ -149,7 +153,8 @@ fn handle_batch<B: Backend, C: Clock>(
     clock: &mut C,
     text: &[u8],
 ) -> Reply
-    ensures { IsHandled B.rule (B.shown back.old) (B.shown back.new) (C.timeline clock.old) (C.timeline clock.new) (request.Write text.now) result }
+    ensures handled { IsHandled B.rule (B.shown back.old) (B.shown back.new) (C.timeline clock.old) (C.timeline clock.new) (request.Write text.now) result }
+    ensures fixed { B.fixed back.new ≡ B.fixed back.old }
 {
     back.keeps_to_its_rule();
     let Ok(batch) = parse_batch(alloc, text) else {

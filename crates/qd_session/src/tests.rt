@@ -23,10 +23,14 @@ struct SilentBack {
 }
 
 impl Backend for SilentBack {
+    type Fixed = ();
+
     ghost use Rattle.qd_session.specs.Allowed.{Allowed};
     ghost use Rattle.qd_session.specs.Trials.{silent};
 
     ghost shown = { λ b. silent b.sequenced b.known b.faults };
+
+    ghost fixed = { λ _. tt };
 
     ghost rule = { Allowed };
 
@@ -67,9 +71,13 @@ impl Backend for SilentBack {
 struct PingBack;
 
 impl Backend for PingBack {
+    type Fixed = ();
+
     ghost use Rattle.qd_session.specs.Trials.{AllowedOrPing, nothing};
 
     ghost shown = { λ _. nothing };
+
+    ghost fixed = { λ _. tt };
 
     ghost rule = { AllowedOrPing };
 

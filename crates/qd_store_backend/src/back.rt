@@ -62,17 +62,16 @@ impl<V: Volume> Model for StoreBack<V> {
 }
 
 impl<V: Volume> StoreBack<V> {
-    /// Begins over a store with the usual limits and one live version. Where a history is told of it, `told` is that. It takes
+    /// Begins over a store with the usual limits and one live version. Where a history is told of it, `told` has that. It takes
     /// memory for the schemas of the version and for blocks that are kept; where none is found, the store is handed back.
-    pub fn over(alloc: Global, store: Store<V>) -> Result<StoreBack<V>, Store<V>>
-        ghost told: { Option (List Entry) }
+    pub fn over(alloc: Global, store: Store<V>, told: &Telling) -> Result<StoreBack<V>, Store<V>>
         requires usual { AreUsual store.store.limits }
         requires alone { (row : ℕ) → IsLive store.store.versions.versions row → row ≡ store.store.versions.versions.current }
-        requires told { BeginsWith told store }
+        requires told { BeginsWith told.now.history store }
         ensures owned { IfOk result (λ b. b.parts.owned ≡ store) }
-        ensures history { IfOk result (λ b. b.parts.history ≡ told) }
+        ensures history { IfOk result (λ b. b.parts.history ≡ told.now.history) }
         ensures before { IfOk result (λ b. b.before ≡ length store.store.sequence.refs) }
-        ensures left { IfOk result (λ b. IsLeftOf told store b.left) }
+        ensures left { IfOk result (λ b. IsLeftOf told.now.history store b.left) }
         ensures handed_back { IfErr result (λ s. s ≡ store) }
     {
         one_entry_is_read();
@@ -83,7 +82,7 @@ impl<V: Volume> StoreBack<V> {
         let Ok(kept) = KeptBlocks::none(alloc) else {
             return Err(store);
         };
-        let telling = Telling::of(&store);
+        let telling = Telling::of(told);
         let before = store.hist_len();
         let parts = StoreParts::over(store, telling, schemas, kept);
         Ok(StoreBack {
@@ -159,7 +158,11 @@ impl<V: Volume> StoreBack<V> {
 }
 
 impl<V: Volume> Backend for StoreBack<V> {
+    type Fixed = ();
+
     ghost shown = { back_shown };
+
+    ghost fixed = { λ _. tt };
 
     ghost rule = { AllowedAlone };
 

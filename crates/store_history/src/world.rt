@@ -10,6 +10,7 @@ use crate::taking::{NOW, retire_others, take_with};
 use crate::text::{push_digits, push_shown};
 use crate::trouble::{Trouble, hold};
 use qd_base::{Limits, MAX_TXNS, Txt, WalRef};
+use qd_ghost::Telling;
 use qd_io::{Both, IoFault, MemClock, MemSink, MemSource};
 use qd_session::{Ended, FrameFront, serve};
 use qd_store::{LogFault, OpenFault, Store, Unmade};
@@ -379,7 +380,7 @@ impl World {
                 return push_open(out, why);
             }
         };
-        let Ok(back) = StoreBack::over(self.alloc, store) else {
+        let Ok(back) = StoreBack::over(self.alloc, store, &Telling::of(&())) else {
             return Err(Trouble::Memory);
         };
         self.held = Held::Back(Box::new(self.alloc, back)?);

@@ -1,4 +1,4 @@
-use Rattle.std.proofs.Common.{Some, length, refl, arith}
+use Rattle.std.proofs.Common.{◌∙◌, Some, length, refl, arith}
 use Rattle.std.proofs.lemmas.List.{length-append, length-take}
 use Rattle.qd_session.specs.Session.{moment}
 use Rattle.qd_session.proofs.ProgressLemmas.{reached_start, reached_step, reached_stop, served_nothing, stop_grows}
@@ -18,6 +18,7 @@ steps-init g c = record {
   few = omega arith;
   room = omega (arith, c.in-Ok.ensures.len);
   faults = record { reads = refl; writes = refl; input_lent = refl; output_lent = refl };
+  fixed = refl;
 }
 
 pub returns-in-Some-clause-served : goal.returns-in-Some-clause-served
@@ -31,6 +32,9 @@ returns-in-Some-clause-history g c =
 pub returns-in-Some-clause-faults : goal.returns-in-Some-clause-faults
 returns-in-Some-clause-faults g c = faults-later _ _ _ (Some c.in-Some.ended) c.steps.invariant.faults c.in-Some.ensures.faults
 
+pub returns-in-Some-clause-fixed : goal.returns-in-Some-clause-fixed
+returns-in-Some-clause-fixed g c = c.take_step.ensures.fixed ∙ c.steps.invariant.fixed
+
 pub steps-smaller : goal.steps-smaller
 steps-smaller g c = c.in-None.ensures.nearer refl
 
@@ -40,4 +44,5 @@ steps-preserved g c = record {
   few = c.take_step.ensures.most;
   room = simp (length-take, length-append) (omega (arith, c.take_step.auto.buffer, c.deref_mut.ensures.len, c.steps.invariant.room, c.steps.buffer.ok.0));
   faults = faults-later _ _ _ _ c.steps.invariant.faults c.in-None.ensures.faults;
+  fixed = c.take_step.ensures.fixed ∙ c.steps.invariant.fixed;
 }

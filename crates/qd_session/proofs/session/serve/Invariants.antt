@@ -13,6 +13,7 @@ invariant-steps g l = record {
   few : l.fed ≤ LAST_OFFSET;
   room : 0 < length l.buffer.items;
   faults : Faults (g.W.Ends.stream l.fn.wire) (g.W.Ends.stream l.wire) None;
+  fixed : g.B.Backend.fixed l.back ≡ g.B.Backend.fixed l.fn.back;
 }
 
 -- the bytes that may still come, and those that wait

@@ -6,10 +6,10 @@ use Rattle.qd_store_backend.proofs.Begun.{begun, told_over}
 use Rattle.qd_store_backend.proofs.back.StoreBack.over.Goals as goal
 
 pub over-parts-requires-clause-told : goal.over-parts-requires-clause-told
-over-parts-requires-clause-told g c = subst (λ (o : Option (List Entry)). IfSome o (IsTold c.args.store)) (sym c.of-telling.ensures) (told_over g.told c.args.store c.requires.1.1.1)
+over-parts-requires-clause-told g c = subst (λ (o : Option (List Entry)). IfSome o (IsTold c.args.store)) (sym c.of-telling.ensures) (told_over c.args.told.now.history c.args.store c.requires.told)
 
 pub invariant_of-result : goal.invariant_of-result
-invariant_of-result g c = begun c.over-parts.result c.args.store c.hist_len-before.result (left_of c.left_behind.result.history) c.over-parts.ensures.store c.hist_len-before.ensures.count c.keeps_its_law.ensures.book c.requires.1.0 c.requires.1.1.0 c.left_behind.ensures.left
+invariant_of-result g c = begun c.over-parts.result c.args.store c.hist_len-before.result (left_of c.left_behind.result.history) c.over-parts.ensures.store c.hist_len-before.ensures.count c.keeps_its_law.ensures.book c.requires.usual c.requires.alone c.left_behind.ensures.left
 
 pub returns-clause-history : goal.returns-clause-history
 returns-clause-history g c = c.over-parts.ensures.history ∙ c.of-telling.ensures

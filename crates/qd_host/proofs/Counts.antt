@@ -1,5 +1,5 @@
 -- A count of faults that another one's faults are added to: it never falls, and has risen where the other one had.
-use Rattle.std.proofs.Common.{◌≡◌, inl, inr, ℕ, ◌-◌, ◌<◌, ◌≤◌, nat_le, cond, Bool, true, false, refl, arith}
+use Rattle.std.proofs.Common.{◌≡◌, ◌⊎◌, inl, inr, ℕ, ◌+◌, ◌-◌, ◌<◌, ◌≤◌, nat_le, cond, Bool, true, false, refl, arith}
 use Rattle.std.proofs.lemmas.Bool.Decides.{nat_tests}
 use Rattle.qd_io.specs.Ends.{HasRisen, counts_together, last_count}
 use Rattle.qd_host.specs.Hosts.{risen}
@@ -32,3 +32,11 @@ risen_from_none now within = by (nat_le last_count now) refl
     by : (at_end : Bool) → nat_le last_count now ≡ at_end → cond at_end last_count (now - 0) ≡ now
     by true e = let le : last_count ≤ now = grind (arith, nat_tests) in omega (arith, le, within)
     by false e = omega arith
+
+-- a count rises by what is added, unless it stands at its end
+pub rises_by : (count more : ℕ) → (counts_together count more ≡ count + more) ⊎ (last_count ≤ counts_together count more)
+rises_by count more = by (nat_le last_count (count + more)) refl
+  where
+    by : (past : Bool) → nat_le last_count (count + more) ≡ past → (counts_together count more ≡ count + more) ⊎ (last_count ≤ counts_together count more)
+    by true e = let le : last_count ≤ count + more = grind (arith, nat_tests) in inr (omega (arith, le))
+    by false e = let less : count + more < last_count = grind (arith, nat_tests) in inl (omega (arith, less))

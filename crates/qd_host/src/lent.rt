@@ -1,13 +1,15 @@
 //! A device that a host lends.
 ghost use Rattle.qd_io.specs.Clocks.{GivesTime};
 ghost use Rattle.qd_io.specs.Ends.{Counts};
+ghost use Rattle.qd_net.specs.Arrivals.{Arrives, Closes};
 ghost use Rattle.qd_volume.specs.Calls.{Cuts, Measures, ReadsAt, Syncs, WritesAt};
 ghost use Rattle.std.specs.Prelude.{◌≡◌, ◌≤◌, length, IfOk};
 
 use qd_io::{Clock, IoFault};
+use qd_net::Listener;
 use qd_volume::Volume;
 
-/// A clock or a volume that a host lends. It passes each call on, and counts those that fail, up to the greatest `u64`, so
+/// A clock, a volume or a listener that a host lends. It passes each call on, and counts those that fail, up to the greatest `u64`, so
 /// that the host knows of them once it is given back, whatever the device is.
 #[derive(Drop)]
 pub struct Lent<D> {
@@ -89,5 +91,21 @@ impl<V: Volume> Volume for Lent<V> {
 
     fn len(&mut self, file: u64) -> Result<u64, IoFault> {
         counted(self.device.len(file), &mut self.faults)
+    }
+}
+
+impl<L: Listener> Listener for Lent<L> {
+    type Wire = L::Wire;
+
+    ghost use Rattle.qd_host.specs.Lent.{device_of, faults_of};
+
+    ghost arrivals = { λ lent. record {
+      ahead = (L.arrivals (device_of lent)).ahead;
+      faults = faults_of lent;
+      closed = (L.arrivals (device_of lent)).closed;
+    } };
+
+    fn next_wire(&mut self) -> Result<Option<L::Wire>, IoFault> {
+        counted(self.device.next_wire(), &mut self.faults)
     }
 }

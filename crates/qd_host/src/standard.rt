@@ -1,13 +1,18 @@
 //! The machine that the program runs on.
 ghost use Rattle.qd_io.specs.Ends.{Counts};
 ghost use Rattle.std.specs.Prelude.{◌≡◌};
+ghost use Rattle.qd_host.specs.Standard.{CountsStay};
 
 use crate::hosts::Host;
 use crate::lent::{Lent, counted};
 use qd_io::{IoFault, StdClock};
+use qd_net::{TcpDoor, TcpEnd};
 use qd_volume::{Failure, FolderVolume, HeapVolume, Refusal, Volume};
 use std::alloc::{Alloc, Global};
 use std::fs::{File, Files};
+use std::io::{Error, ErrorKind};
+use std::net::{Net, TcpListener, TcpStream};
+use std::time::Clock;
 
 /// A volume of the machine. It tells nothing of its content.
 #[derive(Drop)]
@@ -68,14 +73,17 @@ impl<R: Files<File = File> + Drop> Volume for StdVolume<R> {
     }
 }
 
-/// What went wrong with a folder, for a person.
+/// What went wrong with a folder or a port, for a person.
 #[derive(Drop)]
 pub enum Trouble {
-    /// It wasn't opened.
+    /// The folder wasn't opened.
     Refused(Refusal),
 
     /// A call of its volume failed.
     Failed(Failure),
+
+    /// A port can't be had.
+    Port(u16, Error),
 }
 
 /// The machine that the program runs on. It tells nothing of what it gives: a real device tells nothing.
@@ -92,13 +100,28 @@ pub struct StdHost<R> {
     folder: Option<Vec<u8>>,
     /// What went wrong first.
     trouble: Option<Trouble>,
+    listener_faults: u64,
+    starts_failed: u64,
 }
 
-impl<R: std::time::Clock + Copy + Clone + Alloc + Files<File = File> + Drop> StdHost<R> {
+impl<R> StdHost<R>
+where
+    R: Clock
+        + Copy
+        + Clone
+        + Alloc
+        + Files<File = File>
+        + Net<Listener = TcpListener, Stream = TcpStream>
+        + Send
+        + Drop
+        + 'static,
+{
     /// The machine, of which nothing is taken yet. It takes no memory.
     pub fn new(rt: R, alloc: Global) -> StdHost<R>
         ensures clocks { (⟦<StdHost<R> as Host>⟧.supply result).clock_faults ≡ 0 }
         ensures volumes { (⟦<StdHost<R> as Host>⟧.supply result).volume_faults ≡ 0 }
+        ensures listeners { (⟦<StdHost<R> as Host>⟧.supply result).listener_faults ≡ 0 }
+        ensures starts { (⟦<StdHost<R> as Host>⟧.supply result).starts_failed ≡ 0 }
     {
         StdHost {
             rt,
@@ -107,9 +130,13 @@ impl<R: std::time::Clock + Copy + Clone + Alloc + Files<File = File> + Drop> Std
             volume_faults: 0,
             folder: None,
             trouble: None,
+            listener_faults: 0,
+            starts_failed: 0,
         }
     }
+}
 
+impl<R: Copy + Alloc + Files<File = File> + Drop> StdHost<R> {
     /// The name of the folder that was asked for last: `None` too where there was no memory to keep it.
     pub fn folder(&self) -> Option<&[u8]> {
         match &self.folder {
@@ -118,7 +145,7 @@ impl<R: std::time::Clock + Copy + Clone + Alloc + Files<File = File> + Drop> Std
         }
     }
 
-    /// What went wrong first with a folder, of those that aren't lent.
+    /// What went wrong first with a folder, of those that aren't lent, or with a port.
     pub fn trouble(&self) -> Option<&Trouble> {
         self.trouble.as_ref()
     }
@@ -126,7 +153,7 @@ impl<R: std::time::Clock + Copy + Clone + Alloc + Files<File = File> + Drop> Std
     /// Keeps what went wrong, where nothing did before.
     fn note(&mut self, trouble: Trouble)
         ensures volumes { self.new.volume_faults ≡ self.old.volume_faults }
-        ensures clocks { self.new.clock_faults ≡ self.old.clock_faults }
+        ensures rest { CountsStay self.old self.new }
     {
         if self.trouble.is_none() {
             self.trouble = Some(trouble);
@@ -136,7 +163,7 @@ impl<R: std::time::Clock + Copy + Clone + Alloc + Files<File = File> + Drop> Std
     /// Opens the volume of a folder, and counts where that fails.
     fn open(&mut self, alloc: Global, dir: &[u8]) -> Result<StdVolume<R>, IoFault>
         ensures counted { Counts self.old.volume_faults self.new.volume_faults result }
-        ensures clocks { self.new.clock_faults ≡ self.old.clock_faults }
+        ensures rest { CountsStay self.old self.new }
     {
         self.folder = Vec::from_slice(alloc, dir).ok();
         match FolderVolume::open(self.rt, alloc, dir) {
@@ -152,7 +179,7 @@ impl<R: std::time::Clock + Copy + Clone + Alloc + Files<File = File> + Drop> Std
     /// The volume in memory, or where it is lent an empty one.
     fn in_memory(&mut self, alloc: Global) -> StdVolume<R>
         ensures volumes { self.new.volume_faults ≡ self.old.volume_faults }
-        ensures clocks { self.new.clock_faults ≡ self.old.clock_faults }
+        ensures rest { CountsStay self.old self.new }
     {
         match self.shelf.take() {
             Some(memory) => StdVolume::Memory(memory),
@@ -161,14 +188,40 @@ impl<R: std::time::Clock + Copy + Clone + Alloc + Files<File = File> + Drop> Std
     }
 }
 
-impl<R: std::time::Clock + Copy + Clone + Alloc + Files<File = File> + Drop> Host for StdHost<R> {
+impl<R> Host for StdHost<R>
+where
+    R: Clock
+        + Copy
+        + Clone
+        + Alloc
+        + Files<File = File>
+        + Net<Listener = TcpListener, Stream = TcpStream>
+        + Send
+        + Drop
+        + 'static,
+{
     type Clk = Lent<StdClock<R>>;
 
     type Vol = Lent<StdVolume<R>>;
 
-    ghost use Rattle.std.specs.Prelude.{None};
+    type Lst = Lent<TcpDoor>;
 
-    ghost supply = { λ host. record { clock_times = None; clock_faults = host.clock_faults; shelf = None; volume_faults = host.volume_faults; lent_faults = 0; folders = None } };
+    ghost use Rattle.std.specs.Prelude.{None, false};
+
+    ghost supply = { λ host. record {
+      clock_times = None;
+      clock_faults = host.clock_faults;
+      shelf = None;
+      volume_faults = host.volume_faults;
+      lent_faults = 0;
+      folders = None;
+      wires = None;
+      ports = None;
+      listener_faults = host.listener_faults;
+      refuses_starts = false;
+      starts_failed = host.starts_failed;
+      returned = None;
+    } };
 
     fn clock(&mut self) -> Lent<StdClock<R>> {
         Lent::new(StdClock::new(self.rt))
@@ -198,5 +251,38 @@ impl<R: std::time::Clock + Copy + Clone + Alloc + Files<File = File> + Drop> Hos
                 }
             }
         }
+    }
+
+    /// Listens on the port. What fails is the system's refusal.
+    fn listener(&mut self, port: u16) -> Result<Lent<TcpDoor>, IoFault> {
+        match TcpDoor::open(&self.rt, port) {
+            Ok(door) => Ok(Lent::new(door)),
+            Err(error) => {
+                let fault = match error.kind() {
+                    ErrorKind::OutOfMemory => IoFault::Memory,
+                    _ => IoFault::Failed,
+                };
+                self.note(Trouble::Port(port, error));
+                counted(Err(fault), &mut self.listener_faults)
+            }
+        }
+    }
+
+    /// Closes the port.
+    fn listener_back(&mut self, listener: Lent<TcpDoor>) {
+        self.listener_faults = self.listener_faults.saturating_add(listener.faults());
+    }
+
+    /// Closes the connection.
+    fn give_back(&mut self, wire: TcpEnd) {
+        drop(wire);
+    }
+
+    fn refuses_starts(&self) -> bool {
+        false
+    }
+
+    fn starts_back(&mut self, refused: u64) {
+        self.starts_failed = self.starts_failed.saturating_add(refused);
     }
 }

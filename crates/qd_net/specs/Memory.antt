@@ -10,6 +10,10 @@ pub record Waiting (W : Type 0) : Type 0 where
   pub closed : Bool
 
 module _ {W : Type 0} where
+  -- a listener to which nobody comes
+  abbrev pub nobody : Waiting W
+  nobody = record { ahead = []; plan = record { calls = 0; fails = []; failed = 0 }; closed = false }
+
   -- a call whose number is among those that fail
   pub record FailsWire (old new : Waiting W) : Type 0 where
     pub listed : fails_now old.plan ≡ true

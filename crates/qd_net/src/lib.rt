@@ -10,5 +10,5 @@ mod tests;
 mod traits;
 
 pub use memory::MemDoor;
-pub use tcp::{TIMEOUT_SECONDS, TcpDoor, TcpEnd};
-pub use traits::Listener;
+pub use tcp::{DRAIN_SECONDS, DRAINED_BYTES, MOST_DRAINED, TIMEOUT_SECONDS, TcpDoor, TcpEnd};
+pub use traits::{Listener, Wire};

@@ -1,14 +1,19 @@
 //! A listener over wires in memory.
-ghost use Rattle.std.specs.Prelude.{◌≡◌, false, Some, IfOk, IfErr};
+ghost use Rattle.std.specs.Prelude.{◌≡◌, false, Some, IfOk, IfErr, length};
 ghost use Rattle.qd_io.specs.Ends.{Counts};
 ghost use Rattle.qd_net.specs.Arrivals.{Arrives, Closes};
-ghost use Rattle.qd_net.specs.Memory.{MemArrives};
+ghost use Rattle.qd_net.specs.Memory.{MemArrives, nobody};
 
-use crate::traits::Listener;
-use qd_io::{FailurePlan, IoFault, Sink, Source};
+use crate::traits::{Listener, Wire};
+use qd_io::{Both, FailurePlan, IoFault, Sink, Source};
 use std::alloc::Global;
 use std::collections::VecDeque;
 use std::marker::Model;
+
+/// Two ends in memory have no peer that waits.
+impl<S: Source, K: Sink> Wire for Both<S, K> {
+    fn hang_up(&mut self) {}
+}
 
 /// A listener over wires in memory, for tests: it gives them in order, tells which are left, and fails at the calls that it
 /// was made to fail at.
@@ -43,9 +48,27 @@ impl<W> MemDoor<W> {
             closed: false,
         })
     }
+
+    /// A listener without wires, no call of which fails. It takes no memory.
+    pub fn none(alloc: Global) -> MemDoor<W>
+        ensures { result ≡ nobody }
+    {
+        MemDoor {
+            wires: VecDeque::new(alloc),
+            plan: FailurePlan::none(alloc),
+            closed: false,
+        }
+    }
+
+    /// How many wires it may still give.
+    pub fn left(&self) -> usize
+        ensures { result ≡ length self.now.ahead }
+    {
+        self.wires.len()
+    }
 }
 
-impl<W: Source + Sink> Listener for MemDoor<W> {
+impl<W: Wire + Send + Drop + 'static> Listener for MemDoor<W> {
     type Wire = W;
 
     ghost use Rattle.std.specs.Prelude.{Some};

@@ -2,15 +2,24 @@
 ghost use Rattle.std.specs.Prelude.{◌≡◌, IfOk};
 
 use crate::count::count_failure;
-use crate::traits::Listener;
+use crate::traits::{Listener, Wire};
 use qd_io::{Ends, IoFault, Sink, Source, StdSink, StdSource};
 use std::io;
 use std::io::ErrorKind;
-use std::net::{Ipv4Addr, Net, SocketAddr, SocketAddrV4, TcpListener, TcpStream};
+use std::net::{Ipv4Addr, Net, Shutdown, SocketAddr, SocketAddrV4, TcpListener, TcpStream};
 use std::time::Duration;
 
 /// How long a read waits for bytes, and a write for room, before it fails, in seconds.
 pub const TIMEOUT_SECONDS: u64 = 60;
+
+/// How long a read waits for what a peer still sends behind the last reply to it, in seconds.
+pub const DRAIN_SECONDS: u64 = 1;
+
+/// How often such a read is made at most, each of [`DRAINED_BYTES`] at most.
+pub const MOST_DRAINED: u32 = 256;
+
+/// How many bytes one such read takes at most.
+pub const DRAINED_BYTES: usize = 65_536;
 
 /// A connection over TCP. It counts the reads and the writes that fail.
 ///
@@ -76,6 +85,31 @@ impl Sink for TcpEnd {
     }
 }
 
+impl Wire for TcpEnd {
+    /// Says that no more comes, and takes what the peer still sends, up to [`MOST_DRAINED`] reads, until it ends or sends nothing for
+    /// [`DRAIN_SECONDS`]. Without that the system would drop replies that the peer hasn't read yet (RFC 9293, 3.6: a reset).
+    fn hang_up(&mut self) {
+        if self.stream.shutdown(Shutdown::Write).is_ok() {
+            drain(&self.stream);
+        }
+    }
+}
+
+/// Takes what a peer still sends, and drops it.
+fn drain(stream: &TcpStream) {
+    let timeout = Some(Duration::from_secs(DRAIN_SECONDS));
+    if stream.set_read_timeout(timeout).is_err() {
+        return;
+    }
+    let mut piece = [0; DRAINED_BYTES];
+    for _ in 0..MOST_DRAINED {
+        match StdSource::new(stream).read(&mut piece) {
+            Ok(0) | Err(_) => return,
+            Ok(_) => {}
+        }
+    }
+}
+
 /// A port of this machine that listens, on 127.0.0.1 alone. It counts the calls that fail.
 ///
 /// It tells nothing of who comes, and never answers that no one comes any more.
@@ -117,18 +151,20 @@ impl TcpDoor {
         Ok(self.listener.local_addr()?.port())
     }
 
-    /// Waits for the next connection. One that is gone before it is taken isn't given.
+    /// Waits for the next connection. One that is gone before it is taken, or whose socket can't be set up, isn't given.
     fn accept(&self) -> Result<TcpEnd, IoFault> {
         for _ in 0..u64::MAX {
-            let error = match self.listener.accept() {
-                Ok((stream, _)) => match TcpEnd::new(stream) {
-                    Ok(end) => return Ok(end),
-                    Err(error) => error,
-                },
-                Err(error) => error,
-            };
-            if let Some(fault) = fault_of(&error) {
-                return Err(fault);
+            match self.listener.accept() {
+                Ok((stream, _)) => {
+                    if let Ok(end) = TcpEnd::new(stream) {
+                        return Ok(end);
+                    }
+                }
+                Err(error) => {
+                    if let Some(fault) = fault_of(&error) {
+                        return Err(fault);
+                    }
+                }
             }
         }
         Err(IoFault::Failed)

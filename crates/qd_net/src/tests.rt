@@ -22,6 +22,7 @@ fn wires_in_memory(rt: HostRuntime) -> Result<(), Fail> {
     let Ok(mut door) = MemDoor::new(rt.alloc(), wires, &[1]) else {
         panic!(rt; "no memory")
     };
+    assert_eq!(rt; door.left(), 2);
     let mut byte = [0; 1];
     let Ok(Some(mut first)) = door.next_wire() else {
         panic!(rt; "no wire")
@@ -36,6 +37,8 @@ fn wires_in_memory(rt: HostRuntime) -> Result<(), Fail> {
     assert_eq!(rt; byte, [8]);
     assert!(rt; matches!(door.next_wire(), Ok(None)));
     assert!(rt; matches!(door.next_wire(), Ok(None)));
+    let mut nobody: MemDoor<Both<MemSource, MemSink>> = MemDoor::none(rt.alloc());
+    assert!(rt; matches!(nobody.next_wire(), Ok(None)));
     Ok(())
 }
 

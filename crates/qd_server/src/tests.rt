@@ -63,7 +63,11 @@ impl Counting {
 impl<W: Source + Sink + Send + Drop + 'static> Maker<W> for Counting {
     type Work = Echo<W>;
 
+    type Fixed = ();
+
     ghost works = { λ _ _. Unit {0} };
+
+    ghost fixed = { λ _. tt };
 
     fn make(&mut self, wire: W) -> Result<Echo<W>, Memory> {
         self.made = self.made.saturating_add(1);

@@ -12,6 +12,7 @@ loop-init g c = record {
   out = c.requires.out;
   few = c.requires.few;
   capacity = c.requires.capacity;
+  fixed = refl;
   none_failed = refl;
 }
 
@@ -67,5 +68,6 @@ loop-preserved g c =
       out = still_out g.M.Maker.works c.loop.maker c.accept_next.new.maker c.loop.outs.items c.accept_next.new.outs.items a.0 c.loop.threads.failed c.accept_next.new.threads.failed c.loop.invariant.out a.2;
       few = c.accept_next.ensures.few;
       capacity = c.accept_next.ensures.capacity;
+      fixed = c.accept_next.ensures.fixed ∙ c.loop.invariant.fixed;
       none_failed = c.in_ok-accept_next.ensures.counted ∙ c.loop.invariant.none_failed;
     }

@@ -13,5 +13,6 @@ invariant-loop g l = record {
   out : (s : Works g.row.L-Wire.Denot g.row.M-Work.Denot) × IsOut g.M.Maker.works l.maker l.outs.items s;
   few : length l.outs.items ≤ MOST;
   capacity : deque_capacity l.outs ≡ MOST;
+  fixed : g.M.Maker.fixed l.maker ≡ g.M.Maker.fixed l.initial.maker;
   none_failed : (g.L.Listener.arrivals l.listener).faults ≡ (g.L.Listener.arrivals l.initial.listener).faults;
 }

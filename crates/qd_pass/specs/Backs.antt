@@ -15,6 +15,11 @@ abbrev pub back_shown : Option Pass → Shown
 back_shown None = nothing
 back_shown (Some p) = shown_by p
 
+-- the scoreboard that a pass is of, where it is there
+abbrev pub table_in : Option Pass → Option TableId
+table_in None = None
+table_in (Some p) = Some p.table
+
 module _ {V : Type 0} where
   -- the pass of a session, where it is there
   abbrev pub pass_in : Option (Session V) → Option Pass

@@ -12,7 +12,7 @@ ghost use Rattle.qd_score_model.specs.declared.view.Mode.TheVariants.{Keeper};
 ghost use Rattle.qd_score_model.specs.declared.view.Phase.TheVariants.{Idle};
 ghost use Rattle.qd_shared.specs.Passes.{Pass as Passing, view_of};
 ghost use Rattle.qd_sql_ast.specs.Kinds.{IsQuestion, IsWrite};
-ghost use Rattle.qd_pass.specs.Backs.{back_shown};
+ghost use Rattle.qd_pass.specs.Backs.{back_shown, table_in};
 ghost use Rattle.qd_pass.specs.Passed.{GoesStill, IsReady};
 ghost use Rattle.qd_pass.specs.Replies.{RepliesWith};
 ghost use Rattle.qd_pass.specs.Shared.{AllowedShared};
@@ -93,6 +93,7 @@ impl<'r, R: Wait, V: Volume + Drop> PassBack<'r, R, V> {
     fn carry_out(&mut self, alloc: Global, stmt: &Stmt) -> Result<Reply, Memory>
         requires short { IsShort stmt.now }
         ensures handled { (text : List ℕ) → asks_for text ≡ Ok stmt.now → Handles AllowedShared (back_shown self.old) (back_shown self.new) 0 (request.Sql text) result }
+        ensures fixed { table_in self.new ≡ table_in self.old }
     {
         match stmt {
             Stmt::Create(_) | Stmt::Insert(_) => self.write(alloc, stmt),
@@ -105,6 +106,7 @@ impl<'r, R: Wait, V: Volume + Drop> PassBack<'r, R, V> {
         requires short { IsShort stmt.now }
         requires writes { IsWrite stmt.now }
         ensures handled { (text : List ℕ) → asks_for text ≡ Ok stmt.now → Handles AllowedShared (back_shown self.old) (back_shown self.new) 0 (request.Sql text) result }
+        ensures fixed { table_in self.new ≡ table_in self.old }
     {
         let Some(Session { mut pass, memo: _ }) = self.session.take() else {
             unreachable!()
@@ -118,6 +120,7 @@ impl<'r, R: Wait, V: Volume + Drop> PassBack<'r, R, V> {
     fn answer(&mut self, alloc: Global, stmt: &Stmt) -> Result<Reply, Memory>
         requires asks { IsQuestion stmt.now }
         ensures handled { (text : List ℕ) → asks_for text ≡ Ok stmt.now → Handles AllowedShared (back_shown self.old) (back_shown self.new) 0 (request.Sql text) result }
+        ensures fixed { table_in self.new ≡ table_in self.old }
     {
         let Some(session) = self.session.take() else {
             unreachable!()
@@ -129,7 +132,11 @@ impl<'r, R: Wait, V: Volume + Drop> PassBack<'r, R, V> {
 }
 
 impl<R: Wait, V: Volume + Drop> Backend for PassBack<'_, R, V> {
+    type Fixed = Option<Shared<V>>;
+
     ghost shown = { back_shown };
+
+    ghost fixed = { table_in };
 
     ghost rule = { AllowedShared };
 
@@ -138,6 +145,7 @@ impl<R: Wait, V: Volume + Drop> Backend for PassBack<'_, R, V> {
         requires read { IsRead batch.now }
         ensures handled { (text : List ℕ) → IsReading text batch.now
             → Handles AllowedShared (back_shown self.old) (back_shown self.new) now (request.Write text) result }
+        ensures fixed { table_in self.new ≡ table_in self.old }
     {
         let Some(Session { mut pass, memo: _ }) = self.session.take() else {
             unreachable!()
@@ -155,6 +163,7 @@ impl<R: Wait, V: Volume + Drop> Backend for PassBack<'_, R, V> {
     fn sql(&mut self, alloc: Global, text: &Txt) -> Result<Reply, Memory>
         requires short { length text.now ≤ MAX_QUERY_BYTES }
         ensures handled { Handles AllowedShared (back_shown self.old) (back_shown self.new) 0 (request.Sql text.now) result }
+        ensures fixed { table_in self.new ≡ table_in self.old }
     {
         inserts_are_short();
         match parse_stmt(alloc, text.bytes()) {
@@ -167,6 +176,7 @@ impl<R: Wait, V: Volume + Drop> Backend for PassBack<'_, R, V> {
     /// Makes all transactions the current version, in one hold of the lock, and removes the blocks that no version lists any more.
     fn apply(&mut self, alloc: Global) -> Result<Reply, Memory>
         ensures handled { Handles AllowedShared (back_shown self.old) (back_shown self.new) 0 request.Apply result }
+        ensures fixed { table_in self.new ≡ table_in self.old }
     {
         let Some(Session { mut pass, memo: _ }) = self.session.take() else {
             unreachable!()

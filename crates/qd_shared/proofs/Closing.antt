@@ -1,25 +1,40 @@
--- The store is taken back.
-use Rattle.std.proofs.Common.{◌≡◌, ◌∙◌, ◌≤◌, Bool, true, false, List, Option, Some, is_some, IfSome, sym, ap, subst}
+-- The store is shared, and taken back.
+use Rattle.std.proofs.Common.{◌≡◌, ◌∙◌, ◌≤◌, Bool, true, false, List, length, Option, Some, None, is_some, IfSome, sym, ap, subst, arith}
 use mathlib.Core.List.{IsPrefix}
 use Rattle.atomic_table.specs.Seated.{TableId}
 use Rattle.qd_base.specs.declared.op.Entry.{Entry}
+use Rattle.qd_manifest.specs.Spelling.{blocks_of}
+use Rattle.qd_score.specs.Rule.{Stands, first_seat}
+use Rattle.qd_score_model.specs.Kept.{RisesWithin}
+use Rattle.qd_score_model.proofs.Lists.{prefix_length}
 use Rattle.qd_store.specs.Owned.{Store}
 use Rattle.qd_store_backend.specs.Backs.{IsTold, current, n_in}
 use Rattle.qd_shared.specs.declared.item.Fixed.{Fixed}
 use Rattle.qd_shared.specs.declared.item.Item.{Item}
-use Rattle.qd_shared.specs.Desks.{Desk, IsDesk, fixed_of, items_in}
+use Rattle.qd_shared.specs.Desks.{Desk, IsDesk, book_of, fixed_of, items_in}
 use Rattle.qd_shared.specs.Holding.{Begins}
-use Rattle.qd_shared.specs.Passes.{Closes, GoesOnTo, HasDesk, Knowing, Pass, history_by, history_of, is_told, view_of}
+use Rattle.qd_shared.specs.Passes.{Closes, GoesOnTo, HasDesk, Knowing, Pass, history_by, history_of, is_told, view_of, Starts}
 use Rattle.qd_shared.proofs.Desking.{counted_of}
 use Rattle.qd_shared.proofs.Held.{at_table, comes_fixed}
-use Rattle.qd_shared.proofs.Items.{entries_grow, history_is}
+use Rattle.qd_shared.proofs.Items.{entries_grow, history_is, items_count}
 
 goes_on : (told : Bool) (seen items : List Item) (history : Option (List Entry)) → IsPrefix seen items → history_by told items ≡ history → GoesOnTo (history_by told seen) history
 goes_on false seen items history pre is = sym is
 goes_on true seen items history pre is = let e = entries_grow seen items pre in (e.0, sym is ∙ ap (λ (l : List Entry). Some l) (sym e.1))
 
-pub closed : (p : Pass) (table : TableId) (k : Knowing) (found book : Desk) (owned : Store) → at_table table k ≡ p → HasDesk k → Begins k found → book ≡ found → owned ≡ book.owned → IsDesk book → Closes p owned
-closed p table k found book owned is has b same store kept =
+-- what a view has seen of a desk is no more than there is
+within : (seen : List Item) (d : Desk) → IsPrefix seen (items_in d) → IsDesk d → IfSome d.history (λ h. length seen ≤ length h)
+within seen d pre desk = by d.history (counted_of d desk).count where
+  by : (history : Option (List Entry)) → IfSome history (λ h. length d.owned.store.sequence.refs ≡ length h) → IfSome history (λ h. length seen ≤ length h)
+  by None count = tt
+  by (Some h) count = let le = prefix_length seen (items_in d) pre in let all = items_count d.owned.store.sequence.refs d.history in omega (arith, le, all, count)
+
+-- the positions of a view's own items rise
+own_rises : (k : Knowing) → Stands blocks_of k.view → RisesWithin 0 (length k.view.seen) k.view.own
+own_rises k stands = (stands.2.history.seats stands.1 k.view stands.3).own
+
+pub closed : (p : Pass) (table : TableId) (k : Knowing) (found book : Desk) (owned : Store) → at_table table k ≡ p → HasDesk k → Stands blocks_of k.view → Begins k found → book ≡ found → owned ≡ book.owned → IsDesk book → Closes p owned
+closed p table k found book owned is has stands b same store kept =
     let here : IsDesk found = subst IsDesk same kept in
     let mine : owned ≡ found.owned = store ∙ ap (λ (d : Desk). d.owned) same in
     let fixed : fixed_of found ≡ fixed_of has.0 = subst (λ (o : Option Desk). IfSome o (λ d. fixed_of found ≡ fixed_of d)) has.1 (comes_fixed k.origin found b.comes) in
@@ -31,4 +46,17 @@ closed p table k found book owned is has b same store kept =
       told = subst (λ (o : Store). IfSome found.history (IsTold o)) (sym mine) here.told;
       seen = subst (λ (q : Pass). GoesOnTo (history_of q) found.history) is seen;
       known = subst (λ (q : Pass). (view_of q).known ≤ n_in (current owned.store)) is (subst (λ (o : Store). k.view.known ≤ n_in (current o.store)) (sym mine) b.known);
+      own = subst (λ (q : Pass). RisesWithin 0 (length (view_of q).seen) (view_of q).own) is (own_rises k stands);
+      within = subst (λ (q : Pass). IfSome found.history (λ h. length (view_of q).seen ≤ length h)) is (within k.view.seen found b.seen here);
+    }
+
+-- the first pass over a desk
+pub started : (p : Pass) (owned : Store) (history : Option (List Entry)) → (d : Desk) → d ≡ record { owned = owned; history = history; removed = 0 } → IsDesk d → p.knows ≡ first_seat book_of (λ (_ : Desk). Unit {0}) fixed_of d → Starts p owned history
+started p owned history d is desk first =
+    let knows : p.knows ≡ first_seat book_of (λ (_ : Desk). Unit {0}) fixed_of (record { owned = owned; history = history; removed = 0 }) = first ∙ ap (first_seat book_of (λ (_ : Desk). Unit {0}) fixed_of) is in
+    let here : IsDesk (record { owned = owned; history = history; removed = 0 }) = subst IsDesk is desk in
+    record {
+      desk = ap (λ (k : Knowing). k.origin) knows;
+      view = ap (λ (k : Knowing). k.view) knows;
+      told = ap (λ (k : Knowing). history_by (is_told k.origin) k.view.seen) knows ∙ history_is (record { owned = owned; history = history; removed = 0 }) (counted_of (record { owned = owned; history = history; removed = 0 }) here);
     }

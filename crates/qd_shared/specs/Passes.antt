@@ -10,6 +10,7 @@ use Rattle.qd_score.specs.Rule.{Stands}
 use Rattle.qd_score_model.specs.declared.view.Record.{Record}
 use Rattle.qd_score_model.specs.declared.view.View.{View}
 use Rattle.qd_score_model.specs.declared.view.Mode.TheVariants.{Writer}
+use Rattle.qd_score_model.specs.Kept.{RisesWithin}
 use Rattle.qd_score_model.specs.Machine.{behind, first_view, joined, newcomer}
 use Rattle.qd_store.specs.Owned.{Store}
 use Rattle.qd_store_backend.specs.Backs.{IsTold, current, n_in}
@@ -95,6 +96,7 @@ pub record Looks (old new : Pass) : Type 0 where
 pub record Starts (p : Pass) (owned : Store) (history : Option (List Entry)) : Type 0 where
   pub desk : p.knows.origin ≡ Some (record { owned = owned; history = history; removed = 0 })
   pub view : view_of p ≡ first_view (book_of (record { owned = owned; history = history; removed = 0 }))
+  pub told : history_of p ≡ history
 
 -- a pass that is split off: it has seen what the other has, and nothing is its own
 pub record IsPart (p part : Pass) : Type 0 where
@@ -107,6 +109,9 @@ pub record IsJoined (p other now : Pass) : Type 0 where
   pub table : now.table ≡ p.table
   pub origin : now.knows.origin ≡ p.knows.origin
   pub view : view_of now ≡ joined (view_of p) (view_of other)
+  -- what each of the two had seen is a beginning of what it has seen now
+  pub seen : IsPrefix (view_of p).seen (view_of now).seen
+  pub other_seen : IsPrefix (view_of other).seen (view_of now).seen
 
 -- ---- the store is taken back
 
@@ -121,3 +126,6 @@ pub record Closes (p : Pass) (owned : Store) : Type 0 where
   pub told : IfSome history (IsTold owned)
   pub seen : GoesOnTo (history_of p) history
   pub known : (view_of p).known ≤ n_in (current owned.store)
+  -- the positions of its own transactions rise, and lie within what it had seen of that history
+  pub own : RisesWithin 0 (length (view_of p).seen) (view_of p).own
+  pub within : IfSome history (λ h. length (view_of p).seen ≤ length h)

@@ -100,15 +100,14 @@ impl<V: Volume + Drop> Turning<(), Store<V>> for Behind<V> {
 }
 
 impl<V: Volume + Drop> Desk<V> {
-    /// A store with the usual limits, of which this history is told, or none. No block was removed yet.
-    pub(crate) fn of(store: Store<V>) -> Desk<V>
-        ghost told: { Option (List Entry) }
+    /// A store with the usual limits, of which the history is told that `told` has, or none. No block was removed yet.
+    pub(crate) fn of(store: Store<V>, told: &Telling) -> Desk<V>
         requires usual { AreUsual store.store.limits }
-        requires told { BeginsWith told store }
-        ensures { result ≡ record { owned = store; history = told; removed = 0 } }
+        requires told { BeginsWith told.now.history store }
+        ensures { result ≡ record { owned = store; history = told.now.history; removed = 0 } }
     {
         Desk {
-            telling: Telling::of(&store),
+            telling: Telling::of(told),
             store,
             removed: 0,
             writer: None,

@@ -1,6 +1,5 @@
 //! A store that many threads share.
-ghost use Rattle.std.specs.Prelude.{◌≡◌, ◌≢◌, IfErr, IfOk, List, None, Option};
-ghost use Rattle.qd_base.specs.declared.op.Entry.{Entry};
+ghost use Rattle.std.specs.Prelude.{◌≡◌, ◌≢◌, IfErr, IfOk, None};
 ghost use Rattle.qd_manifest.specs.Spelling.{blocks_of};
 ghost use Rattle.qd_score.specs.Calls as seats;
 ghost use Rattle.qd_score.specs.Calls.{IsSeatOf, known_by};
@@ -17,6 +16,7 @@ ghost use Rattle.qd_store_backend.specs.Backs.{AreUsual, BeginsWith};
 
 use crate::desk::Desk;
 use crate::pass::Pass;
+use qd_ghost::Telling;
 use qd_score::{Hold, Score, Seat};
 use qd_score_model::Mode;
 use qd_store::Store;
@@ -43,18 +43,21 @@ impl<V: Volume + Drop> Model for Shared<V> {
 
 impl<V: Volume + Drop> Shared<V> {
     /// Shares a store, whose first row is its one live one, with one pass: a Sole one, which may be made a Writer by
-    /// [`Shared::share`]. Where a history is told of the store, `told` is that. Where there is no memory the store comes back.
-    pub fn start(alloc: Global, store: Store<V>) -> Result<(Shared<V>, Pass<V>), Store<V>>
-        ghost told: { Option (List Entry) }
+    /// [`Shared::share`]. Where a history is told of the store, `told` has that. Where there is no memory the store comes back.
+    pub fn start(
+        alloc: Global,
+        store: Store<V>,
+        told: &Telling,
+    ) -> Result<(Shared<V>, Pass<V>), Store<V>>
         requires usual { AreUsual store.store.limits }
         requires first { HasFirstRow store.store.versions.versions }
-        requires told { BeginsWith told store }
+        requires told { BeginsWith told.now.history store }
         ensures pass { IfOk result (λ r. r.1.table ≡ r.0) }
-        ensures starts { IfOk result (λ r. Starts r.1 store told) }
+        ensures starts { IfOk result (λ r. Starts r.1 store told.now.history) }
         ensures back { IfErr result (λ s. s ≡ store) }
     {
         store.keeps_its_law();
-        match Score::start(alloc, Desk::of(store)) {
+        match Score::start(alloc, Desk::of(store, told)) {
             Ok((score, seat)) => Ok((Shared { score }, Pass { seat })),
             Err(desk) => Err(desk.into_store()),
         }

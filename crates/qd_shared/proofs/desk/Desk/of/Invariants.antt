@@ -1,4 +1,4 @@
 use Rattle.qd_shared.proofs.desk.Desk.of.Given as goal
 
 abbrev pub ghost-of : goal.ghost-of
-ghost-of g a = g.told
+ghost-of g a = a.from.now.history

@@ -1,0 +1,5 @@
+pub mod Counting
+mod Making
+mod Turned
+mod Visiting
+mod Accepted

@@ -1,0 +1,5 @@
+pub mod Visits
+pub mod Connections
+pub mod Accounts
+pub mod Making
+pub mod Serving

@@ -1,5 +1,6 @@
 """The built program, found, fed from a file or asked frame by frame, and measured; for the scripts beside this one."""
 import os
+import re
 import subprocess
 import time
 
@@ -37,24 +38,44 @@ def query(text):
     return b"Q %d\n" % len(text.encode()) + text.encode()
 
 
-class Session:
-    """A program that runs, and is asked one frame after the other."""
+def number_in(line, letters):
+    """The first number of a reply, which has to be of one of these letters."""
+    found = re.match(rb"[%b] (\d+)[ \n]" % letters, line)
+    if not found:
+        raise ValueError(f"{line[:60]!r} where {letters.decode()} and a number were wanted")
+    return int(found[1])
 
-    def __init__(self, program, *words, **options):
-        self.process = subprocess.Popen([program, *(words or ("run",))], stdin=subprocess.PIPE, stdout=subprocess.PIPE, **options)
+
+class Asked:
+    """Who answers frames, in order: a subclass sends them, and the replies come out of its `source`."""
+
+    def reply(self):
+        """The next reply: the line that it begins with, and its bytes."""
+        line = self.source.readline()
+        size = int(line.split()[2]) if line.startswith(b"R ") else 0
+        return line, self.source.read(size)
 
     def ask(self, frame):
         """Sends a frame, and gives the seconds to the end of its reply, the line that it begins with, and its bytes."""
         began = time.perf_counter()
-        self.process.stdin.write(frame)
-        self.process.stdin.flush()
-        line = self.process.stdout.readline()
-        size = int(line.split()[2]) if line.startswith(b"R ") else 0
-        text = self.process.stdout.read(size)
+        self.send(frame)
+        line, text = self.reply()
         return time.perf_counter() - began, line, text
 
     def query(self, text):
         return self.ask(query(text))
+
+
+class Session(Asked):
+    """A program that runs, and is asked one frame after the other."""
+
+    def __init__(self, program, *words, **options):
+        self.process = subprocess.Popen([program, *(words or ("run",))], stdin=subprocess.PIPE, stdout=subprocess.PIPE, **options)
+        self.source = self.process.stdout
+
+    def send(self, frame):
+        self.process.stdin.write(frame)
+        self.process.stdin.flush()
 
     def megabytes(self):
         """The most memory that the program took until now."""

@@ -25,6 +25,15 @@ def same(found, wanted, what):
         raise Wrong(f"{what}: {str(found)[:300]} where {str(wanted)[:300]} was wanted")
 
 
+def one_line(told, *parts):
+    """That standard error has one line, with these parts."""
+    if told.count("\n") != 1 or not told.startswith("tsdb: ") or not told.endswith("\n"):
+        raise Wrong(f"on standard error stands {told!r}, and not one line")
+    for part in parts:
+        if part not in told:
+            raise Wrong(f"on standard error stands {told!r}, without {part!r}")
+
+
 def over(folder):
     return ["run", "--dir", folder]
 
@@ -108,7 +117,7 @@ def fault_of(check, program):
     place = tempfile.mkdtemp()
     try:
         check(program, place)
-    except (Wrong, subprocess.SubprocessError, OSError) as wrong:
+    except (Wrong, subprocess.SubprocessError, OSError, ValueError) as wrong:
         return f"{wrong} (in {place})"
     shutil.rmtree(place)
     return None

@@ -1,7 +1,7 @@
 //! What a command line asks for.
-ghost use Rattle.std.specs.Prelude.{◌≡◌, ◌≤◌, ◌^◌, ◌<◌, ◌↔◌, ℕ, decimal, map, Some};
+ghost use Rattle.std.specs.Prelude.{◌≡◌, ◌≤◌, ◌^◌, ◌<◌, ◌↔◌, ℕ, [], ◌∷◌, codes, decimal, map, Some};
 ghost use Rattle.qd_args.specs.declared.command.Command.{Command};
-ghost use Rattle.qd_args.specs.Parts.{AsksPlain};
+ghost use Rattle.qd_args.specs.Words.{AsksWith};
 
 use crate::number::number_of;
 use qd_base::Txt;
@@ -9,7 +9,10 @@ use qd_base::Txt;
 /// The greatest number of lines that can be asked for.
 pub const MAX_GEN_LINES: u32 = 1_000_000;
 
-/// What a command line asks for. Contracts see the folder of `Run` as its bytes.
+/// The greatest number of connections that can be asked for.
+pub const MAX_CONNECTIONS: u32 = 1_000_000;
+
+/// What a command line asks for. Contracts see a folder as its bytes.
 #[derive(Debug, Drop)]
 pub enum Command {
     /// To serve the frames of the input.
@@ -25,33 +28,55 @@ pub enum Command {
         /// The number of its lines, from 1 to 1,000,000.
         lines: u32,
     },
+    /// To serve connections.
+    Serve {
+        /// The port that they come to, from 1 to 65,535.
+        port: u16,
+        /// The folder in which the database is kept, as for `Run`.
+        dir: Txt,
+        /// How many connections are served, from 1 to 1,000,000; without end where it is none.
+        connections: Option<u32>,
+    },
 }
 
-/// The command that plain words ask for beside the folder that was named, if any.
-pub(super) fn command_of(dir: Option<Txt>, words: &[&str]) -> Option<Command>
-    ensures { (command : Command) → ((result ≡ Some command) ↔ AsksPlain command dir (map (λ w. w.now) words.now)) }
+/// The command that plain words ask for, beside the values that options gave.
+pub(super) fn command_of(
+    dir: Option<Txt>,
+    connections: Option<u32>,
+    words: &[&str],
+) -> Option<Command>
+    ensures { (command : Command) → ((result ≡ Some command) ↔ AsksWith command dir connections (map (λ w. w.now) words.now)) }
 {
     match words {
-        [name] => {
-            if *name == "run" {
-                Some(Command::Run { dir })
-            } else {
-                None
-            }
-        }
-        [name, number, lines] => {
-            if *name == "gen" && dir.is_none() {
-                gen_of(number, lines)
-            } else {
-                None
-            }
-        }
+        ["run"] => run_of(dir, connections),
+        ["gen", number, lines] => gen_of(dir, connections, number, lines),
+        ["serve", port] => serve_of(dir, connections, port),
         _ => None,
     }
 }
 
-/// The command `gen` of two numbers, where they are such and in range.
-fn gen_of(number: &str, lines: &str) -> Option<Command>
+/// The command `run`, which takes no number of connections.
+fn run_of(dir: Option<Txt>, connections: Option<u32>) -> Option<Command>
+    ensures { (command : Command) → ((result ≡ Some command) ↔ AsksWith command dir connections (codes "run" ∷ [])) }
+{
+    match connections {
+        Some(_) => None,
+        None => Some(Command::Run { dir }),
+    }
+}
+
+/// The command `gen` of two numbers, where they are such and in range, which takes no option.
+fn gen_of(dir: Option<Txt>, connections: Option<u32>, number: &str, lines: &str) -> Option<Command>
+    ensures { (command : Command) → ((result ≡ Some command) ↔ AsksWith command dir connections (codes "gen" ∷ number.now ∷ lines.now ∷ [])) }
+{
+    match (dir, connections) {
+        (None, None) => numbered(number, lines),
+        _ => None,
+    }
+}
+
+/// The command `gen` of two numbers.
+fn numbered(number: &str, lines: &str) -> Option<Command>
     ensures some { (n l : ℕ) → n < 2 ^ 32 → 1 ≤ l → l ≤ MAX_GEN_LINES → number.now ≡ decimal n → lines.now ≡ decimal l → result ≡ Some (Command.Gen n l) }
     ensures cause { (command : Command) → result ≡ Some command → (n l : ℕ) × (command ≡ Command.Gen n l) × (n < 2 ^ 32) × (1 ≤ l) × (l ≤ MAX_GEN_LINES) × (number.now ≡ decimal n) × (lines.now ≡ decimal l) }
 {
@@ -59,6 +84,32 @@ fn gen_of(number: &str, lines: &str) -> Option<Command>
     let lines = number_of(lines)?;
     if 1 <= lines && lines <= MAX_GEN_LINES {
         Some(Command::Gen { number, lines })
+    } else {
+        None
+    }
+}
+
+/// The command `serve` of a port, which takes a folder.
+fn serve_of(dir: Option<Txt>, connections: Option<u32>, port: &str) -> Option<Command>
+    ensures { (command : Command) → ((result ≡ Some command) ↔ AsksWith command dir connections (codes "serve" ∷ port.now ∷ [])) }
+{
+    let dir = dir?;
+    let port = port_of(port)?;
+    Some(Command::Serve {
+        port,
+        dir,
+        connections,
+    })
+}
+
+/// The port of this number, where it is one.
+fn port_of(word: &str) -> Option<u16>
+    ensures some { (n : ℕ) → 1 ≤ n → n < 2 ^ 16 → word.now ≡ decimal n → result ≡ Some n }
+    ensures cause { (n : ℕ) → result ≡ Some n → (1 ≤ n) × (n < 2 ^ 16) × (word.now ≡ decimal n) }
+{
+    let number = number_of(word)?;
+    if 1 <= number && number <= u32::from(u16::MAX) {
+        Some(number as u16)
     } else {
         None
     }

@@ -5,12 +5,13 @@
 
 mod command;
 mod laws;
+mod line;
 mod number;
-mod option;
+mod piece;
 mod reading;
 #[cfg(test)]
 mod tests;
 
-pub use command::{Command, MAX_GEN_LINES};
+pub use command::{Command, MAX_CONNECTIONS, MAX_GEN_LINES};
 pub use laws::words_ask_for_one;
 pub use reading::read_words;

@@ -14,7 +14,7 @@ fn asked(alloc: Global, words: &[&[u8]]) -> Result<Option<Command>, Memory> {
 }
 
 /// Lines of words that ask for nothing.
-const OTHERS: [&[&[u8]]; 24] = [
+const OTHERS: [&[&[u8]]; 40] = [
     &[b"run "],
     &[b"-"],
     &[b"--"],
@@ -39,6 +39,28 @@ const OTHERS: [&[&[u8]]; 24] = [
     &[b"ru\xffn"],
     &[b"--dir=\xed\xa0\x80", b"run"],
     &[b"--dir", b"d\xc3", b"run"],
+    &[b"serve", b"--dir", b"d"],
+    &[b"serve", b"1"],
+    &[b"serve", b"0", b"--dir", b"d"],
+    &[b"serve", b"65536", b"--dir", b"d"],
+    &[b"serve", b"080", b"--dir", b"d"],
+    &[b"serve", b"1", b"2", b"--dir", b"d"],
+    &[b"serve", b"1", b"--dir", b"--connections", b"2"],
+    &[b"serve", b"1", b"--dir=d", b"--connections"],
+    &[b"serve", b"1", b"--dir=d", b"--connections="],
+    &[b"serve", b"1", b"--dir=d", b"--connections=0"],
+    &[b"serve", b"1", b"--dir=d", b"--connections=1000001"],
+    &[b"serve", b"1", b"--dir=d", b"--connections", b"+1"],
+    &[
+        b"serve",
+        b"1",
+        b"--dir=d",
+        b"--connections=1",
+        b"--connections=1",
+    ],
+    &[b"serve", b"1", b"--dir=d", b"--connection", b"1"],
+    &[b"run", b"--dir=d", b"--connections=1"],
+    &[b"gen", b"1", b"1", b"--connections=1"],
 ];
 
 #[test]
@@ -92,5 +114,56 @@ fn words_that_name_a_folder(rt: HostRuntime) -> Result<(), Fail> {
     for (words, name) in FOLDERS {
         assert!(rt; runs_in(&asked(rt.alloc(), words)?, name));
     }
+    Ok(())
+}
+
+/// Whether what was found is to serve connections at this port, over the folder `d`, so many of them.
+fn serves(found: &Option<Command>, at: u16, most: Option<u32>) -> bool {
+    match found {
+        Some(
+            Command::Serve {
+                port,
+                dir,
+                connections,
+            },
+        ) => *port == at && dir.bytes() == b"d".as_slice() && *connections == most,
+        _ => false,
+    }
+}
+
+/// Lines of words that are to serve connections at port 80, three or without end.
+const SERVERS: [(&[&[u8]], Option<u32>); 9] = [
+    (&[b"serve", b"80", b"--dir", b"d"], None),
+    (&[b"--dir=d", b"serve", b"80"], None),
+    (&[b"serve", b"--dir", b"d", b"80"], None),
+    (
+        &[b"serve", b"80", b"--dir", b"d", b"--connections", b"3"],
+        Some(3),
+    ),
+    (
+        &[b"serve", b"80", b"--connections=3", b"--dir", b"d"],
+        Some(3),
+    ),
+    (
+        &[b"--connections", b"3", b"--dir=d", b"serve", b"80"],
+        Some(3),
+    ),
+    (&[b"--dir=d", b"--connections=3", b"serve", b"80"], Some(3)),
+    (
+        &[b"--dir", b"d", b"serve", b"80", b"--connections=3"],
+        Some(3),
+    ),
+    (&[b"--connections=3", b"serve", b"80", b"--dir=d"], Some(3)),
+];
+
+#[test]
+fn words_to_serve_connections(rt: HostRuntime) -> Result<(), Fail> {
+    for (words, most) in SERVERS {
+        assert!(rt; serves(&asked(rt.alloc(), words)?, 80, most));
+    }
+    let least: [&[u8]; 3] = [b"serve", b"1", b"--dir=d"];
+    assert!(rt; serves(&asked(rt.alloc(), &least)?, 1, None));
+    let greatest: [&[u8]; 4] = [b"serve", b"65535", b"--dir=d", b"--connections=1000000"];
+    assert!(rt; serves(&asked(rt.alloc(), &greatest)?, 65_535, Some(1_000_000)));
     Ok(())
 }

@@ -7,6 +7,8 @@
 #[cfg(test)]
 mod exprs;
 #[cfg(test)]
+mod ports;
+#[cfg(test)]
 mod shareds;
 #[cfg(test)]
 mod stores;

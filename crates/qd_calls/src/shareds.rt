@@ -7,6 +7,7 @@ ghost use Rattle.qd_shared.specs.Passes.{view_of};
 ghost use Rattle.qd_shared.specs.Snaps.{pinned_at, IsPinned};
 
 use qd_base::Limits;
+use qd_ghost::Telling;
 use qd_ilp::parse_batch;
 use qd_score::Pin;
 use qd_shared::{Pass, Shared};
@@ -27,7 +28,7 @@ fn share_new(alloc: Global) -> Result<(Shared<MemVolume>, Pass<MemVolume>), Fail
         Ok(store) => store,
         Err(Unmade { volume: _, why }) => return Err(Fail::from(why)),
     };
-    let Ok((shared, mut pass)) = Shared::start(alloc, store) else {
+    let Ok((shared, mut pass)) = Shared::start(alloc, store, &Telling::of(&())) else {
         return Err(Fail::from("no memory"));
     };
     shared.share(&mut pass);

@@ -1,6 +1,6 @@
 -- What a command did, from what is said of its status, and what it did where no memory was found; and the words that ask for it.
 use Rattle.std.proofs.Common.{◌≡◌, ℕ, ◌≤◌, ◌⊎◌, ◌↔◌, inl, inr, List, [], length, if◌then◌else◌, nat_eq, Option, Some, None, refl, sym, ◌∙◌, ap, subst, arith}
-use Rattle.std.proofs.lemmas.List.{append-nil, take_all}
+use Rattle.std.proofs.lemmas.List.{take_all}
 use Rattle.qd_store_backend.specs.Volumes.{IsDamagedAt, IsUnopened, MayFind}
 use Rattle.qd_store.proofs.OpenTold.{reads_now}
 use Rattle.qd_base.specs.declared.limits.TheConstants.{LAST_OFFSET}
@@ -14,20 +14,21 @@ use Rattle.qd_frames.specs.Frames.{Steps}
 use Rattle.qd_gen.specs.Framed.{IsReadAsAsked}
 use Rattle.qd_gen.specs.Generated.{requests, input as generated}
 use Rattle.qd_host.specs.Hosts.{Supply}
-use Rattle.qd_io.specs.Ends.{HasRisen}
+use Rattle.qd_io.specs.Ends.{HasRisen, Stream}
 use Rattle.qd_print.specs.Printed.{reply_bytes}
 use Rattle.qd_gen.specs.Quieted.{without_done}
-use Rattle.qd_session.specs.Session.{IsClean, PutTo}
+use Rattle.qd_session.specs.Session.{IsClean}
 use Rattle.qd_volume.specs.Disk.{Disk, reads_of}
-use Rattle.qd_args.specs.Words.{Asks}
+use Rattle.qd_args.specs.Words.{Asks, IsCommand}
 use Rattle.qd_args.specs.declared.command.Command.{Command}
 use Rattle.qd_args.specs.declared.command.Command.TheVariants as command
 use Rattle.qd_args.specs.declared.command.TheConstants.{MAX_GEN_LINES}
-use Rattle.qd_top.specs.Run.{Answered, AsksFor, AsksToRun, CountsReads, CountsWrites, Did, EndsWith, FoundDamage, IsDamagedTold, IsUnserved, IsWellFramed, NoneFailed, Outside, Ran, Served, Traffic, Unopened, reached, traffic, usage}
+use Rattle.qd_top.specs.Run.{Answered, AsksFor, AsksToRun, CountsReads, CountsWrites, Did, EndsWith, FoundDamage, IsDamagedTold, IsUnserved, IsWellFramed, NoneFailed, Outside, Ran, Served, ServedPort, Traffic, Unopened, WroteUsage, limit_of, reached, traffic, usage}
 use Rattle.qd_top.specs.Stores.{IsOfNoStore, Names}
 use Rattle.qd_top.specs.Status.{number_of}
 use Rattle.qd_top.specs.declared.status.Status.{Status}
 use Rattle.qd_top.specs.declared.status.Status.TheVariants as status
+use Rattle.qd_top.proofs.HostLemmas.{put-nothing}
 use Rattle.qd_top.proofs.RunLemmas.{not_refused}
 
 -- the status of a number
@@ -47,7 +48,9 @@ status_with n =
     then status.NoVolume
     else if nat_eq n 6
     then status.Damaged
-    else status.NoMemory
+    else if nat_eq n 7
+    then status.NoMemory
+    else status.NoListener
 
 status_with-number_of : (s : Status) → status_with (number_of s) ≡ s
 unfolding status_with
@@ -59,6 +62,7 @@ status_with-number_of status.WriteFault = refl
 status_with-number_of status.NoVolume = refl
 status_with-number_of status.Damaged = refl
 status_with-number_of status.NoMemory = refl
+status_with-number_of status.NoListener = refl
 
 -- each number is that of one status alone
 one_status : (s t : Status) → number_of s ≡ number_of t → s ≡ t
@@ -78,6 +82,7 @@ reads-stay-from status.WriteFault before now e c = c
 reads-stay-from status.NoVolume before now e c = c
 reads-stay-from status.Damaged before now e c = c
 reads-stay-from status.NoMemory before now e c = c
+reads-stay-from status.NoListener before now e c = c
 
 pub write-cause-from : (s : Status) (before now : ℕ) → number_of s ≡ 4 → CountsWrites before now s → (before ≤ now) × HasRisen before now
 write-cause-from s before now e c = subst (λ (t : Status). CountsWrites before now t) (one_status s status.WriteFault e) c
@@ -91,6 +96,7 @@ writes-stay-from status.ReadFault before now e u c = c
 writes-stay-from status.NoVolume before now e u c = c
 writes-stay-from status.Damaged before now e u c = c
 writes-stay-from status.NoMemory before now e u c = c
+writes-stay-from status.NoListener before now e u c = c
 
 -- ---- a command, by the number of its status
 
@@ -115,6 +121,7 @@ module _ (print : Reply → List ℕ) (found : Option (List Entry)) (host host' 
   complete-from status.NoVolume reads reads' writes writes' h is may r read write well no_read no_write no_volume = absurd (no_volume r.1)
   complete-from status.Damaged reads reads' writes writes' h is may r read write well no_read no_write no_volume = absurd (never_damaged h [] (subst (λ (o : Option (List Entry)). MayFind o host.shelf) is may) r)
   complete-from status.NoMemory reads reads' writes writes' h is may r read write well no_read no_write no_volume = inr refl
+  complete-from status.NoListener reads reads' writes writes' h is may r read write well no_read no_write no_volume = absurd r
 
   -- over a damaged volume it says where, or finds no memory
   damaged-from : (s : Status) (reads reads' writes writes' : ℕ) → Ran print found host host' t s → CountsReads reads reads' s → CountsWrites writes writes' s → IsDamagedTold host.shelf
@@ -127,6 +134,7 @@ module _ (print : Reply → List ℕ) (found : Option (List Entry)) (host host' 
   damaged-from status.NoVolume reads reads' writes writes' r read write damaged no_read no_write no_volume = absurd (no_volume r.1)
   damaged-from status.Damaged reads reads' writes writes' r read write damaged no_read no_write no_volume = inl refl
   damaged-from status.NoMemory reads reads' writes writes' r read write damaged no_read no_write no_volume = inr refl
+  damaged-from status.NoListener reads reads' writes writes' r read write damaged no_read no_write no_volume = absurd r
 
   -- a command doesn't end with the status of other words
   ends-from : (dir : Option (List ℕ)) (s : Status) → Ran print found host host' t s → EndsWith (command.Run dir) (number_of s)
@@ -138,6 +146,7 @@ module _ (print : Reply → List ℕ) (found : Option (List Entry)) (host host' 
   ends-from dir status.NoVolume r = inr (inr (inr (inr (inl refl))))
   ends-from dir status.Damaged r = inr (inr (inr (inr (inr (inl refl)))))
   ends-from dir status.NoMemory r = inr (inr (inr (inr (inr (inr refl)))))
+  ends-from dir status.NoListener r = absurd r
 
   -- over whole frames, and where no read can fail, neither a frame nor a read ends it
   pub ends_well-from : (s : Status) (number lines : ℕ) → Ran print found host host' t s → CountsReads 0 0 s → IsWellFramed t.input → EndsWith (command.Gen number lines) (number_of s)
@@ -150,6 +159,7 @@ module _ (print : Reply → List ℕ) (found : Option (List Entry)) (host host' 
   ends_well-from status.NoVolume number lines r read well = inr (inr (inl refl))
   ends_well-from status.Damaged number lines r read well = inr (inr (inr (inl refl)))
   ends_well-from status.NoMemory number lines r read well = inr (inr (inr (inr refl)))
+  ends_well-from status.NoListener number lines r read well = absurd r
 
 -- where the generated input was served, no read of the given one was counted
 pub reads-of-gen : (s : Status) (number lines n : ℕ) → EndsWith (command.Gen number lines) (number_of s) → CountsReads n n s
@@ -165,6 +175,7 @@ reads-of-gen status.WriteFault number lines n e = refl
 reads-of-gen status.NoVolume number lines n e = refl
 reads-of-gen status.Damaged number lines n e = refl
 reads-of-gen status.NoMemory number lines n e = refl
+reads-of-gen status.NoListener number lines n e = refl
 
 -- the folder that a command names, by its status
 folder-of : (old new : Option (List (List ℕ))) (dir : Option (List ℕ)) (s : Status) → Names old new dir (s ≡ status.NoMemory) → AsksFor old new dir ⊎ ((number_of s ≡ 7) × (new ≡ old))
@@ -220,12 +231,63 @@ did-gen number lines found old new s left may same ran ends writes named = recor
     by status.NoVolume h is r e count none = absurd (none.volume r.1)
     by status.Damaged h is r e count none = absurd (never_damaged (without_done reply_bytes) found old.host new.host t h [] (subst (λ (o : Option (List Entry)). MayFind o old.host.shelf) is may) r)
     by status.NoMemory h is r e count none = inr refl
+    by status.NoListener h is r e count none = absurd r
+
+-- ---- a port, by the number of its status
+
+module _ (found : Option (List Entry)) (host host' : Supply) (port most : ℕ) (t : Traffic) where
+  -- serving doesn't end as a session does
+  ends-serving : (s : Status) (named : ℕ) (folder : List ℕ) (limit : Option ℕ) → ServedPort found host host' port most t s → EndsWith (command.Serve named folder limit) (number_of s)
+  ends-serving status.Finished named folder limit r = inl refl
+  ends-serving status.Usage named folder limit r = absurd r
+  ends-serving status.BadFrame named folder limit r = absurd r
+  ends-serving status.ReadFault named folder limit r = absurd r
+  ends-serving status.WriteFault named folder limit r = inr (inl refl)
+  ends-serving status.NoVolume named folder limit r = inr (inr (inl refl))
+  ends-serving status.Damaged named folder limit r = inr (inr (inr (inl refl)))
+  ends-serving status.NoMemory named folder limit r = inr (inr (inr (inr (inl refl))))
+  ends-serving status.NoListener named folder limit r = inr (inr (inr (inr (inr refl))))
+
+  -- over a damaged volume it says where, or finds no memory
+  damaged-serving : (s : Status) (writes writes' : ℕ) → ServedPort found host host' port most t s → CountsWrites writes writes' s → IsDamagedTold host.shelf
+      → (HasRisen writes writes' → ⊥) → (HasRisen host.volume_faults host'.volume_faults → ⊥) → (number_of s ≡ 6) ⊎ (number_of s ≡ 7)
+  damaged-serving status.Finished writes writes' r write damaged no_write no_volume = absurd (r.begun.undamaged damaged)
+  damaged-serving status.Usage writes writes' r write damaged no_write no_volume = absurd r
+  damaged-serving status.BadFrame writes writes' r write damaged no_write no_volume = absurd r
+  damaged-serving status.ReadFault writes writes' r write damaged no_write no_volume = absurd r
+  damaged-serving status.WriteFault writes writes' r write damaged no_write no_volume = absurd (no_write write.1)
+  damaged-serving status.NoVolume writes writes' r write damaged no_write no_volume = absurd (no_volume r.1)
+  damaged-serving status.Damaged writes writes' r write damaged no_write no_volume = inl refl
+  damaged-serving status.NoMemory writes writes' r write damaged no_write no_volume = inr refl
+  damaged-serving status.NoListener writes writes' r write damaged no_write no_volume = absurd (r.0.begun.undamaged damaged)
+
+  -- no read of the input is counted
+  pub reads-of-serving : (s : Status) (n : ℕ) → ServedPort found host host' port most t s → CountsReads n n s
+  reads-of-serving status.Finished n r = refl
+  reads-of-serving status.Usage n r = absurd r
+  reads-of-serving status.BadFrame n r = absurd r
+  reads-of-serving status.ReadFault n r = absurd r
+  reads-of-serving status.WriteFault n r = refl
+  reads-of-serving status.NoVolume n r = refl
+  reads-of-serving status.Damaged n r = refl
+  reads-of-serving status.NoMemory n r = refl
+  reads-of-serving status.NoListener n r = refl
+
+-- what `serve` did
+pub did-serve : (port : ℕ) (dir : List ℕ) (most : Option ℕ) (found : Option (List Entry)) (old new : Outside) (s : Status)
+    → ServedPort found old.host new.host port (limit_of most) (traffic old.input new.input old.output new.output) s → CountsWrites old.output.writes_failed new.output.writes_failed s
+    → Names old.host.folders new.host.folders (Some dir) (s ≡ status.NoMemory) → Did (command.Serve port dir most) found old new (number_of s)
+did-serve port dir most found old new s served writes named =
+    let t = traffic old.input new.input old.output new.output in
+    record {
+      ends = ends-serving found old.host new.host port (limit_of most) t s port dir most served;
+      ran = (s, refl, served);
+      folder = folder-of old.host.folders new.host.folders (Some dir) s named;
+      complete = λ h is well none. absurd well;
+      damaged = λ damaged none. damaged-serving found old.host new.host port (limit_of most) t s old.output.writes_failed new.output.writes_failed served writes damaged none.writes none.volume;
+    }
 
 -- ---- nothing was done
-
-put-nothing : (output : Option (List ℕ)) → PutTo output output []
-put-nothing None = tt
-put-nothing (Some bytes) = ap (λ (x : List ℕ). Some x) (sym (append-nil bytes))
 
 -- a volume that is as it was
 volume-as_it_was : (shelf : Option Disk) → Told shelf shelf IsUnopened
@@ -237,10 +299,12 @@ nothing-done host input output = record { unserved = record { unread = refl; put
 nothing-served : (asked : Command) (found : Option (List Entry)) (o : Outside) → Served asked found o o status.NoMemory
 nothing-served (command.Run dir) found o = inr (nothing-done o.host o.input.input o.output.output)
 nothing-served (command.Gen number lines) found o = (Some (generated number lines), inr (nothing-done o.host (Some (generated number lines)) o.output.output))
+nothing-served (command.Serve port dir most) found o = inr (inr (nothing-done o.host o.input.input o.output.output), refl)
 
 ends-without_memory : (asked : Command) → EndsWith asked 7
 ends-without_memory (command.Run dir) = inr (inr (inr (inr (inr (inr refl)))))
 ends-without_memory (command.Gen number lines) = inr (inr (inr (inr refl)))
+ends-without_memory (command.Serve port dir most) = inr (inr (inr (inr (inl refl))))
 
 -- no memory was found to read the words, and nothing was done
 pub did-nothing : (asked : Command) (found : Option (List Entry)) (o : Outside) → Did asked found o o 7
@@ -278,7 +342,7 @@ asks_none found words exact is asked a = let same : None ≡ Some asked = sym is
 
 -- ---- all that is said of the words
 
-number_among : (s : Status) → number_of s ≤ 7
+number_among : (s : Status) → number_of s ≤ 8
 number_among status.Finished = omega arith
 number_among status.Usage = omega arith
 number_among status.BadFrame = omega arith
@@ -287,6 +351,7 @@ number_among status.WriteFault = omega arith
 number_among status.NoVolume = omega arith
 number_among status.Damaged = omega arith
 number_among status.NoMemory = omega arith
+number_among status.NoListener = omega arith
 
 -- a status with the number of one without a store is one
 pub unserved-from : (s : Status) → IsUnserved (number_of s) → IsOfNoStore s
@@ -304,6 +369,8 @@ unserved-from status.NoVolume h = tt
 unserved-from status.Damaged h = tt
 unserved-from status.NoMemory (inl e) = absurd (omega (arith, e))
 unserved-from status.NoMemory (inr e) = absurd (omega (arith, e))
+unserved-from status.NoListener (inl e) = absurd (omega (arith, e))
+unserved-from status.NoListener (inr e) = absurd (omega (arith, e))
 
 -- no command ends with the number of other words
 not_usage : (asked : Command) (n : ℕ) → EndsWith asked n → n ≡ 1 → ⊥
@@ -319,6 +386,21 @@ not_usage (command.Gen number lines) n (inr (inl e)) u = omega (arith, e, u)
 not_usage (command.Gen number lines) n (inr (inr (inl e))) u = omega (arith, e, u)
 not_usage (command.Gen number lines) n (inr (inr (inr (inl e)))) u = omega (arith, e, u)
 not_usage (command.Gen number lines) n (inr (inr (inr (inr e)))) u = omega (arith, e, u)
+not_usage (command.Serve port dir most) n (inl e) u = omega (arith, e, u)
+not_usage (command.Serve port dir most) n (inr (inl e)) u = omega (arith, e, u)
+not_usage (command.Serve port dir most) n (inr (inr (inl e))) u = omega (arith, e, u)
+not_usage (command.Serve port dir most) n (inr (inr (inr (inl e)))) u = omega (arith, e, u)
+not_usage (command.Serve port dir most) n (inr (inr (inr (inr (inl e))))) u = omega (arith, e, u)
+not_usage (command.Serve port dir most) n (inr (inr (inr (inr (inr e))))) u = omega (arith, e, u)
+
+-- the number of a failed listener comes only where one failed
+listener-from : (asked : Command) (found : Option (List Entry)) (old new : Outside) (s : Status) → Served asked found old new s → s ≡ status.NoListener → HasRisen old.host.listener_faults new.host.listener_faults
+listener-from asked found old new s served is = by asked (subst (λ (u : Status). Served asked found old new u) is served)
+  where
+    by : (one : Command) → Served one found old new status.NoListener → HasRisen old.host.listener_faults new.host.listener_faults
+    by (command.Run dir) r = absurd r
+    by (command.Gen number lines) r = absurd r.1
+    by (command.Serve port dir most) r = r.1
 
 -- what is said of words that ask for one command, which was done
 pub answered-command : (asked : Command) (words : List (List ℕ)) (found : Option (List Entry)) (old new : Outside) (s : Status) → Asks asked words
@@ -338,7 +420,43 @@ answered-command asked words found old new s asks done alone reads writes unread
   reads_stay = λ e. reads-stay-from s old.input.reads_failed new.input.reads_failed e reads;
   write_cause = λ e. (write-cause-from s old.output.writes_failed new.output.writes_failed e writes).1;
   writes_stay = λ e u. writes-stay-from s old.output.writes_failed new.output.writes_failed e u writes;
+  listener_cause = λ e. let ran = done.ran in listener-from asked found old new ran.0 ran.2 (one_status ran.0 status.NoListener (sym ran.1 ∙ e));
 }
+
+-- what is said of words that ask for no command
+pub answered-other : (words : List (List ℕ)) (found : Option (List Entry)) (old new : Outside) (s : Status) → (IsCommand words → ⊥) → (s ≡ status.Usage) ⊎ (s ≡ status.NoMemory)
+    → (s ≡ status.Usage → (missing : List ℕ) × WroteUsage old.output.output new.output.output missing × ((missing ≡ []) ⊎ HasRisen old.output.writes_failed new.output.writes_failed))
+    → ((missing : List ℕ) × WroteUsage old.output.output new.output.output missing) → CountsWrites old.output.writes_failed new.output.writes_failed s → new.input ≡ old.input → new.host ≡ old.host → Answered words found old new (number_of s)
+answered-other words found old new s none (inl is) wrote front writes input host = subst (λ (u : Status). Answered words found old new (number_of u)) (sym is) (record {
+  statuses = omega arith;
+  words = λ e known. none known;
+  other_words = λ other. inl refl;
+  usage = λ e. wrote is;
+  other_output = λ other. front;
+  unread = λ other. input;
+  unused = λ other. host;
+  did = λ asked asks. absurd (none (asked, asks));
+  read_cause = λ e. absurd (omega (arith, e));
+  reads_stay = λ e. ap (λ (i : Stream). i.reads_failed) input;
+  write_cause = λ e. absurd (omega (arith, e));
+  writes_stay = λ e u. absurd (u refl);
+  listener_cause = λ e. absurd (omega (arith, e));
+})
+answered-other words found old new s none (inr is) wrote front writes input host = subst (λ (u : Status). Answered words found old new (number_of u)) (sym is) (record {
+  statuses = omega arith;
+  words = λ e known. none known;
+  other_words = λ other. inr refl;
+  usage = λ e. absurd (omega (arith, e));
+  other_output = λ other. front;
+  unread = λ other. input;
+  unused = λ other. host;
+  did = λ asked asks. absurd (none (asked, asks));
+  read_cause = λ e. absurd (omega (arith, e));
+  reads_stay = λ e. ap (λ (i : Stream). i.reads_failed) input;
+  write_cause = λ e. absurd (omega (arith, e));
+  writes_stay = λ e u. subst (λ (u : Status). CountsWrites old.output.writes_failed new.output.writes_failed u) is writes;
+  listener_cause = λ e. absurd (omega (arith, e));
+})
 
 -- what is said where no memory was found to read the words
 pub answered-nothing : (words : List (List ℕ)) (found : Option (List Entry)) (o : Outside) → Answered words found o o 7
@@ -355,6 +473,7 @@ answered-nothing words found o = record {
   reads_stay = λ e. refl;
   write_cause = λ e. absurd (omega (arith, e));
   writes_stay = λ e u. refl;
+  listener_cause = λ e. absurd (omega (arith, e));
 }
 
 -- a status and its number
@@ -371,3 +490,7 @@ either-unread a f (inr b) = f b
 -- the same folder, by its name
 pub named-as : {dir dir' : Option (List ℕ)} {P : Type 0} (old new : Option (List (List ℕ))) → dir ≡ dir' → Names old new dir P → Names old new dir' P
 named-as {dir} {dir'} {P} old new is named = subst (λ (d : Option (List ℕ)). Names old new d P) is named
+
+-- the lines that `gen` is asked for are few
+pub gen_few : (number lines : ℕ) (words : List (List ℕ)) → Asks (command.Gen number lines) words → lines ≤ MAX_GEN_LINES
+gen_few number lines words (pieces, spelled, (folder, connections, folders, counts, (none, alone, low, some, few, are))) = few

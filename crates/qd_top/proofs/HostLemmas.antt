@@ -1,5 +1,5 @@
 -- A command over the volume of its host, from what the store and the session over it say.
-use Rattle.std.proofs.Common.{◌≡◌, ℕ, ◌≤◌, inl, inr, true, false, List, [], ◌++◌, length, Option, Some, None, IfSome, is_some, Result, Ok, Err, refl, sym, ◌∙◌, ap, subst, arith}
+use Rattle.std.proofs.Common.{◌≡◌, ℕ, ◌≤◌, inl, inr, true, List, [], ◌++◌, length, Option, Some, None, IfSome, is_some, Result, Ok, Err, refl, sym, ◌∙◌, ap, subst, arith}
 use Rattle.std.specs.Result.{IfErr, IfOk}
 use Rattle.std.proofs.lemmas.List.{append-nil}
 use Rattle.qd_sequencer.specs.Histories.{IsPending}
@@ -35,6 +35,7 @@ use Rattle.qd_store.specs.declared.fault.OpenFault.{OpenFault}
 use Rattle.qd_store.specs.declared.fault.OpenFault.TheVariants as fault
 use Rattle.qd_store.specs.Faults.{CountsOpen}
 use Rattle.qd_store.specs.Laws.{StoresAreWhole}
+use Rattle.qd_store.specs.Opening.{HasFirstRow}
 use Rattle.qd_store.specs.Owned.{Store as Owned}
 use Rattle.qd_store.specs.Stores.{IsBook}
 use Rattle.qd_top.specs.declared.status.Status.{Status}
@@ -89,6 +90,7 @@ module _ (found : Option (List Entry)) (a b host' : Supply) (alike : Alike a b) 
   servable_alike owned s = record {
     usual = s.usual;
     alone = s.alone;
+    first = s.first;
     told = s.told;
     settled = s.settled;
     lent = record { clock_times = s.lent.clock_times ∙ alike.clock_times; clock_faults = s.lent.clock_faults ∙ alike.clock_faults; volume_faults = s.lent.volume_faults ∙ alike.volume_faults };
@@ -168,12 +170,13 @@ begun found given host storage owned lent may told book sound settled = record {
 
 -- so that a session over it may begin
 pub servable : (found : Option (List Entry)) (host : Supply) (storage : Storage) (owned : Owned) → host.lent_faults ≡ storage.faults → MayFind found storage.disk → Told storage.disk owned.storage.disk (Starts (Ok owned.store)) → IsBook owned.store → versions.IsStore owned.store.versions
-    → owned.store.sequence.pending ≡ None → AreUsual owned.store.limits → IsOnlyOne owned.store.versions.versions → owned.storage.faults ≡ storage.faults → IsServable found (with_volume storage host) host owned
-servable found host storage owned lent may told book sound settled usual alone counted =
+    → owned.store.sequence.pending ≡ None → AreUsual owned.store.limits → IsOnlyOne owned.store.versions.versions → HasFirstRow owned.store.versions.versions → owned.storage.faults ≡ storage.faults → IsServable found (with_volume storage host) host owned
+servable found host storage owned lent may told book sound settled usual alone first counted =
     let is_lent = lent-shelf host storage lent in
     record {
       usual = usual;
       alone = alone;
+      first = first;
       told = begins found (with_volume storage host) host storage owned is_lent may told;
       settled = settled;
       lent = record { clock_times = refl; clock_faults = refl; volume_faults = refl };
@@ -200,6 +203,7 @@ stored print found given host host' before t status.WriteFault lent b r = inl (r
 stored print found given host host' before t status.NoVolume lent b r = absurd r.2
 stored print found given host host' before t status.Damaged lent b r = absurd r.2
 stored print found given host host' before t status.NoMemory lent b r = inl (inl (record { before = before; after = r.0; begun = b; ended = ended_lent given host host' before r.0 lent r.1; ran = r.2 }))
+stored print found given host host' before t status.NoListener lent b r = absurd r.2
 
 -- the host took back the clock and then the volume of a session
 pub session-ended : (host one two three : Supply) (next : Option Times) (storage : Storage) (before after : Store) → one ≡ without_clock next host → two ≡ after_clock after.clock.faults one → three ≡ after_volume storage two
@@ -223,14 +227,14 @@ clock-is host c a f = ap (λ (o : Option Times). record { ahead = o; faults = c.
 
 -- ---- no memory was found for a session
 
-counts_none : (n : ℕ) → n ≡ counts_together n 0
+pub counts_none : (n : ℕ) → n ≡ counts_together n 0
 counts_none n = omega arith
 
 took-nothing : (input : Option (List ℕ)) → TakenFrom input input []
 took-nothing None = tt
 took-nothing (Some bytes) = (bytes, refl, refl)
 
-put-nothing : (output : Option (List ℕ)) → PutTo output output []
+pub put-nothing : (output : Option (List ℕ)) → PutTo output output []
 put-nothing None = tt
 put-nothing (Some bytes) = ap (λ (x : List ℕ). Some x) (sym (append-nil bytes))
 
@@ -303,31 +307,33 @@ pub folders_back : (host host' : Supply) (storage : Storage) → host' ≡ after
 folders_back host host' storage back = ap (λ (h : Supply). h.folders) back
 
 -- what is said of it is what a command did that served nothing
+module _ (host host' : Supply) (input output output' : Option (List ℕ)) where
+  pub unopened : Refuses IsUnopened host host' → PutTo output output' [] → Unopened host host' (record { input = input; left = input; output = output; written = output' })
+  unopened r put = record { unserved = record { unread = refl; put = put; clock_faults = r.clock_faults }; volume = r.volume }
+
+  pub damaged : (file at : ℕ) (bytes missing : List ℕ) → Refuses (IsDamagedAt file at) host host' → PutTo output output' bytes → reply_bytes (reply.Damaged file at) ≡ bytes ++ missing → FoundDamage host host' (record { input = input; left = input; output = output; written = output' }) missing
+  damaged file at bytes missing r put place = record { file = file; at = at; bytes = bytes; unserved = record { unread = refl; put = put; clock_faults = r.clock_faults }; volume = r.volume; place = place }
+
 module _ (print : Reply → List ℕ) (found : Option (List Entry)) (host host' : Supply) (input output output' : Option (List ℕ)) where
   abbrev t : Traffic
   t = record { input = input; left = input; output = output; written = output' }
-
-  unopened : Refuses IsUnopened host host' → PutTo output output' [] → Unopened host host' t
-  unopened r put = record { unserved = record { unread = refl; put = put; clock_faults = r.clock_faults }; volume = r.volume }
-
-  damaged : (file at : ℕ) (bytes missing : List ℕ) → Refuses (IsDamagedAt file at) host host' → PutTo output output' bytes → reply_bytes (reply.Damaged file at) ≡ bytes ++ missing → FoundDamage host host' t missing
-  damaged file at bytes missing r put place = record { file = file; at = at; bytes = bytes; unserved = record { unread = refl; put = put; clock_faults = r.clock_faults }; volume = r.volume; place = place }
 
   said-damage : (file at : ℕ) (s : Status) → SaysDamage file at output output' s → Refuses (IsDamagedAt file at) host host' → Ran print found host host' t s
   said-damage file at status.Finished said r = absurd said
   said-damage file at status.Usage said r = absurd said
   said-damage file at status.BadFrame said r = absurd said
   said-damage file at status.ReadFault said r = absurd said
-  said-damage file at status.WriteFault (bytes, missing, put, place) r = inr (missing, damaged file at bytes missing r put place)
+  said-damage file at status.WriteFault (bytes, missing, put, place) r = inr (missing, damaged host host' input output output' file at bytes missing r put place)
   said-damage file at status.NoVolume said r = absurd said
-  said-damage file at status.Damaged said r = damaged file at (reply_bytes (reply.Damaged file at)) [] r said (sym (append-nil (reply_bytes (reply.Damaged file at))))
-  said-damage file at status.NoMemory (bytes, missing, put, place) r = inl (inr (missing, damaged file at bytes missing r put place))
+  said-damage file at status.Damaged said r = damaged host host' input output output' file at (reply_bytes (reply.Damaged file at)) [] r said (sym (append-nil (reply_bytes (reply.Damaged file at))))
+  said-damage file at status.NoMemory (bytes, missing, put, place) r = inl (inr (missing, damaged host host' input output output' file at bytes missing r put place))
+  said-damage file at status.NoListener said r = absurd said
 
   pub refused : (why : OpenFault) (s : Status) → HasNoStore why host host' → SaysFault why output output' s → Ran print found host host' t s
   refused fault.NotMade s none said = absurd none
-  refused fault.Vol s none (is, put) = subst (λ (u : Status). Ran print found host host' t u) (sym is) (unopened none.0 put, none.1)
+  refused fault.Vol s none (is, put) = subst (λ (u : Status). Ran print found host host' t u) (sym is) (unopened host host' input output output' none.0 put, none.1)
   refused (fault.Damaged file at) s none said = said-damage file at s said none
-  refused fault.Memory s none (is, put) = subst (λ (u : Status). Ran print found host host' t u) (sym is) (inr (unopened none put))
+  refused fault.Memory s none (is, put) = subst (λ (u : Status). Ran print found host host' t u) (sym is) (inr (unopened host host' input output output' none put))
 
 -- no read is counted where nothing was read
 pub reads-of-none : (why : OpenFault) (output output' : Option (List ℕ)) (n : ℕ) (s : Status) → SaysFault why output output' s → CountsReads n n s
@@ -342,6 +348,7 @@ reads-of-none why output output' n status.WriteFault said = refl
 reads-of-none why output output' n status.NoVolume said = refl
 reads-of-none why output output' n status.Damaged said = refl
 reads-of-none why output output' n status.NoMemory said = refl
+reads-of-none why output output' n status.NoListener said = refl
 
 -- want of memory is said as that
 pub says-memory : (why : OpenFault) (output output' : Option (List ℕ)) (s : Status) → why ≡ fault.Memory → SaysFault why output output' s → s ≡ status.NoMemory
@@ -365,19 +372,19 @@ session-stays ended.ReadFault h = h
 session-stays ended.WriteFault h = h
 session-stays ended.Memory h = h
 
--- ---- the folder that was asked for
+-- ---- what was asked for
 
-pub asks-ok : {T : Type 0} (old new : Option (List (List ℕ))) (dir : Option (List ℕ)) (v : T) → hosts.Names old new dir (Ok v) → AsksFor old new dir
-asks-ok None new dir v h = h
-asks-ok (Some folders) new dir v h = h
+pub asks-ok : {A T : Type 0} (old new : Option (List A)) (name : Option A) (v : T) → hosts.Names old new name (Ok v) → AsksFor old new name
+asks-ok None new name v h = h
+asks-ok (Some names) new name v h = h
 
-pub asks-failed : (T : Type 0) (old new : Option (List (List ℕ))) (dir : Option (List ℕ)) → hosts.Names {T = T} old new dir (Err io.Failed) → AsksFor old new dir
-asks-failed T None new dir h = h
-asks-failed T (Some folders) new dir h = h
+pub asks-failed : {A : Type 0} (T : Type 0) (old new : Option (List A)) (name : Option A) → hosts.Names {T = T} old new name (Err io.Failed) → AsksFor old new name
+asks-failed T None new name h = h
+asks-failed T (Some names) new name h = h
 
-pub asks-memory : (T : Type 0) (old new : Option (List (List ℕ))) (dir : Option (List ℕ)) → hosts.Names {T = T} old new dir (Err io.Memory) → new ≡ old
-asks-memory T None new dir h = h
-asks-memory T (Some folders) new dir h = h
+pub asks-memory : {A : Type 0} (T : Type 0) (old new : Option (List A)) (name : Option A) → hosts.Names {T = T} old new name (Err io.Memory) → new ≡ old
+asks-memory T None new name h = h
+asks-memory T (Some names) new name h = h
 
 -- a host that shows the same folders was asked for the same
 pub names-later : (old mid new : Option (List (List ℕ))) (dir : Option (List ℕ)) (P Q : Type 0) → (P → Q) → new ≡ mid → Names old mid dir P → Names old new dir Q

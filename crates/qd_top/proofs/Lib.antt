@@ -1,3 +1,4 @@
 mod RunLemmas
 mod CommandLemmas
 pub mod HostLemmas
+mod PortLemmas

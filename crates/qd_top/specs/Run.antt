@@ -1,13 +1,16 @@
 -- What a run of the program took and wrote, by its status.
-use Rattle.std.specs.Prelude.{◌≡◌, ℕ, ◌+◌, ◌-◌, ◌≤◌, ◌⊎◌, List, [], ◌∷◌, ◌++◌, codes, length, take, drop, Option, Some, None, IfSome, Result, Ok, Err}
+use Rattle.std.specs.Prelude.{◌≡◌, ℕ, ◌+◌, ◌-◌, ◌≤◌, ◌⊎◌, ◌≢◌, List, [], ◌∷◌, ◌++◌, codes, length, map, take, drop, All, Option, Some, None, IfSome, Result, Ok, Err}
 use Rattle.std.specs.List.{flat_map, range_with_len}
-use Rattle.qd_store_backend.specs.Volumes.{HoldsTold, IsDamagedAt, IsUnopened, KeepsTold, MayFind}
+use Rattle.std.specs.List.Sorted.{IsPermutation}
+use Rattle.qd_store_backend.specs.Volumes.{HoldsTold, IsDamagedAt, IsUnopened, KeepsTold}
 use Rattle.qd_base.specs.declared.limits.TheConstants.{LAST_OFFSET}
 use Rattle.qd_base.specs.declared.op.Entry.{Entry}
 use Rattle.qd_base.specs.declared.request.Request.{Request}
 use Rattle.qd_base.specs.declared.request.Reply.{Reply}
 use Rattle.qd_base.specs.declared.request.Reply.TheVariants as reply
 use Rattle.qd_base.specs.Script.{Ending}
+use Rattle.qd_connections.specs.Accounts.{CameBack}
+use Rattle.qd_connections.specs.Connections.{Connection, IsFated, IsTaken, numbers_of, refusals_in}
 use Rattle.qd_durable.specs.Moments.{Told}
 use Rattle.qd_host.specs.Hosts.{Supply, and_named, risen}
 use Rattle.qd_io.specs.Clocks.{Timeline}
@@ -15,6 +18,7 @@ use Rattle.qd_io.specs.Ends.{HasRisen, Stream, counts_together}
 use Rattle.qd_frames.specs.Frames.{Steps}
 use Rattle.qd_gen.specs.Generated.{input as generated}
 use Rattle.qd_print.specs.Printed.{reply_bytes}
+use Rattle.qd_score_model.specs.Kept.{RisesWithin}
 use Rattle.qd_gen.specs.Quieted.{without_done}
 use Rattle.qd_session.specs.Alone.{AllowedAlone, LeavesOpen, SaysOwn}
 use Rattle.qd_session.specs.Legal.{Legal, done_numbers}
@@ -33,11 +37,6 @@ use Rattle.qd_args.specs.Words.{Asks, IsCommand}
 -- the line that other words are answered with
 abbrev pub usage : List ℕ
 usage = codes "usage: tsdb run [--dir D] | gen NUMBER LINES | serve PORT --dir D [--connections N]" ++ 10 ∷ []
-
--- how a command prints replies: `gen` prints none of those that acknowledge a write
-abbrev pub prints : Command → Reply → List ℕ
-prints (command.Run dir) = reply_bytes
-prints (command.Gen number lines) = without_done reply_bytes
 
 -- replies, printed one behind the other
 abbrev pub printed : (Reply → List ℕ) → List Reply → List ℕ
@@ -280,6 +279,7 @@ Ran print found host host' t status.WriteFault = CutShort print found host host'
 Ran print found host host' t status.NoVolume = NoVolume print found host host' t
 Ran print found host host' t status.Damaged = Damaged print found host host' t
 Ran print found host host' t status.NoMemory = OutOfMemory print found host host' t
+Ran print found host host' t status.NoListener = ⊥
 
 -- the usage line was written, or a prefix of it
 abbrev pub WroteUsage : (output output' : Option (List ℕ)) (missing : List ℕ) → Type 0
@@ -306,6 +306,72 @@ CountsWrites before now status.WriteFault = (before ≤ now) × HasRisen before 
 CountsWrites before now status.Usage = before ≤ now
 CountsWrites before now s = now ≡ before
 
+-- what a host was asked for, folders of volumes or ports of listeners, grew by this one, or by none where none is named
+abbrev pub AsksFor : {A : Type 0} → (old new : Option (List A)) → Option A → Type 0
+AsksFor None new name = new ≡ None
+AsksFor (Some names) new name = new ≡ Some (and_named names name)
+
+-- ---- connections served over a store
+
+-- these wires are the first ones of a listener, where those are told
+abbrev pub AreFirst : List Stream → Option (List Stream) → Type 0
+AreFirst taken None = Unit {0}
+AreFirst taken (Some wires) = (rest : List Stream) × (wires ≡ taken ++ rest)
+
+-- A volume keeps this history, and behind it at most one transaction, of a write that failed.
+abbrev pub KeepsSome : Option Disk → List Entry → Type 0
+KeepsSome shelf h = (left : Option Entry) × (n : ℕ) × KeepsTold shelf h left n
+
+-- Connections of a listener, from the first one on, and at most so many where that isn't 0, were served over the store of the host's
+-- volume, which the host has taken back.
+pub record ServedAll (found : Option (List Entry)) (host host' : Supply) (most : ℕ) (s : Status) : Type 0 where
+  -- the transactions in the end: those that were found are a front of them
+  pub history : Option (List Entry)
+  pub grows : Extends found history
+  -- a crash leaves them whole
+  pub kept : IfSome history (KeepsSome host'.shelf)
+  -- the wires that were taken, which are the first ones, and what became of each: it is given back, once
+  pub taken : List Stream
+  pub over : List Connection
+  pub first : AreFirst taken host.wires
+  pub within : most ≢ 0 → length taken ≤ most
+  pub once : IsPermutation taken (map (λ c. c.before) over)
+  pub back : CameBack host.returned host'.returned (map (λ c. c.after) over)
+  pub each : All (IsFated history) over
+  -- no number was acknowledged twice: put in order they rise, up to no more than there are transactions
+  pub numbers : List ℕ
+  pub own : IsPermutation (flat_map numbers_of over) numbers
+  pub count : ℕ
+  pub apart : RisesWithin 0 count numbers
+  pub counted_in : IfSome history (λ h. count ≤ length h)
+  -- as many connections were turned away as starts of threads were refused
+  pub turned : host'.starts_failed ≡ counts_together host.starts_failed (refusals_in over)
+  -- none was given back as it came, but where no memory was found
+  pub fed : (s ≡ status.NoMemory → ⊥) → All (λ c. IsTaken c.fate) over
+
+-- Connections were served, over a store that was opened, or made where there was none. The listener is that of the port that was named;
+-- where no memory was found, none may have been asked for. The program's own input and output were left alone.
+pub record OverPort (found : Option (List Entry)) (host host' : Supply) (port most : ℕ) (t : Traffic) (s : Status) : Type 0 where
+  pub before : Store
+  pub begun : IsBegun found host before
+  pub all : ServedAll found host host' most s
+  pub listens : AsksFor host.ports host'.ports (Some port) ⊎ ((s ≡ status.NoMemory) × (host'.ports ≡ host.ports))
+  pub unread : t.left ≡ t.input
+  pub put : PutTo t.output t.written []
+
+-- What serving a port did, where it ended with a status. Where no store was opened, no listener was asked for.
+abbrev pub ServedPort : (found : Option (List Entry)) → (host host' : Supply) → (port most : ℕ) → Traffic → Status → Type 0
+ServedPort found host host' port most t status.Finished = OverPort found host host' port most t status.Finished
+ServedPort found host host' port most t status.Usage = ⊥
+ServedPort found host host' port most t status.BadFrame = ⊥
+ServedPort found host host' port most t status.ReadFault = ⊥
+ServedPort found host host' port most t status.WriteFault = (missing : List ℕ) × FoundDamage host host' t missing × (host'.ports ≡ host.ports)
+ServedPort found host host' port most t status.NoVolume = Unopened host host' t × HasRisen host.volume_faults host'.volume_faults × (host'.ports ≡ host.ports)
+ServedPort found host host' port most t status.Damaged = FoundDamage host host' t [] × (host'.ports ≡ host.ports)
+ServedPort found host host' port most t status.NoMemory =
+    OverPort found host host' port most t status.NoMemory ⊎ ((((missing : List ℕ) × FoundDamage host host' t missing) ⊎ Unopened host host' t) × (host'.ports ≡ host.ports))
+ServedPort found host host' port most t status.NoListener = OverPort found host host' port most t status.NoListener × HasRisen host.listener_faults host'.listener_faults
+
 -- ---- a command
 
 -- what a program shows at a moment of what it was given: its input, its output and its host
@@ -317,35 +383,37 @@ pub record Outside : Type 0 where
 abbrev pub outside : Stream → Stream → Supply → Outside
 outside input output host = record { input = input; output = output; host = host }
 
--- what a command serves, and what it leaves of it: the input that is given; or the generated one, of which something is left
-abbrev pub ServedBy : Command → Traffic → (Traffic → Type 0) → Type 0
-ServedBy (command.Run dir) t R = R t
-ServedBy (command.Gen number lines) t R = (left : Option (List ℕ)) × R (record t { input = Some (generated number lines); left = left })
+-- how many connections are served at most, where 0 is no end
+abbrev pub limit_of : Option ℕ → ℕ
+limit_of None = 0
+limit_of (Some most) = most
 
--- A command served what it is to serve, and did what the table `Ran` has of a status.
+-- What a command did, by the tables `Ran` and `ServedPort`: `run` serves the input; `gen` the one that it makes, of which something is
+-- left, and prints no replies that acknowledge a write; `serve` serves connections.
 abbrev pub Served : Command → (found : Option (List Entry)) → (old new : Outside) → Status → Type 0
-Served asked found old new s = ServedBy asked (traffic old.input new.input old.output new.output) (λ t. Ran (prints asked) found old.host new.host t s)
+Served (command.Run dir) found old new s = Ran reply_bytes found old.host new.host (traffic old.input new.input old.output new.output) s
+Served (command.Gen number lines) found old new s =
+    (left : Option (List ℕ)) × Ran (without_done reply_bytes) found old.host new.host (record { input = Some (generated number lines); left = left; output = old.output.output; written = new.output.output }) s
+Served (command.Serve port dir most) found old new s = ServedPort found old.host new.host port (limit_of most) (traffic old.input new.input old.output new.output) s
 
 -- the folder whose store a command serves, where it names one
 abbrev pub folder_of : Command → Option (List ℕ)
 folder_of (command.Run dir) = dir
 folder_of (command.Gen number lines) = None
-
--- The folders of which a host was asked for the volume grew by this one, or by none where none is named.
-abbrev pub AsksFor : (old new : Option (List (List ℕ))) → Option (List ℕ) → Type 0
-AsksFor None new dir = new ≡ None
-AsksFor (Some folders) new dir = new ≡ Some (and_named folders dir)
+folder_of (command.Serve port dir most) = Some dir
 
 -- the numbers that a command may end with: over the generated input, which is whole frames in memory, no frame is bad and
 -- no read fails
 abbrev pub EndsWith : Command → ℕ → Type 0
 EndsWith (command.Run dir) number = (number ≡ 0) ⊎ (number ≡ 2) ⊎ (number ≡ 3) ⊎ (number ≡ 4) ⊎ (number ≡ 5) ⊎ (number ≡ 6) ⊎ (number ≡ 7)
 EndsWith (command.Gen number_given lines) number = (number ≡ 0) ⊎ (number ≡ 4) ⊎ (number ≡ 5) ⊎ (number ≡ 6) ⊎ (number ≡ 7)
+EndsWith (command.Serve port dir most) number = (number ≡ 0) ⊎ (number ≡ 4) ⊎ (number ≡ 5) ⊎ (number ≡ 6) ⊎ (number ≡ 7) ⊎ (number ≡ 8)
 
--- what `run` serves is whole frames, where that is told; what `gen` serves always is
+-- what `run` serves is whole frames, where that is told; what `gen` serves always is; of what `serve` serves nothing is said
 abbrev pub IsServedWell : Command → Option (List ℕ) → Type 0
 IsServedWell (command.Run dir) input = IsWellFramed input
 IsServedWell (command.Gen number lines) input = Unit {0}
+IsServedWell (command.Serve port dir most) input = ⊥
 
 -- no count of failures has risen: of reads, of writes, and of the volume
 pub record NoneFailed (old new : Outside) : Type 0 where
@@ -379,7 +447,7 @@ IsUnserved number = (number ≡ 5) ⊎ (number ≡ 6)
 
 -- What the top call says of these words, and of a status.
 pub record Answered (given : List (List ℕ)) (found : Option (List Entry)) (old new : Outside) (number : ℕ) : Type 0 where
-  pub statuses : number ≤ 7
+  pub statuses : number ≤ 8
   -- only words that ask for no command are answered with the usage line, and with nothing else
   pub words : number ≡ 1 → IsCommand given → ⊥
   pub other_words : (IsCommand given → ⊥) → (number ≡ 1) ⊎ (number ≡ 7)
@@ -389,8 +457,9 @@ pub record Answered (given : List (List ℕ)) (found : Option (List Entry)) (old
   pub unused : (IsCommand given → ⊥) → new.host ≡ old.host
   -- what the command that the words ask for took and wrote
   pub did : (asked : Command) → Asks asked given → Did asked found old new number
-  -- causes: a count rises exactly where its fault is the status, the usage line apart
+  -- causes: a count of reads or of writes rises exactly where its fault is the status, the usage line apart; that of listeners rises there
   pub read_cause : number ≡ 3 → HasRisen old.input.reads_failed new.input.reads_failed
   pub reads_stay : (number ≡ 3 → ⊥) → new.input.reads_failed ≡ old.input.reads_failed
   pub write_cause : number ≡ 4 → HasRisen old.output.writes_failed new.output.writes_failed
   pub writes_stay : (number ≡ 4 → ⊥) → (number ≡ 1 → ⊥) → new.output.writes_failed ≡ old.output.writes_failed
+  pub listener_cause : number ≡ 8 → HasRisen old.host.listener_faults new.host.listener_faults

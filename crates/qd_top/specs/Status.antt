@@ -14,6 +14,7 @@ number_of status.WriteFault = 4
 number_of status.NoVolume = 5
 number_of status.Damaged = 6
 number_of status.NoMemory = 7
+number_of status.NoListener = 8
 
 -- the status of a session that ended so
 abbrev pub status_of : Ended → Status

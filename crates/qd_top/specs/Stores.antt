@@ -14,6 +14,7 @@ use Rattle.qd_print.specs.Printed.{reply_bytes}
 use Rattle.qd_session.specs.Session.{PutTo}
 use Rattle.qd_store.specs.declared.fault.OpenFault.{OpenFault}
 use Rattle.qd_store.specs.declared.fault.OpenFault.TheVariants as fault
+use Rattle.qd_store.specs.Opening.{HasFirstRow}
 use Rattle.qd_store.specs.Owned.{Store as Owned}
 use Rattle.qd_top.specs.declared.status.Status.{Status}
 use Rattle.qd_top.specs.declared.status.Status.TheVariants as status
@@ -53,6 +54,7 @@ pub record HasLent (host host' : Supply) : Type 0 where
 pub record IsServable (found : Option (List Entry)) (host host' : Supply) (owned : Owned) : Type 0 where
   pub usual : AreUsual owned.store.limits
   pub alone : IsOnlyOne owned.store.versions.versions
+  pub first : HasFirstRow owned.store.versions.versions
   pub told : BeginsWith found owned
   pub settled : owned.store.sequence.pending ≡ None
   pub lent : HasLent host host'

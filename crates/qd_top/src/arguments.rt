@@ -13,21 +13,21 @@ use qd_host::Host;
 use qd_io::{Sink, Source};
 use std::alloc::Global;
 use std::env::Args;
-use std::io;
+use std::sync::Wait;
+use std::time::Clock;
+use std::{io, thread};
 
 /// Runs the program on its arguments, the first of which is its own name, and gives the number that the process ends
 /// with.
 ///
 /// The words behind the name go to `top`, byte for byte. Where the machine gives no arguments, since one of them isn't
 /// UTF-8, there is no word; where it finds no memory for them the status is 7, and nothing is read or written.
-pub fn run_program<R, S: Source, K: Sink, H: Host>(
-    rt: &R,
-    alloc: Global,
-    args: io::Result<Args>,
-    input: &mut S,
-    output: &mut K,
-    host: &mut H,
-) -> u8
+pub fn run_program<
+    R: thread::Threads + Wait + Clock + Copy + Send + Drop + 'static,
+    S: Source,
+    K: Sink,
+    H: Host,
+>(rt: &R, alloc: Global, args: io::Result<Args>, input: &mut S, output: &mut K, host: &mut H) -> u8
     ghost found: { Option (List Entry) }
     requires found { MayFind found (H.supply host.old).shelf }
 

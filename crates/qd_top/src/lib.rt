@@ -5,6 +5,7 @@
 
 mod arguments;
 mod opening;
+mod ports;
 mod program;
 mod serving;
 mod status;

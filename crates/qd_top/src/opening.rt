@@ -1,7 +1,6 @@
 //! The store of the host's volume is opened, or it is said why there is none.
-ghost use Rattle.std.specs.Prelude.{◌≡◌, ◌≢◌, [], Err, List, None, Option, Some, option_map, IfErr, IfOk};
-ghost use Rattle.qd_base.specs.declared.op.Entry.{Entry};
-ghost use Rattle.qd_host.specs.Hosts.{after_volume};
+ghost use Rattle.std.specs.Prelude.{◌≡◌, ◌≢◌, Err, Option, option_map, IfErr, IfOk};
+ghost use Rattle.qd_host.specs.Hosts.{ConnectionsStay, after_volume};
 ghost use Rattle.qd_store.specs.declared.fault.OpenFault.TheVariants as fault;
 ghost use Rattle.qd_store_backend.specs.Volumes.{MayFind};
 ghost use Rattle.qd_top.specs.Run.{CountsWrites};
@@ -9,6 +8,7 @@ ghost use Rattle.qd_top.specs.Stores.{HasNoStore, IsServable, Names, SaysDamage,
 
 use crate::status::Status;
 use qd_base::Reply;
+use qd_ghost::Telling;
 use qd_host::{Host, faults_come_back};
 use qd_io::{IoFault, Sink, write_all};
 use qd_print::print_reply;
@@ -20,17 +20,18 @@ use std::alloc::Global;
 /// `Err` the host has its volume back.
 pub(crate) fn open_host<H: Host>(
     alloc: Global,
+    told: &Telling,
     dir: Option<&[u8]>,
     host: &mut H,
 ) -> Result<Store<H::Vol>, OpenFault>
-    ghost found: { Option (List Entry) }
-    requires found { MayFind found (H.supply host.old).shelf }
-    ensures opened { IfOk result (λ store. IsServable found (H.supply host.old) (H.supply host.new) store) }
+    requires found { MayFind told.now.history (H.supply host.old).shelf }
+    ensures opened { IfOk result (λ store. IsServable told.now.history (H.supply host.old) (H.supply host.new) store) }
     ensures unopened { IfErr result (λ why. HasNoStore why (H.supply host.old) (H.supply host.new)) }
     ensures named { Names (H.supply host.old).folders (H.supply host.new).folders (option_map (λ d. d.now) dir.entry) (result ≡ Err fault.Memory) }
+    ensures connections { ConnectionsStay (H.supply host.old) (H.supply host.new) }
 {
     match host.volume(alloc, dir) {
-        Ok(volume) => open_volume(alloc, volume, host),
+        Ok(volume) => open_volume(alloc, told, volume, host),
         Err(IoFault::Failed) => Err(OpenFault::Vol),
         Err(IoFault::Memory) => Err(OpenFault::Memory),
     }
@@ -39,15 +40,16 @@ pub(crate) fn open_host<H: Host>(
 /// Opens or makes the store of a volume that the host has lent.
 fn open_volume<H: Host>(
     alloc: Global,
+    told: &Telling,
     volume: H::Vol,
     host: &mut H,
 ) -> Result<Store<H::Vol>, OpenFault>
-    ghost found: { Option (List Entry) }
-    requires found { MayFind found (H.Vol.storage volume).disk }
+    requires found { MayFind told.now.history (H.Vol.storage volume).disk }
     requires lent { (H.supply host.old).lent_faults ≡ (H.Vol.storage volume).faults }
-    ensures opened { IfOk result (λ store. IsServable found (with_volume (H.Vol.storage volume) (H.supply host.old)) (H.supply host.new) store) }
+    ensures opened { IfOk result (λ store. IsServable told.now.history (with_volume (H.Vol.storage volume) (H.supply host.old)) (H.supply host.new) store) }
     ensures unopened { IfErr result (λ why. HasNoStore why (with_volume (H.Vol.storage volume) (H.supply host.old)) (H.supply host.new)) }
     ensures folders { (H.supply host.new).folders ≡ (H.supply host.old).folders }
+    ensures connections { ConnectionsStay (H.supply host.old) (H.supply host.new) }
 {
     match open_or_create(alloc, volume) {
         Ok(store) => {

@@ -1,9 +1,8 @@
 //! An input is served over the store of the host's volume.
-ghost use Rattle.std.specs.Prelude.{◌≡◌, ℕ, List, None, Option, Some, option_map};
+ghost use Rattle.std.specs.Prelude.{◌≡◌, ℕ, List, None, Option, option_map};
 ghost use Rattle.qd_store_backend.specs.Backs.{AreUsual, BeginsWith};
 ghost use Rattle.qd_store_backend.specs.Rounds.{IsOnlyOne};
 ghost use Rattle.qd_store_backend.specs.Volumes.{MayFind};
-ghost use Rattle.qd_base.specs.declared.op.Entry.{Entry};
 ghost use Rattle.qd_base.specs.declared.request.Reply.{Reply};
 ghost use Rattle.qd_top.specs.Frames.{SpellsFrames};
 ghost use Rattle.qd_top.specs.Run.{CountsReads, CountsWrites, Ran, fresh, traffic};
@@ -12,6 +11,7 @@ ghost use Rattle.qd_top.specs.Stores.{IsOfNoStore, Names, RanFrom, begun_of, sto
 use crate::opening::{open_host, refuse_store};
 use crate::status::Status;
 use qd_base::Front;
+use qd_ghost::Telling;
 use qd_host::Host;
 use qd_io::{Both, Sink, Source};
 use qd_session::serve;
@@ -23,72 +23,49 @@ use std::alloc::Global;
 /// there is no such store, nothing is read.
 pub(crate) fn serve_ends<F: Front, S: Source, K: Sink, H: Host>(
     alloc: Global,
+    told: &Telling,
     dir: Option<&[u8]>,
     front: &mut F,
     input: &mut S,
     output: &mut K,
     host: &mut H,
 ) -> Status
-    ghost found: { Option (List Entry) }
-    requires found { MayFind found (H.supply host.old).shelf }
+    requires found { MayFind told.now.history (H.supply host.old).shelf }
     ensures ran { (print : Reply → List ℕ) → SpellsFrames print (F.protocol front.old)
-        → Ran print found (H.supply host.old) (H.supply host.new) (traffic (S.stream input.old) (S.stream input.new) (K.stream output.old) (K.stream output.new)) result }
+        → Ran print told.now.history (H.supply host.old) (H.supply host.new) (traffic (S.stream input.old) (S.stream input.new) (K.stream output.old) (K.stream output.new)) result }
     ensures unread { IsOfNoStore result → input.new ≡ input.old }
     ensures named { Names (H.supply host.old).folders (H.supply host.new).folders (option_map (λ d. d.now) dir.entry) (result ≡ Status.NoMemory) }
     ensures reads { CountsReads (S.stream input.old).reads_failed (S.stream input.new).reads_failed result }
     ensures writes { CountsWrites (K.stream output.old).writes_failed (K.stream output.new).writes_failed result }
 {
-    match open_host(alloc, dir, host) {
-        Ok(store) => serve_opened(alloc, store, front, input, output, host),
+    match open_host(alloc, told, dir, host) {
+        Ok(store) => {
+            let mut wire = Both {
+                source: input,
+                sink: output,
+            };
+            serve_store(alloc, told, store, front, &mut wire, host)
+        }
         Err(why) => refuse_store(alloc, why, output),
     }
-}
-
-/// Serves an input over a store whose volume the host has lent, and gives the volume back.
-fn serve_opened<F: Front, S: Source, K: Sink, H: Host>(
-    alloc: Global,
-    store: Store<H::Vol>,
-    front: &mut F,
-    input: &mut S,
-    output: &mut K,
-    host: &mut H,
-) -> Status
-    ghost found: { Option (List Entry) }
-    requires usual { AreUsual store.store.limits }
-    requires alone { IsOnlyOne store.store.versions.versions }
-    requires told { BeginsWith found store }
-    requires settled { store.store.sequence.pending ≡ None }
-    requires lent { (H.supply host.old).lent_faults ≡ store.storage.faults }
-    ensures ran { (print : Reply → List ℕ) → SpellsFrames print (F.protocol front.old)
-        → RanFrom print (begun_of store found (fresh (H.supply host.old))) (H.supply host.old) (H.supply host.new) (traffic (S.stream input.old) (S.stream input.new) (K.stream output.old) (K.stream output.new)) result }
-    ensures served { IsOfNoStore result → ⊥ }
-    ensures folders { (H.supply host.new).folders ≡ (H.supply host.old).folders }
-    ensures reads { CountsReads (S.stream input.old).reads_failed (S.stream input.new).reads_failed result }
-    ensures writes { CountsWrites (K.stream output.old).writes_failed (K.stream output.new).writes_failed result }
-{
-    let mut wire = Both {
-        source: input,
-        sink: output,
-    };
-    serve_store(alloc, store, front, &mut wire, host)
 }
 
 /// Serves a wire over a store whose volume the host has lent, and gives the volume back.
 fn serve_store<F: Front, W: Source + Sink, H: Host>(
     alloc: Global,
+    told: &Telling,
     store: Store<H::Vol>,
     front: &mut F,
     wire: &mut W,
     host: &mut H,
 ) -> Status
-    ghost found: { Option (List Entry) }
     requires usual { AreUsual store.store.limits }
     requires alone { IsOnlyOne store.store.versions.versions }
-    requires told { BeginsWith found store }
+    requires told { BeginsWith told.now.history store }
     requires settled { store.store.sequence.pending ≡ None }
     requires lent { (H.supply host.old).lent_faults ≡ store.storage.faults }
     ensures ran { (print : Reply → List ℕ) → SpellsFrames print (F.protocol front.old)
-        → RanFrom print (begun_of store found (fresh (H.supply host.old))) (H.supply host.old) (H.supply host.new) (traffic (W.Source.stream wire.old) (W.Source.stream wire.new) (W.Source.stream wire.old) (W.Source.stream wire.new)) result }
+        → RanFrom print (begun_of store told.now.history (fresh (H.supply host.old))) (H.supply host.old) (H.supply host.new) (traffic (W.Source.stream wire.old) (W.Source.stream wire.new) (W.Source.stream wire.old) (W.Source.stream wire.new)) result }
     ensures served { IsOfNoStore result → ⊥ }
     ensures folders { (H.supply host.new).folders ≡ (H.supply host.old).folders }
     ensures reads { CountsReads (W.Source.stream wire.old).reads_failed (W.Source.stream wire.new).reads_failed result }
@@ -96,7 +73,7 @@ fn serve_store<F: Front, W: Source + Sink, H: Host>(
     ensures input_lent { (W.Source.stream wire.new).input_lent ≡ (W.Source.stream wire.old).input_lent }
     ensures output_lent { (W.Source.stream wire.new).output_lent ≡ (W.Source.stream wire.old).output_lent }
 {
-    match StoreBack::over(alloc, store) {
+    match StoreBack::over(alloc, store, told) {
         Ok(back) => serve_back(alloc, back, front, wire, host),
         Err(store) => {
             stores_are_whole();

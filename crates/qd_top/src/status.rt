@@ -23,6 +23,8 @@ pub enum Status {
     Damaged,
     /// No memory was found outside a request.
     NoMemory,
+    /// The host gave no listener, or the listener failed.
+    NoListener,
 }
 
 impl Status {
@@ -39,6 +41,7 @@ impl Status {
             Status::NoVolume => 5,
             Status::Damaged => 6,
             Status::NoMemory => 7,
+            Status::NoListener => 8,
         }
     }
 

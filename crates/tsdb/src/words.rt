@@ -24,6 +24,7 @@ pub fn say<I, O>(
         4 => say_output(rt, stdout.error()),
         5 => say_folder(rt, name_of(host), host.trouble()),
         6 => say_damage(rt, name_of(host)),
+        8 => say_port(rt, host.trouble()),
         _ => eprintln!(rt;
             "tsdb: there is not enough memory: what was acknowledged is kept; run it again with more"
         ),
@@ -76,8 +77,20 @@ fn say_folder(rt: &HostRuntime, folder: &str, trouble: Option<&Trouble>) -> IoRe
                 "tsdb: in folder {folder:?} {failure}: see that its disk is whole and has room, and run it again"
             )
         }
-        None => eprintln!(rt;
+        Some(Trouble::Port(..)) | None => eprintln!(rt;
             "tsdb: folder {folder:?} can't be used: see that its disk is whole, and run it again"
+        ),
+    }
+}
+
+/// Says what went wrong with the port.
+fn say_port(rt: &HostRuntime, trouble: Option<&Trouble>) -> IoResult<()> {
+    match trouble {
+        Some(Trouble::Port(port, error)) => eprintln!(rt;
+            "tsdb: port {port} can't be listened on: {error}: end the process that has it, or name another one"
+        ),
+        _ => eprintln!(rt;
+            "tsdb: the port gives no more connections: what was acknowledged is kept; run it again"
         ),
     }
 }

@@ -1,4 +1,4 @@
-use Rattle.std.proofs.Common.{ℕ, List, [], ap, inr, subst, ◌∙◌}
+use Rattle.std.proofs.Common.{ℕ, List, inr, subst, ◌∙◌}
 use Rattle.qd_top.specs.Run.{Answered, outside}
 use Rattle.qd_top.proofs.arguments.run_program.Goals as goal
 

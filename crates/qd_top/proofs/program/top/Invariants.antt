@@ -1,4 +1,4 @@
 use Rattle.qd_top.proofs.program.top.Given as goal
 
-abbrev pub ghost-do_as_asked : goal.ghost-do_as_asked
-ghost-do_as_asked g a = g.found
+abbrev pub ghost-of : goal.ghost-of
+ghost-of g a = g.found

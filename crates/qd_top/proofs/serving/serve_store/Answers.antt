@@ -15,9 +15,9 @@ returns-in-Ok-clause-ran g c =
     let was = g.W.Ends.stream c.args.wire.now in
     let now = g.W.Ends.stream c.serve_back.new.wire in
     let back = c.in-Ok.back in
-    let none = settled_left g.found c.args.store back.left (told_over g.found c.args.store c.requires.1.1.1.1.1.1.1.0) c.requires.1.1.1.1.1.1.1.1.0 c.in-Ok.ensures.left in
+    let none = settled_left c.args.told.now.history c.args.store back.left (told_over c.args.told.now.history c.args.store c.requires.told) c.requires.settled c.in-Ok.ensures.left in
     λ print reads.
-    subst (λ (o : Owned). RanFrom print (begun_of o g.found (fresh host)) host after (traffic was now was now) c.serve_back.result) c.in-Ok.ensures.owned
+    subst (λ (o : Owned). RanFrom print (begun_of o c.args.told.now.history (fresh host)) host after (traffic was now was now) c.serve_back.result) c.in-Ok.ensures.owned
     (subst (λ (h : Option (List Entry)). RanFrom print (store_with back.parts.owned h None (fresh host)) host after (traffic was now was now) c.serve_back.result) c.in-Ok.ensures.history
     (subst (λ (l : Option Entry). RanFrom print (store_with back.parts.owned back.parts.history l (fresh host)) host after (traffic was now was now) c.serve_back.result) none (c.serve_back.ensures.ran print reads)))
 
@@ -25,8 +25,8 @@ pub returns-in-Err-clause-ran : goal.returns-in-Err-clause-ran
 returns-in-Err-clause-ran g c =
     let host = g.H.Host.supply c.args.host.now in
     λ print reads.
-    handed-back c.stores_are_whole.ensures.law print g.found host (g.H.Host.supply c.put_back.new.self) (g.H.Vol.Volume.storage c.into_volume.result) c.args.store c.in-Err.store
-    (g.W.Ends.stream c.args.wire.now).input (g.W.Ends.stream c.args.wire.now).output c.requires.1.1.1.1.1.1.1.0 c.requires.1.1.1.1.1.1.1.1.0 c.keeps_its_law.ensures.versions c.in-Err.ensures.handed_back c.requires.1.1.1.1.1.1.1.1.1 c.into_volume.ensures.volume c.put_back.ensures
+    handed-back c.stores_are_whole.ensures.law print c.args.told.now.history host (g.H.Host.supply c.put_back.new.self) (g.H.Vol.Volume.storage c.into_volume.result) c.args.store c.in-Err.store
+    (g.W.Ends.stream c.args.wire.now).input (g.W.Ends.stream c.args.wire.now).output c.requires.told c.requires.settled c.keeps_its_law.ensures.versions c.in-Err.ensures.handed_back c.requires.lent c.into_volume.ensures.volume c.put_back.ensures
 
 pub returns-in-Err-clause-folders : goal.returns-in-Err-clause-folders
 returns-in-Err-clause-folders g c = folders_back (g.H.Host.supply c.args.host.now) (g.H.Host.supply c.put_back.new.self) (g.H.Vol.Volume.storage c.into_volume.result) c.put_back.ensures

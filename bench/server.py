@@ -1,0 +1,129 @@
+"""The built program as a server, and its clients; for `serve.py` and `tests/serve`. No wait here is without a deadline."""
+import random
+import select
+import socket
+import subprocess
+import time
+
+from program import Asked
+
+HOST = "127.0.0.1"
+PORTS = range(20_000, 30_000)  # below those that the system gives to connections
+SECONDS = 20
+PAUSE = 0.002
+
+
+def free_port():
+    """A port on which nobody listens."""
+    while True:
+        port = random.choice(PORTS)
+        with socket.socket() as tried:
+            try:
+                tried.bind((HOST, port))
+                return port
+            except OSError:
+                continue
+
+
+class Client(Asked):
+    """A connection to a server. Each of its waits ends after SECONDS."""
+
+    def __init__(self, port, room=None):
+        """`room` is how many bytes that it hasn't read yet the system keeps for it, about."""
+        self.socket = socket.socket()
+        self.socket.settimeout(SECONDS)
+        self.socket.setsockopt(socket.IPPROTO_TCP, socket.TCP_NODELAY, 1)
+        if room:
+            self.socket.setsockopt(socket.SOL_SOCKET, socket.SO_RCVBUF, room)
+        try:
+            self.socket.connect((HOST, port))
+        except OSError:
+            self.socket.close()
+            raise
+        self.source = self.socket.makefile("rb")
+
+    def send(self, frame):
+        self.socket.sendall(frame)
+
+    def stop_sending(self):
+        """Ends what it sends, and goes on reading."""
+        self.socket.shutdown(socket.SHUT_WR)
+
+    def hears(self, seconds):
+        """Whether anything comes within so many seconds."""
+        return bool(select.select([self.socket], [], [], seconds)[0])
+
+    def rest(self):
+        """All that comes until the connection ends or breaks."""
+        pieces = []
+        try:
+            while piece := self.source.read1():
+                pieces.append(piece)
+        except ConnectionError:
+            pass
+        return b"".join(pieces)
+
+    def close(self):
+        self.source.close()
+        self.socket.close()
+
+    def end(self):
+        """Ends the session, and says whether that was answered."""
+        self.send(b"X\n")
+        good = self.rest() == b"X\n"
+        self.close()
+        return good
+
+
+def connected(port, room=None, is_over=lambda: False):
+    """A client of the server that listens at a port, or will soon, unless that is over."""
+    until = time.monotonic() + SECONDS
+    while True:
+        try:
+            return Client(port, room)
+        except ConnectionRefusedError:
+            if is_over() or time.monotonic() > until:
+                raise
+            time.sleep(PAUSE)
+
+
+class Server:
+    """The program that serves the connections to a port. Where it still runs behind a `with` it is killed."""
+
+    def __init__(self, program, port, words):
+        self.port = port
+        self.process = subprocess.Popen([program, *words], stdin=subprocess.DEVNULL, stdout=subprocess.PIPE, stderr=subprocess.PIPE)
+
+    def has_ended(self):
+        return self.process.poll() is not None
+
+    def connect(self, room=None):
+        """A new connection."""
+        try:
+            return connected(self.port, room, self.has_ended)
+        except ConnectionRefusedError:
+            if not self.has_ended():
+                raise
+            raise ConnectionRefusedError(f"the server has ended: {self.end()}") from None
+
+    def end(self):
+        """What it wrote, its status, and what it said on standard error, once it has ended by itself."""
+        output, told = self.process.communicate(timeout=SECONDS)
+        return output, self.process.returncode, told.decode()
+
+    def kill(self):
+        self.process.kill()
+        self.process.communicate(timeout=SECONDS)
+
+    def __enter__(self):
+        return self
+
+    def __exit__(self, *_):
+        self.kill()
+
+
+def served(program, folder, connections=None):
+    """A server over a folder, which ends once it has served so many connections, or never."""
+    port = free_port()
+    words = ["serve", str(port), "--dir", folder]
+    return Server(program, port, words + (["--connections", str(connections)] if connections else []))

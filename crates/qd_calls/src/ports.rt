@@ -1,5 +1,6 @@
 //! The program over connections in memory.
 use qd_base::Txt;
+use qd_ghost::Telling;
 use qd_host::{MemHost, MemWire};
 use qd_io::{Both, MemSink, MemSource};
 use qd_net::MemDoor;
@@ -43,7 +44,15 @@ fn served<R: thread::Threads + Wait + Clock + Copy + Send + Drop + 'static>(
     ];
     let mut input = MemSource::new(alloc, b"", 1, &[])?;
     let mut output = MemSink::new(alloc, 1, &[])?;
-    Ok(top(rt, alloc, words.as_slice(), &mut input, &mut output, host))
+    Ok(top(
+        rt,
+        alloc,
+        &Telling::of(&()),
+        words.as_slice(),
+        &mut input,
+        &mut output,
+        host,
+    ))
 }
 
 /// A host with an empty volume.

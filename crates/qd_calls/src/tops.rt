@@ -2,6 +2,7 @@
 ghost use Rattle.std.specs.Prelude.{◌<◌, ◌≤◌, length};
 
 use qd_base::Txt;
+use qd_ghost::Telling;
 use qd_host::MemHost;
 use qd_io::{MemClock, MemSink, MemSource};
 use qd_top::top;
@@ -43,7 +44,15 @@ fn run<R: thread::Threads + Wait + Clock + Copy + Send + Drop + 'static>(
     output: &mut MemSink,
 ) -> Result<u8, AllocError> {
     let words = [Txt::from_bytes(alloc, b"run")?];
-    Ok(top(rt, alloc, words.as_slice(), input, output, host))
+    Ok(top(
+        rt,
+        alloc,
+        &Telling::of(&()),
+        words.as_slice(),
+        input,
+        output,
+        host,
+    ))
 }
 
 /// Runs `run` over an input on a host, and gives its status and the output.

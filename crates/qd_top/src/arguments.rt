@@ -1,7 +1,6 @@
 //! The program from its arguments: the words behind its name, and what it does with them.
-ghost use Rattle.std.specs.Prelude.{◌≡◌, ◌⊎◌, List, Option, drop, map, IfOk};
+ghost use Rattle.std.specs.Prelude.{◌≡◌, ◌⊎◌, drop, map, IfOk};
 ghost use Rattle.qd_store_backend.specs.Volumes.{MayFind};
-ghost use Rattle.qd_base.specs.declared.op.Entry.{Entry};
 ghost use Rattle.std.specs.String.{string_bytes};
 ghost use Rattle.std.specs.Vec.Iter.{into_iter_items};
 ghost use Rattle.qd_top.specs.Run.{Answered, IsUnserved, outside, words_behind};
@@ -9,6 +8,7 @@ ghost use Rattle.qd_top.specs.Run.{Answered, IsUnserved, outside, words_behind};
 use crate::program::top;
 use crate::status::Status;
 use qd_base::{Memory, Txt};
+use qd_ghost::Telling;
 use qd_host::Host;
 use qd_io::{Sink, Source};
 use std::alloc::Global;
@@ -27,23 +27,30 @@ pub fn run_program<
     S: Source,
     K: Sink,
     H: Host,
->(rt: &R, alloc: Global, args: io::Result<Args>, input: &mut S, output: &mut K, host: &mut H) -> u8
-    ghost found: { Option (List Entry) }
-    requires found { MayFind found (H.supply host.old).shelf }
+>(
+    rt: &R,
+    alloc: Global,
+    told: &Telling,
+    args: io::Result<Args>,
+    input: &mut S,
+    output: &mut K,
+    host: &mut H,
+) -> u8
+    requires found { MayFind told.now.history (H.supply host.old).shelf }
 
     // No memory was found for the words, and nothing was done; or this is what `top` says of them.
     ensures answered { ((result ≡ 7) × (input.new ≡ input.old) × (output.new ≡ output.old) × (host.new ≡ host.old))
-        ⊎ Answered (words_behind (λ a. map (λ s. string_bytes s) (into_iter_items a)) args) found (outside (S.stream input.old) (K.stream output.old) (H.supply host.old))
+        ⊎ Answered (words_behind (λ a. map (λ s. string_bytes s) (into_iter_items a)) args) told.now.history (outside (S.stream input.old) (K.stream output.old) (H.supply host.old))
         (outside (S.stream input.new) (K.stream output.new) (H.supply host.new)) result }
     ensures unread { IsUnserved result → input.new ≡ input.old }
 {
     match args {
         Ok(args) => match words_of(alloc, args) {
-            Ok(words) => top(rt, alloc, words.as_slice(), input, output, host),
+            Ok(words) => top(rt, alloc, told, words.as_slice(), input, output, host),
             Err(_) => Status::NoMemory.number(),
         },
         Err(fault) if fault.kind() == io::ErrorKind::OutOfMemory => Status::NoMemory.number(),
-        Err(_) => top(rt, alloc, &[], input, output, host),
+        Err(_) => top(rt, alloc, told, &[], input, output, host),
     }
 }
 

@@ -2,7 +2,6 @@
 ghost use Rattle.std.specs.Prelude.{◌≡◌, ◌⊎◌, ◌≤◌, ℕ, List, [], None, Option, Some, length, option_map};
 ghost use Rattle.qd_store_backend.specs.Volumes.{MayFind};
 ghost use Rattle.qd_base.specs.declared.limits.TheConstants.{LAST_OFFSET};
-ghost use Rattle.qd_base.specs.declared.op.Entry.{Entry};
 ghost use Rattle.qd_gen.specs.Generated.{input as generated};
 ghost use Rattle.qd_io.specs.Ends.{HasRisen};
 ghost use Rattle.qd_print.specs.Printed.{reply_bytes};
@@ -39,7 +38,7 @@ use std::time::Clock;
 /// takes. `serve PORT --dir D` opens the store of the folder D, and serves the connections that come to the port over it, each in a
 /// thread of its own, without end, or as many as `--connections` says. All other words are answered with one usage line.
 ///
-/// `found` is the history on the host's volume, where one is told: all that is said of transactions is said of it and of those behind
+/// `told` has the history on the host's volume, where one is told: all that is said of transactions is said of it and of those behind
 /// it. A volume that isn't made has none, and one that is whole has that of its files.
 ///
 /// | Status | Comes |
@@ -67,16 +66,22 @@ pub fn top<
     S: Source,
     K: Sink,
     H: Host,
->(rt: &R, alloc: Global, words: &[Txt], input: &mut S, output: &mut K, host: &mut H) -> u8
-    ghost found: { Option (List Entry) }
-    requires found { MayFind found (H.supply host.old).shelf }
-    ensures answered { Answered words.now found (outside (S.stream input.old) (K.stream output.old) (H.supply host.old))
+>(
+    rt: &R,
+    alloc: Global,
+    told: &Telling,
+    words: &[Txt],
+    input: &mut S,
+    output: &mut K,
+    host: &mut H,
+) -> u8
+    requires found { MayFind told.now.history (H.supply host.old).shelf }
+    ensures answered { Answered words.now told.now.history (outside (S.stream input.old) (K.stream output.old) (H.supply host.old))
         (outside (S.stream input.new) (K.stream output.new) (H.supply host.new)) result }
     ensures unread { (AsksToRun words.now → ⊥) ⊎ IsUnserved result → input.new ≡ input.old }
     ensures unused { (IsCommand words.now → ⊥) → host.new ≡ host.old }
 {
-    let told = Telling::of(&());
-    do_as_asked(rt, alloc, &told, words, input, output, host).number()
+    do_as_asked(rt, alloc, told, words, input, output, host).number()
 }
 
 /// Does what the words ask for.

@@ -5,6 +5,7 @@ mod patient;
 mod words;
 
 use patient::Patient;
+use qd_ghost::Telling;
 use qd_host::StdHost;
 use qd_io::{StdSink, StdSource};
 use qd_top::run_program;
@@ -19,6 +20,7 @@ fn main(rt: HostRuntime) -> ExitCode {
     let status = run_program(
         &rt,
         rt.alloc(),
+        &Telling::of(&()),
         env::args(&rt),
         &mut StdSource::new(&mut stdin),
         &mut StdSink::new(&mut stdout),

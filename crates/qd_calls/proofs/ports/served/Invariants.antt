@@ -1,5 +1,5 @@
 use Rattle.std.proofs.Common.{None}
 use Rattle.qd_calls.proofs.ports.served.Given as goal
 
-abbrev pub ghost-top : goal.ghost-top
-ghost-top g a = None
+abbrev pub ghost-of : goal.ghost-of
+ghost-of g a = None

@@ -17,7 +17,7 @@ fn new_store(alloc: Global) -> Result<Box<Store<MemVolume>>, Fail> {
 /// Commits a line.
 fn commit(alloc: Global, store: &mut Store<MemVolume>) -> Result<(), Fail> {
     let batch = parse_batch(alloc, b"t v=1i 1000\n")?;
-    let _done = store.accept_lines(alloc, None, &batch, 0)?;
+    let _done = store.accept_lines(alloc, None, &batch, 0, None)?;
     Ok(())
 }
 

@@ -13,6 +13,7 @@ use Rattle.qd_store_backend.specs.Backs.{current, n_in}
 use Rattle.qd_shared.specs.declared.item.Item.{Item}
 use Rattle.qd_shared.specs.Desks.{Desk, items_in}
 use Rattle.qd_shared.specs.Passes.{Holds, Looks, Pass, history_by, history_of, is_told, view_of}
+use Rattle.qd_shared.specs.Rounds.{Passes}
 use Rattle.qd_shared.proofs.Items.{entries_grow}
 use Rattle.qd_pass.specs.Passed.{GoesOn, GoesStill, IsCounted, shown_by}
 use Rattle.qd_pass.specs.Shared.{AllowedShared}
@@ -63,6 +64,13 @@ module _ (old new : Pass) (found left : Desk) (h : Holds old new found left) (sh
     where
       none : length (items_in left) - length (items_in found) ≡ 0
       none = let count : length (items_in left) ≡ length (items_in found) = ap length same in omega (arith, count)
+
+-- holds in which nothing was added
+pub passed_still : (old new : Pass) → Passes old new → GoesStill old new
+passed_still old new p = record {
+  goes = record { table = p.table; origin = p.origin; mode = p.mode; seen = p.seen; known = p.known; faults = p.faults };
+  own = p.own;
+}
 
 pub counted_now : (new : Pass) (left : Desk) → (view_of new).seen ≡ items_in left → history_of new ≡ left.history → IfSome left.history (λ h. length (items_in left) ≡ length h) → IsCounted new
 counted_now new left seen told count =

@@ -1,11 +1,13 @@
 -- What a session over a shared store shows, and how its pass goes on.
-use Rattle.std.specs.Prelude.{◌≡◌, ◌≢◌, ℕ, ◌≤◌, length, map, None, IfSome}
+use Rattle.std.specs.Prelude.{◌≡◌, ◌≢◌, ℕ, ◌≤◌, length, map, None, IfErr, IfSome, Result}
 use mathlib.Core.List.{IsPrefix}
 use Rattle.qd_score_model.specs.declared.view.Mode.TheVariants.{Keeper}
 use Rattle.qd_score_model.specs.declared.view.Phase.TheVariants.{Idle}
 use Rattle.qd_score_model.specs.declared.view.Refusal.{Refusal}
 use Rattle.qd_session.specs.Looks.{PinnedRow, Shown}
+use Rattle.qd_shared.specs.declared.rounds.RoundFault.{RoundFault}
 use Rattle.qd_shared.specs.Passes.{Pass, faults_of, history_of, view_of}
+use Rattle.qd_shared.specs.Rounds.{Applies, Passes}
 
 -- a row that was found pinned
 abbrev pub pinned_row : Refusal → PinnedRow
@@ -53,3 +55,10 @@ pub record Pins (old new : Pass) (n : ℕ) : Type 0 where
   pub counted : IsCounted new
   pub fresh : (view_of old).known ≤ n
   pub known : (view_of new).known ≡ n
+
+-- A pass applies; where that succeeds, it goes on to remove what no version lists any more.
+pub record Settles (result : Result ℕ RoundFault) (old new : Pass) : Type 0 where
+  pub between : Pass
+  pub applies : Applies result old between
+  pub passes : Passes between new
+  pub failed : IfErr result (λ f. new ≡ between)

@@ -13,7 +13,7 @@ ghost use Rattle.qd_score_model.specs.declared.view.Phase.TheVariants.{Idle};
 ghost use Rattle.qd_shared.specs.Passes.{Pass as Passing, view_of};
 ghost use Rattle.qd_sql_ast.specs.Kinds.{IsQuestion, IsWrite};
 ghost use Rattle.qd_pass.specs.Backs.{back_shown, table_in};
-ghost use Rattle.qd_pass.specs.Passed.{GoesStill, IsReady};
+ghost use Rattle.qd_pass.specs.Passed.{GoesStill, IsReady, Settles};
 ghost use Rattle.qd_pass.specs.Replies.{RepliesWith};
 ghost use Rattle.qd_pass.specs.Shared.{AllowedShared};
 
@@ -173,7 +173,8 @@ impl<R: Wait, V: Volume + Drop> Backend for PassBack<'_, R, V> {
         }
     }
 
-    /// Makes all transactions the current version, in one hold of the lock, and removes the blocks that no version lists any more.
+    /// Makes the transactions that are there the current version, merged without the lock, and removes the blocks that no version
+    /// lists any more. That the removal failed isn't told: a later apply goes on with it.
     fn apply(&mut self, alloc: Global) -> Result<Reply, Memory>
         ensures handled { Handles AllowedShared (back_shown self.old) (back_shown self.new) 0 request.Apply result }
         ensures fixed { table_in self.new ≡ table_in self.old }
@@ -181,7 +182,7 @@ impl<R: Wait, V: Volume + Drop> Backend for PassBack<'_, R, V> {
         let Some(Session { mut pass, memo: _ }) = self.session.take() else {
             unreachable!()
         };
-        let done = self.shared.catch_up(self.rt, alloc, &mut pass);
+        let done = settle(self.rt, alloc, &self.shared, &mut pass);
         self.session = Some(Session { pass, memo: None });
         reply_with(done)
     }
@@ -191,6 +192,24 @@ impl<R: Wait, V: Volume + Drop> Backend for PassBack<'_, R, V> {
     }
 
     fn keeps_to_its_rule(&self) {}
+}
+
+/// Applies, and then removes the blocks that no version lists any more, as far as the volume lets it.
+fn settle<R: Wait, V: Volume + Drop>(
+    rt: &R,
+    alloc: Global,
+    shared: &Shared<V>,
+    pass: &mut Pass<V>,
+) -> Result<u64, RoundFault>
+    requires pass { pass.old.table ≡ shared.now }
+    ensures settles { Settles result pass.old pass.new }
+{
+    let n = match shared.catch_up(rt, alloc, pass) {
+        Ok(n) => n,
+        Err(fault) => return Err(fault),
+    };
+    let _removed = shared.purge(rt, pass);
+    Ok(n)
 }
 
 /// The reply to an apply.

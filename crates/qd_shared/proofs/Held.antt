@@ -38,7 +38,7 @@ module _ (k now : Knowing) (found : Desk) (is : now ≡ with_view k (took k.view
   pub begins : Stands blocks_of now.view → Comes k found → Begins k found
   begins stands comes =
       let m = meets blocks_of seen.view (sight_of (book_of found)) (subst (λ (x : Knowing). Stands blocks_of x.view) is stands) refl in
-      record { comes = comes; seen = m.seen; known = m.known; faults = m.faults }
+      record { comes = comes; seen = m.seen; sole = m.sole; known = m.known; faults = m.faults }
 
   pub finds : Stands blocks_of now.view → Finds k found
   finds stands =

@@ -5,9 +5,13 @@ mod Committing
 mod Rows
 mod Turning
 mod Desking
+mod Passing
+mod SameLists
 mod Seated
 mod Sweeping
 mod Thinning
 mod Showing
+mod Merging
 mod Closing
 mod Applying
+mod Purging

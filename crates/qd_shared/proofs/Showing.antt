@@ -9,6 +9,7 @@ use Rattle.qd_versions.specs.Publishing.{IsFull}
 use Rattle.qd_shared.specs.declared.rounds.RoundFault.{RoundFault}
 use Rattle.qd_shared.specs.declared.rounds.RoundFault.TheVariants as fault
 use Rattle.qd_shared.specs.Desks.{Desk}
+use Rattle.qd_shared.specs.Publishing.{IsDraftFault}
 use Rattle.qd_shared.specs.Rounds.{AllPinned, IsApplied, IsRefused, IsThin, current_row}
 
 -- fewer are shown than there are, where as many aren't
@@ -30,10 +31,18 @@ all_pinned d refused thin full count = (current_row d, λ row less apart. by row
     by row less (inl none) = absurd (none_live (version_at d.owned.store.versions.versions row) none (full row None (omega (arith, less, count))))
     by row less (inr pinned) = pinned
 
-pub applied_fault : (f : RoundFault) (d from to : Desk) (refused : List Refusal) → from ≡ d → ((row : ℕ) → row < 64 → IsThin d refused row) → (f ≡ fault.NoRow → IsFull from.owned.store.versions.versions)
-    → ((file at : ℕ) → f ≡ fault.Damaged file at → from.history ≡ None) → (f ≡ fault.Vol → HasRisen from.owned.storage.faults to.owned.storage.faults) → length from.owned.store.versions.versions.versions ≡ 64 → IsApplied (Err f) d to refused
-applied_fault fault.Vol d from to refused is thin full sound vol count = subst (λ (x : Desk). HasRisen x.owned.storage.faults to.owned.storage.faults) is (vol refl)
-applied_fault (fault.Damaged file at) d from to refused is thin full sound vol count = subst (λ (x : Desk). x.history ≡ None) is (sound file at refl)
-applied_fault fault.NoRow d from to refused is thin full sound vol count =
+-- a draft that failed, as the fault of an apply
+pub drafted_fault : (f : RoundFault) (least : ℕ) (d from to : Desk) (refused : List Refusal) → from ≡ d → IsDraftFault f from to → IsApplied least (Err f) d to refused
+drafted_fault fault.Vol least d from to refused is f = subst (λ (x : Desk). HasRisen x.owned.storage.faults to.owned.storage.faults) is f
+drafted_fault (fault.Damaged file at) least d from to refused is f = subst (λ (x : Desk). x.history ≡ None) is f
+drafted_fault fault.NoRow least d from to refused is f = absurd f
+drafted_fault fault.Memory least d from to refused is f = tt
+
+-- a publication that failed
+pub shown_fault : (f : RoundFault) (least : ℕ) (d from to : Desk) (refused : List Refusal) → from ≡ d → ((row : ℕ) → row < 64 → IsThin d refused row) → (f ≡ fault.NoRow → IsFull from.owned.store.versions.versions)
+    → ((file at : ℕ) → f ≡ fault.Damaged file at → ⊥) → (f ≡ fault.Vol → HasRisen from.owned.storage.faults to.owned.storage.faults) → length from.owned.store.versions.versions.versions ≡ 64 → IsApplied least (Err f) d to refused
+shown_fault fault.Vol least d from to refused is thin full sound vol count = subst (λ (x : Desk). HasRisen x.owned.storage.faults to.owned.storage.faults) is (vol refl)
+shown_fault (fault.Damaged file at) least d from to refused is thin full sound vol count = absurd (sound file at refl)
+shown_fault fault.NoRow least d from to refused is thin full sound vol count =
     all_pinned d refused thin (subst (λ (x : Desk). IsFull x.owned.store.versions.versions) is (full refl)) (subst (λ (x : Desk). length x.owned.store.versions.versions.versions ≡ 64) is count)
-applied_fault fault.Memory d from to refused is thin full sound vol count = tt
+shown_fault fault.Memory least d from to refused is thin full sound vol count = tt

@@ -1,5 +1,7 @@
 -- Blocks that no version lists any more are removed from the store of a desk.
-use Rattle.std.proofs.Common.{◌≡◌, ◌∙◌, ℕ, ◌≤◌, true, false, Bool, [], Result, Ok, Err, IfOk, OnErr, refl, ap, arith}
+use Rattle.std.proofs.Common.{◌≡◌, ◌∙◌, ◌⊎◌, inl, inr, ℕ, ◌+◌, ◌-◌, ◌^◌, ◌<◌, ◌≤◌, min, true, false, Bool, List, [], length, Result, Ok, Err, IfOk, OnErr, refl, sym, ap, subst, arith}
+use Rattle.std.proofs.Math.Nat.{min-eq_left, min-eq_right, min-le_right}
+use Rattle.std.proofs.lemmas.Bool.{cases_lt}
 use Rattle.qd_catalog.specs.Versions as rows
 use Rattle.qd_catalog.specs.Versions.{Versions}
 use Rattle.qd_durable.specs.Moments.{Told}
@@ -51,3 +53,54 @@ module _ (first old new : Store) (before : IsSweptTo first old) (limits : new.st
       let k = sweep_keeps old new limits sequence told result swept idle same counted in
       let r = same_rows result swept idle same in
       swept_both first old new before (record { list = r.0; current = r.1; sequence = sequence; limits = limits; told = k.told; faults = k.faults })
+
+-- ---- how many were removed
+
+up_by : {n m : ℕ} → n ≤ m → min n m ≡ n
+up_by = min-eq_left
+
+one_counted : (a r : ℕ) → r ≡ min (a + 1) (2 ^ 64 - 1) → (r ≡ a + 1) ⊎ (r ≡ 2 ^ 64 - 1)
+one_counted a r is = by (cases_lt (2 ^ 64 - 1) (a + 1))
+  where
+    by : (2 ^ 64 - 1 < a + 1) ⊎ (a + 1 ≤ 2 ^ 64 - 1) → (r ≡ a + 1) ⊎ (r ≡ 2 ^ 64 - 1)
+    by (inl less) = inr (is ∙ min-eq_right (let l = less in omega (arith, l)))
+    by (inr le) = inl (is ∙ up_by le)
+
+-- some were removed, and counted
+pub record AreRemoved (old new : Store) (before now : ℕ) : Type 0 where
+  pub gone : ℕ
+  pub queue : length old.store.versions.versions.retired ≡ gone + length new.store.versions.versions.retired
+  pub counted : (now ≡ before + gone) ⊎ (now ≡ 2 ^ 64 - 1)
+  pub rise : before ≤ now
+  pub small : now ≤ 2 ^ 64 - 1
+
+pub removed_none : (o : Store) (n : ℕ) → n ≤ 2 ^ 64 - 1 → AreRemoved o o n n
+removed_none o n small = record { gone = 0; queue = omega arith; counted = inl (omega arith); rise = omega arith; small = small }
+
+-- a call that leaves the queue as it is
+pub removed_same : (first old new : Store) (before now : ℕ) → new.store.versions.versions.retired ≡ old.store.versions.versions.retired → AreRemoved first old before now → AreRemoved first new before now
+removed_same first old new before now same r = record {
+  gone = r.gone;
+  queue = r.queue ∙ ap (λ (l : List ℕ). r.gone + length l) (sym same);
+  counted = r.counted;
+  rise = r.rise;
+  small = r.small;
+}
+
+-- one more
+pub removed_more : (first old new : Store) (before now then block : ℕ) → rows.Sweeps old.store.versions.versions new.store.versions.versions block → then ≡ min (now + 1) (2 ^ 64 - 1) → AreRemoved first old before now → AreRemoved first new before then
+removed_more first old new before now then block swept is r = by (one_counted now then is)
+  where
+    count : length old.store.versions.versions.retired ≡ 1 + length new.store.versions.versions.retired
+    count = omega (arith, ap length swept.retired)
+
+    queue : length first.store.versions.versions.retired ≡ (r.gone + 1) + length new.store.versions.versions.retired
+    queue = let c = count in let q = r.queue in omega (arith, c, q)
+
+    more : (now ≡ before + r.gone) ⊎ (now ≡ 2 ^ 64 - 1) → then ≡ now + 1 → (then ≡ before + (r.gone + 1)) ⊎ (then ≡ 2 ^ 64 - 1)
+    more (inl n) t = inl (omega (arith, n, t))
+    more (inr n) t = inr (let le : then ≤ 2 ^ 64 - 1 = subst (λ (x : ℕ). x ≤ 2 ^ 64 - 1) (sym is) (min-le_right (now + 1) (2 ^ 64 - 1)) in absurd (omega (arith, n, t, le)))
+
+    by : (then ≡ now + 1) ⊎ (then ≡ 2 ^ 64 - 1) → AreRemoved first new before then
+    by (inl t) = record { gone = r.gone + 1; queue = queue; counted = more r.counted t; rise = (let up = r.rise in omega (arith, up, t)); small = subst (λ (x : ℕ). x ≤ 2 ^ 64 - 1) (sym is) (min-le_right (now + 1) (2 ^ 64 - 1)) }
+    by (inr t) = record { gone = r.gone + 1; queue = queue; counted = inr t; rise = (let up = r.rise in let s = r.small in omega (arith, up, s, t)); small = omega (arith, t) }

@@ -3,6 +3,7 @@ use Rattle.std.proofs.Common.{◌≡◌, ℕ, ◌≤◌, Bool, true, false, ◌=
 use Rattle.std.specs.Prelude.{if◌then◌else◌}
 use mathlib.Core.List.{IsPrefix}
 use Rattle.qd_score.specs.Rule.{Stands}
+use Rattle.qd_score_model.specs.declared.view.Mode.TheVariants.{Sole}
 use Rattle.qd_score_model.specs.declared.view.Phase.TheVariants.{Pinned}
 use Rattle.qd_score_model.specs.declared.view.Place.{Place}
 use Rattle.qd_score_model.specs.declared.view.Record.{Record}
@@ -16,6 +17,7 @@ use Rattle.qd_shared.specs.Passes.{faults_in}
 -- what the lock's holder sees, beside what it knew
 pub record Meets {I S : Type 0} (v : View I S) (h : Sight I S) : Type 0 where
   pub seen : IsPrefix v.seen h.history
+  pub sole : v.mode ≡ Sole → h.history ≡ v.seen
   pub known : v.known ≤ h.current.n
   pub faults : faults_in 0 v.records ≤ h.faults
   pub pinned : (place : Place) → v.phase ≡ Pinned place → (x : Version S) × (version_at h.versions place.row ≡ Some x) × (x.n ≡ place.n)
@@ -42,6 +44,7 @@ module _ {I S : Type 0} where
       let fits = kept.history.seats seat v at in
       subst (λ (x : Sight I S). Meets v x) (sym same) (record {
         seen = fits.seen;
+        sole = λ m. sym (kept.sole seat v at m).seen;
         known = fits.known;
         faults = last_no_more 0 s.board.faults v.records fits.faults;
         pinned = λ place is. subst (PhaseFits s.board) is (kept.phases seat v at);

@@ -16,7 +16,7 @@ use Rattle.qd_store.specs.Opening.{HasFirstRow}
 use Rattle.qd_store.specs.Stores.{IsBook}
 use Rattle.qd_store_backend.specs.Backs.{current, n_in}
 use Rattle.qd_shared.specs.Desks.{Desk, book_of, items_in, version_of}
-use Rattle.qd_shared.specs.Holding.{MayEnd, Steps}
+use Rattle.qd_shared.specs.Holding.{IsLonely, MayEnd, Steps}
 use Rattle.qd_shared.specs.Passes.{Knowing}
 use Rattle.qd_shared.specs.Publishing.{HasRows}
 use Rattle.qd_shared.specs.Rounds.{IsRefused, IsThin, current_row}
@@ -31,28 +31,32 @@ pub record IsThinnedTo (first now : Knowing) (from to : Desk) (upto : ℕ) : Typ
   pub items : items_in to ≡ items_in from
   pub history : to.history ≡ from.history
   pub shown : current to.owned.store ≡ current from.owned.store
+  pub removed : to.removed ≡ from.removed
+  pub alone : IsLonely first now
   pub thin : (row : ℕ) → row < upto → IsThin to now.view.refused row
 
 pub thinned_none : (k : Knowing) (d : Desk) → MayEnd k d → IsThinnedTo k k d d 0
-thinned_none k d may = record { may = may; steps = steps_none k d d may (grows_refl d); items = refl; history = refl; shown = refl; thin = λ row less. absurd (omega (arith, less)) }
+thinned_none k d may = record { may = may; steps = steps_none k d d may (grows_refl d); items = refl; history = refl; shown = refl; removed = refl; alone = λ m i. refl; thin = λ row less. absurd (omega (arith, less)) }
 
 pub refused_on : (xs ys : List Refusal) (row : ℕ) → IsPrefix xs ys → IsRefused xs row → IsRefused ys row
 refused_on xs ys row (more, is) (word, inside, pins) = (word, subst (λ (l : List Refusal). Contains l (record { row = row; word = word })) is (Contains-append_left xs more (record { row = row; word = word }) inside), pins)
 
-thin_on : (from to : Desk) (xs ys : List Refusal) (row : ℕ) → current_row to ≡ current_row from → version_at to.owned.store.versions.versions row ≡ version_at from.owned.store.versions.versions row → IsPrefix xs ys → IsThin from xs row → IsThin to ys row
+pub thin_on : (from to : Desk) (xs ys : List Refusal) (row : ℕ) → current_row to ≡ current_row from → version_at to.owned.store.versions.versions row ≡ version_at from.owned.store.versions.versions row → IsPrefix xs ys → IsThin from xs row → IsThin to ys row
 thin_on from to xs ys row same at more thin other = by (thin (λ e. other (e ∙ sym same))) where
   by : (version_at from.owned.store.versions.versions row ≡ None) ⊎ IsRefused xs row → (version_at to.owned.store.versions.versions row ≡ None) ⊎ IsRefused ys row
   by (inl none) = inl (at ∙ none)
   by (inr refused) = inr (refused_on xs ys row more refused)
 
 pub thinned_more : (first now then : Knowing) (from mid to : Desk) (upto : ℕ) → IsThinnedTo first now from mid upto → MayEnd then to → Steps now then mid to → items_in to ≡ items_in mid → to.history ≡ mid.history → current to.owned.store ≡ current mid.owned.store
-    → current_row to ≡ current_row mid → IsThin to then.view.refused upto → ((other : ℕ) → other ≢ upto → version_at to.owned.store.versions.versions other ≡ version_at mid.owned.store.versions.versions other) → IsThinnedTo first then from to (upto + 1)
-thinned_more first now then from mid to upto t may steps items history shown row thin others = record {
+    → current_row to ≡ current_row mid → to.removed ≡ mid.removed → IsLonely now then → IsThin to then.view.refused upto → ((other : ℕ) → other ≢ upto → version_at to.owned.store.versions.versions other ≡ version_at mid.owned.store.versions.versions other) → IsThinnedTo first then from to (upto + 1)
+thinned_more first now then from mid to upto t may steps items history shown row removed alone thin others = record {
   may = may;
   steps = steps_both first now then from mid to t.steps steps;
   items = items ∙ t.items;
   history = history ∙ t.history;
   shown = shown ∙ t.shown;
+  removed = removed ∙ t.removed;
+  alone = λ m i. alone (t.steps.mode ∙ m) (t.steps.phase ∙ i) ∙ t.alone m i;
   thin = λ k less. by k less (eqb_tells k upto);
 }
   where

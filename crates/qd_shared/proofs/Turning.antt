@@ -251,7 +251,7 @@ same_end now from to (h, held, may) rest removed list row have =
 -- ---- a version is shown
 
 module _ (now : Knowing) (from to : Desk) (row upto : ℕ) (shape : List TableParts) (adds : Adds from.owned.store.versions.versions to.owned.store.versions.versions upto shape row)
-    (may : MayEnd now from) (sees_all : SeesAll now from) (rest : IsRest from to) (removed : to.removed ≡ from.removed) (have : HasRows to) (all : upto ≡ length from.owned.store.sequence.refs) (more : n_in (current from.owned.store) < upto) (few : upto ≤ MAX_TXNS) where
+    (may : MayEnd now from) (sees_all : SeesAll now from) (rest : IsRest from to) (removed : to.removed ≡ from.removed) (have : HasRows to) (all : upto ≤ length from.owned.store.sequence.refs) (more : n_in (current from.owned.store) < upto) (few : upto ≤ MAX_TXNS) where
   abbrev pub next : Version (List TableParts)
   next = record { n = upto; shape = shape }
 

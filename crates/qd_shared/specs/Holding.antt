@@ -5,7 +5,8 @@ use Rattle.qd_manifest.specs.declared.shape.TableParts.{TableParts}
 use Rattle.qd_manifest.specs.Spelling.{blocks_of}
 use Rattle.qd_score.specs.Calls.{MayGiveBack}
 use Rattle.qd_score.specs.Rule.{ComesFrom, with_view}
-use Rattle.qd_score_model.specs.declared.view.Phase.TheVariants.{Pinned}
+use Rattle.qd_score_model.specs.declared.view.Mode.TheVariants.{Sole}
+use Rattle.qd_score_model.specs.declared.view.Phase.TheVariants.{Idle, Pinned}
 use Rattle.qd_score_model.specs.declared.view.Place.{Place}
 use Rattle.qd_score_model.specs.declared.view.Sight.{Sight}
 use Rattle.qd_score_model.specs.declared.view.Version.{Version}
@@ -23,6 +24,8 @@ Comes k d = IfSome k.origin (λ o. ComesFrom book_of (λ x. Unit {0}) fixed_of o
 pub record Begins (k : Knowing) (found : Desk) : Type 0 where
   pub comes : Comes k found
   pub seen : IsPrefix k.view.seen (items_in found)
+  -- a Sole pass had seen all
+  pub sole : k.view.mode ≡ Sole → items_in found ≡ k.view.seen
   pub known : k.view.known ≤ n_in (current found.owned.store)
   pub faults : faults_in 0 k.view.records ≤ found.owned.storage.faults
 
@@ -76,3 +79,7 @@ pub record Steps (now then : Knowing) (from to : Desk) : Type 0 where
   pub records : then.view.records ≡ now.view.records
   pub refused : IsPrefix now.view.refused then.view.refused
   pub grows : Grows from to
+
+-- a Sole holder without a pin finds no row pinned
+abbrev pub IsLonely : Knowing → Knowing → Type 0
+IsLonely now then = now.view.mode ≡ Sole → now.view.phase ≡ Idle → then.view.refused ≡ now.view.refused

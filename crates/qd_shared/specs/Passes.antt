@@ -9,7 +9,7 @@ use Rattle.qd_score.specs.declared.table.Knows.{Knows}
 use Rattle.qd_score.specs.Rule.{Stands}
 use Rattle.qd_score_model.specs.declared.view.Record.{Record}
 use Rattle.qd_score_model.specs.declared.view.View.{View}
-use Rattle.qd_score_model.specs.declared.view.Mode.TheVariants.{Writer}
+use Rattle.qd_score_model.specs.declared.view.Mode.TheVariants.{Sole, Writer}
 use Rattle.qd_score_model.specs.Kept.{RisesWithin}
 use Rattle.qd_score_model.specs.Machine.{behind, first_view, joined, newcomer}
 use Rattle.qd_store.specs.Owned.{Store}
@@ -125,6 +125,8 @@ pub record Closes (p : Pass) (owned : Store) : Type 0 where
   pub history : Option (List Entry)
   pub told : IfSome history (IsTold owned)
   pub seen : GoesOnTo (history_of p) history
+  -- what a Sole pass had seen is all of it
+  pub sole : (view_of p).mode ≡ Sole → history ≡ history_of p
   pub known : (view_of p).known ≤ n_in (current owned.store)
   -- the positions of its own transactions rise, and lie within what it had seen of that history
   pub own : RisesWithin 0 (length (view_of p).seen) (view_of p).own

@@ -8,6 +8,7 @@ ghost use Rattle.qd_sql_ast.specs.Kinds.{IsWrite};
 ghost use Rattle.qd_shared.specs.Commits.{batch_at, statement, Commits};
 ghost use Rattle.qd_shared.specs.Passes.{view_of};
 
+use crate::known::ready_ahead;
 use crate::pass::Pass;
 use crate::shared::Shared;
 use qd_ilp::Batch;
@@ -18,7 +19,8 @@ use std::alloc::Global;
 use std::sync::Wait;
 
 impl<V: Volume + Drop> Shared<V> {
-    /// Commits the transaction of a batch, in one hold of the lock, as [`Store::accept_lines`](qd_store::Store::accept_lines) does.
+    /// Commits the transaction of a batch, in one hold of the lock, as [`Store::accept_lines`](qd_store::Store::accept_lines) does. It is
+    /// made ready before, over the schemas that the pass found last; where they have changed since, it is made ready in the hold.
     pub fn commit_lines<R: Wait>(
         &self,
         rt: &R,
@@ -32,8 +34,11 @@ impl<V: Volume + Drop> Shared<V> {
         requires read { IsRead batch.now }
         ensures commits { Commits (batch_at now batch.now) result pass.old pass.new }
     {
+        let ahead = ready_ahead(alloc, &pass.schemas, batch, now);
         let mut hold = self.take(rt, &mut pass.seat);
-        let done = hold.book().commit_lines(alloc, batch, now);
+        let done = hold
+            .book()
+            .commit_lines(alloc, batch, now, &mut pass.schemas, ahead);
         self.give(&mut pass.seat, hold);
         done
     }

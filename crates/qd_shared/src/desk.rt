@@ -1,6 +1,6 @@
 //! What lies under the lock.
-ghost use Rattle.std.specs.Prelude.{◌≡◌, ◌≢◌, ◌↔◌, ◌<◌, ◌≤◌, ◌+◌, ℕ, [], None, Some, Option, List, Err, length, IfErr, IfOk, IfSome, IsTrue, OnErr};
-ghost use Rattle.qd_base.specs.declared.op.Entry.{Entry};
+ghost use Rattle.std.specs.Prelude.{◌≡◌, ◌≢◌, ◌↔◌, ◌<◌, ◌≤◌, ℕ, List, Some, Ok, Err, length, IfErr, IfOk, IfSome, IsTrue, OnErr};
+ghost use Rattle.qd_base.specs.Lawful.{AreSchemas};
 ghost use Rattle.qd_prepare.specs.Prepared.{IsRead, IsShort};
 ghost use Rattle.qd_sql_ast.specs.Kinds.{IsWrite};
 ghost use Rattle.qd_store_backend.specs.Backs.{AreUsual, BeginsWith, current, n_in};
@@ -10,13 +10,16 @@ ghost use Rattle.qd_shared.specs.Snaps.{IsCopied};
 ghost use Rattle.qd_base.specs.declared.part.Part.{Part};
 ghost use Rattle.qd_block.specs.Blocks.{IsWhole};
 ghost use Rattle.qd_catalog.specs.declared.version.Version as catalog;
-ghost use Rattle.qd_catalog.specs.Versions.{Adds, IsLive, Retires, SameVersions, version_at};
+ghost use Rattle.qd_catalog.specs.Versions.{Adds, IsLive, Retires, SameVersions, current_n, version_at};
 ghost use Rattle.qd_io.specs.Ends.{HasRisen};
 ghost use Rattle.qd_base.specs.declared.limits.TheConstants.{MAX_TXNS};
 ghost use Rattle.qd_shared.specs.declared.rounds.RoundFault.TheVariants as fault;
-ghost use Rattle.qd_shared.specs.Publishing.{drafts_fault, publishes_fault, HasRows, IsRest};
-ghost use Rattle.qd_store.specs.declared.fault.PublishFault.TheVariants as publish;
+ghost use Rattle.qd_shared.specs.Publishing.{drafts_fault, publishes_fault, HasRows, IsDraftFault, IsNext, IsRest};
+ghost use Rattle.qd_store.specs.Drafts.{IsDraftOver, IsDraftedFrom, IsMergedOver, IsNextOf};
 ghost use Rattle.qd_versions.specs.Publishing.{IsFull};
+ghost use Rattle.qd_shared.specs.Rounds.{IsBegun, IsPurged, Removes};
+ghost use Rattle.qd_store.specs.declared.fault.PublishFault.TheVariants as publish;
+ghost use Rattle.qd_store.specs.Arriving.{IsReady};
 ghost use Rattle.qd_durable.specs.Faults.{CountsVol};
 ghost use Rattle.qd_manifest.specs.declared.shape.TableParts.{TableParts};
 ghost use Rattle.qd_scan.specs.Sources.{IsBlockOf};
@@ -24,18 +27,21 @@ ghost use Rattle.qd_store.specs.Reading.{IsShownPart};
 ghost use Rattle.qd_versions.specs.Reading.{IsPartAt};
 
 use crate::item::{Fixed, Item};
-use crate::rounds::RoundFault;
+use crate::known::learn;
+use crate::rounds::{Begun, RoundFault};
 use crate::snap::Snap;
 use qd_apply::{merging_stands, schemas_of};
-use qd_base::Memory;
+use qd_base::{Memory, Schemas};
 use qd_block::Block;
 use qd_durable::LogFault;
 use qd_ghost::{Telling, Turning};
 use qd_ilp::Batch;
+use qd_io::IoFault;
 use qd_manifest::Shape;
+use qd_prepare::Prepared;
 use qd_score::Booked;
 use qd_sql_ast::Stmt;
-use qd_store::{CommitFault, Committed, PublishFault, Store};
+use qd_store::{CommitFault, Committed, Draft, Merged, PublishFault, Store};
 use qd_store_backend::next_of;
 use qd_symbols::SymbolMap;
 use qd_volume::Volume;
@@ -136,19 +142,33 @@ impl<V: Volume + Drop> Desk<V> {
         self.store.keeps_its_law();
     }
 
-    /// Commits the transaction of a batch, as [`Store::accept_lines`] does.
+    /// Commits the transaction of a batch, as [`Store::accept_lines`] does. `ahead` may have what was made ready of it over the schemas
+    /// that are `known`: it is taken where the store has the same. Else the store's are copied, so that they are known then, or none
+    /// are where there is no memory.
     pub(crate) fn commit_lines(
         &mut self,
         alloc: Global,
         batch: &Batch,
         now: u64,
+        known: &mut Option<Schemas>,
+        ahead: Option<Prepared>,
     ) -> Result<Committed, CommitFault>
         requires read { IsRead batch.now }
+        requires ahead { IfSome ahead (λ p. IfSome known.old (λ s. IsReady s now batch.now p)) }
+        requires sound { IfSome known.old AreSchemas }
         ensures commits { CommitsTo (batch_at now batch.now) result self.old self.new }
+        ensures sound { IfSome known.new AreSchemas }
     {
         one_entry_is_read();
         self.is_told();
-        let done = self.store.accept_lines(alloc, self.writer, batch, now)?;
+        let ahead = if learn(known, self.store.schemas()) {
+            ahead
+        } else {
+            None
+        };
+        let done = self
+            .store
+            .accept_lines(alloc, self.writer, batch, now, ahead)?;
         self.writer = Some(done.writer);
         self.telling
             .turn::<(), Store<V>, Behind<V>>(&(), &self.store);
@@ -224,6 +244,7 @@ impl<V: Volume + Drop> Desk<V> {
     /// How many of them the current version shows.
     pub(crate) fn shown_n(&self) -> u64
         ensures shown { result ≡ n_in (current self.now.owned.store) }
+        ensures live { current_n self.now.owned.store.versions.versions ≡ Some result }
         ensures within { result ≤ length self.now.owned.store.sequence.refs }
     {
         self.store.keeps_its_law();
@@ -250,57 +271,130 @@ impl<V: Volume + Drop> Desk<V> {
         self.store.keeps_its_law();
     }
 
-    /// Shows the first `upto` transactions, which are all, by a version that takes the place of the current one, and gives its row.
-    pub(crate) fn show_next(&mut self, alloc: Global, upto: u64) -> Result<u8, RoundFault>
+    /// The number that the next new block gets.
+    pub(crate) fn next_block(&self) -> u64
+        ensures { result ≡ self.now.owned.store.versions.versions.next_block }
+    {
+        self.store.next_block()
+    }
+
+    /// Says whether a merge, with new blocks from a number on, is into the current version, and its blocks are the next ones.
+    pub(crate) fn fits(&self, merged: &Merged, next_block: u64) -> bool
+        ensures fits { IsTrue result → (current_n self.now.owned.store.versions.versions ≡ Some merged.now.base) × (self.now.owned.store.versions.versions.next_block ≡ next_block) }
+    {
+        self.shown_n() == merged.base() && self.next_block() == next_block
+    }
+
+    /// Drafts the first `upto` transactions, which are all, as [`Store::draft`] does.
+    pub(crate) fn draft(&mut self, alloc: Global, upto: u64) -> Result<Draft, RoundFault>
         requires all { upto ≡ length self.old.owned.store.sequence.refs }
         requires more { n_in (current self.old.owned.store) < upto }
-        ensures added { IfOk result (λ row. (shape : List TableParts) × Adds self.old.owned.store.versions.versions self.new.owned.store.versions.versions upto shape row) }
+        ensures over { IfOk result (λ d. IsDraftOver self.old.owned.store.versions.versions d) }
+        ensures number { IfOk result (λ d. d.plan.upto ≡ upto) }
+        ensures told { IfOk result (λ d. IfSome self.old.history (λ h. IsDraftedFrom (Ok d) self.old.owned.store h upto)) }
+        ensures store { self.new.owned.store ≡ self.old.owned.store }
+        ensures history { self.new.history ≡ self.old.history }
+        ensures removed { self.new.removed ≡ self.old.removed }
+        ensures faults { self.old.owned.storage.faults ≤ self.new.owned.storage.faults }
+        ensures fault { IfErr result (λ f. IsDraftFault f self.old self.new) }
+    {
+        self.store.keeps_its_law();
+        match self.store.draft(alloc, upto) {
+            Ok(draft) => Ok(draft),
+            Err(cause) => Err(of_log(cause)),
+        }
+    }
+
+    /// Begins a round: drafts all transactions, or says how many the current version shows where those are all.
+    pub(crate) fn begin_round(&mut self, alloc: Global) -> Result<Begun, RoundFault>
+        ensures store { self.new.owned.store ≡ self.old.owned.store }
+        ensures history { self.new.history ≡ self.old.history }
+        ensures removed { self.new.removed ≡ self.old.removed }
+        ensures faults { self.old.owned.storage.faults ≤ self.new.owned.storage.faults }
+        ensures begun { IsBegun result self.old self.new }
+    {
+        let upto = self.hist_len();
+        if self.shown_n() == upto {
+            return Ok(Begun::Shown { n: upto });
+        }
+        let next_block = self.next_block();
+        let draft = match self.draft(alloc, upto) {
+            Ok(draft) => draft,
+            Err(fault) => return Err(fault),
+        };
+        Ok(Begun::Drafted { draft, next_block })
+    }
+
+    /// Merges the first `upto` transactions, which are all, into the current version.
+    pub(crate) fn merge_next(&mut self, alloc: Global, upto: u64) -> Result<Merged, RoundFault>
+        requires all { upto ≡ length self.old.owned.store.sequence.refs }
+        requires more { n_in (current self.old.owned.store) < upto }
+        ensures over { IfOk result (λ m. IsMergedOver self.new.owned.store.versions.versions m) }
+        ensures number { IfOk result (λ m. m.upto ≡ upto) }
+        ensures told { IfOk result (λ m. IfSome self.new.history (λ h. IsNextOf self.new.owned.store h m)) }
+        ensures store { self.new.owned.store ≡ self.old.owned.store }
+        ensures history { self.new.history ≡ self.old.history }
+        ensures removed { self.new.removed ≡ self.old.removed }
+        ensures faults { self.old.owned.storage.faults ≤ self.new.owned.storage.faults }
+        ensures fault { IfErr result (λ f. IsDraftFault f self.old self.new) }
+    {
+        self.store.keeps_its_law();
+        match next_of(&mut self.store, alloc, upto) {
+            Ok(merged) => Ok(merged),
+            Err(cause) => Err(of_log(cause)),
+        }
+    }
+
+    /// Shows a merge into the current version by a version that takes its place, and gives its row.
+    pub(crate) fn show_merged(&mut self, alloc: Global, merged: &Merged) -> Result<u8, RoundFault>
+        requires few { merged.now.upto ≤ length self.old.owned.store.sequence.refs }
+        requires next { IsNext self.old merged.now }
+        ensures added { IfOk result (λ row. (shape : List TableParts) × Adds self.old.owned.store.versions.versions self.new.owned.store.versions.versions merged.now.upto shape row) }
         ensures same { OnErr result (SameVersions self.old.owned.store.versions.versions self.new.owned.store.versions.versions) }
         ensures rest { IsRest self.old self.new }
         ensures removed { self.new.removed ≡ self.old.removed }
         ensures present { HasRows self.new }
         ensures full { result ≡ Err fault.NoRow → IsFull self.old.owned.store.versions.versions }
-        ensures sound { (file : ℕ) (at : ℕ) → result ≡ Err (fault.Damaged file at) → self.old.history ≡ None }
+        ensures whole { (file : ℕ) (at : ℕ) → result ≡ Err (fault.Damaged file at) → ⊥ }
         ensures vol { result ≡ Err fault.Vol → HasRisen self.old.owned.storage.faults self.new.owned.storage.faults }
-        ensures small { upto ≤ MAX_TXNS }
+        ensures small { merged.now.upto ≤ MAX_TXNS }
     {
         merging_stands();
         self.store.keeps_its_law();
-        let merged = match next_of(&mut self.store, alloc, upto) {
-            Ok(merged) => merged,
-            Err(cause) => return Err(of_log(cause)),
-        };
-        let shown = self.store.publish(alloc, &merged);
+        let shown = self.store.publish(alloc, merged);
         self.store.keeps_its_law();
-        match shown {
-            Ok(row) => Ok(row),
-            Err(cause) => Err(of_publish(cause)),
-        }
+        let row = match shown {
+            Ok(row) => row,
+            Err(cause) => return Err(of_publish(cause)),
+        };
+        Ok(row)
     }
 
-    /// Removes blocks that no version lists any more, until none is left, the volume fails or there is no memory.
-    pub(crate) fn sweep_all(&mut self)
+    /// Removes the blocks that no version lists any more, until none is left, the volume fails or there is no memory. It gives how
+    /// many were removed.
+    pub(crate) fn sweep_all(&mut self) -> Result<u64, IoFault>
         ensures versions { self.new.owned.store.versions.versions.versions ≡ self.old.owned.store.versions.versions.versions }
         ensures current { self.new.owned.store.versions.versions.current ≡ self.old.owned.store.versions.versions.current }
         ensures rest { IsRest self.old self.new }
-        ensures removed { self.old.removed ≤ self.new.removed }
+        ensures removes { Removes self.old self.new }
+        ensures rise { self.old.removed ≤ self.new.removed }
         ensures present { HasRows self.new }
+        ensures purged { IsPurged result self.old self.new }
     {
-        'sweeps: loop {
+        let before = self.removed;
+        let swept = 'sweeps: loop {
             match self.store.sweep() {
-                Ok(true) => self.removed = one_more(self.removed),
-                Ok(false) | Err(_) => break,
+                Ok(true) => self.removed = self.removed.saturating_add(1),
+                Ok(false) => break Ok(()),
+                Err(fault) => break Err(fault),
             }
-        }
+        };
         self.store.keeps_its_law();
+        match swept {
+            Ok(()) => Ok(self.removed - before),
+            Err(fault) => Err(fault),
+        }
     }
-}
-
-/// One more, up to the greatest `u64`.
-fn one_more(count: u64) -> u64
-    ensures { count ≤ result }
-{
-    count.saturating_add(1)
 }
 
 /// The fault of a draft, as that of a round.

@@ -13,6 +13,7 @@
 mod commits;
 mod desk;
 mod item;
+mod known;
 mod pass;
 mod pins;
 mod rounds;

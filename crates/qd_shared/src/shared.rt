@@ -1,5 +1,5 @@
 //! A store that many threads share.
-ghost use Rattle.std.specs.Prelude.{◌≡◌, ◌≢◌, IfErr, IfOk, None};
+ghost use Rattle.std.specs.Prelude.{◌≡◌, ◌≢◌, IfErr, IfOk, [], None};
 ghost use Rattle.qd_manifest.specs.Spelling.{blocks_of};
 ghost use Rattle.qd_score.specs.Calls as seats;
 ghost use Rattle.qd_score.specs.Calls.{IsSeatOf, known_by};
@@ -58,7 +58,13 @@ impl<V: Volume + Drop> Shared<V> {
     {
         store.keeps_its_law();
         match Score::start(alloc, Desk::of(store, told)) {
-            Ok((score, seat)) => Ok((Shared { score }, Pass { seat })),
+            Ok((score, seat)) => Ok((
+                Shared { score },
+                Pass {
+                    seat,
+                    schemas: None,
+                },
+            )),
             Err(desk) => Err(desk.into_store()),
         }
     }
@@ -84,7 +90,10 @@ impl<V: Volume + Drop> Shared<V> {
         ensures part { IsPart pass.old result }
     {
         match self.score.split(alloc, &mut pass.seat, Mode::Writer) {
-            Ok(seat) => Pass { seat },
+            Ok(seat) => Pass {
+                seat,
+                schemas: None,
+            },
             Err(_) => unreachable!(),
         }
     }
@@ -96,7 +105,7 @@ impl<V: Volume + Drop> Shared<V> {
         requires idle { (view_of other).phase ≡ Idle }
         ensures joined { IsJoined pass.old other pass.new }
     {
-        let Pass { seat } = other;
+        let Pass { seat, schemas: _ } = other;
         self.score.join(&mut pass.seat, seat);
     }
 
@@ -119,8 +128,12 @@ impl<V: Volume + Drop> Shared<V> {
         ensures along { Along (known_by seat.old) (known_by seat.new) result.book }
         ensures may { MayEnd (known_by seat.new) result.book }
         ensures comes { Comes (known_by seat.new) result.book }
+        ensures counted { IsCounted result.book }
+        ensures fresh { (seats.view_of seat.new).refused ≡ [] }
     {
-        self.score.take(rt, seat)
+        let mut hold = self.score.take(rt, seat);
+        hold.book().is_told();
+        hold
     }
 
     /// Gives the lock back, and the desk with it.
@@ -145,7 +158,10 @@ impl<V: Volume + Drop> Shared<V> {
         requires pass { pass.table ≡ self.now }
         ensures closes { Closes pass result }
     {
-        let Pass { mut seat } = pass;
+        let Pass {
+            mut seat,
+            schemas: _,
+        } = pass;
         let hold = self.take(rt, &mut seat);
         hold.into_book().into_store()
     }

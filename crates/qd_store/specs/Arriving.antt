@@ -7,6 +7,8 @@ use Rattle.qd_base.specs.Schemas.{schemas_step}
 use Rattle.qd_ilp.specs.Whole.{Reading}
 use Rattle.qd_lines.specs.Walks.{SaysOf}
 use Rattle.qd_meaning.specs.Write.{write}
+use Rattle.qd_prepare.specs.declared.prepare.Prepared.{Prepared}
+use Rattle.qd_prepare.specs.Prepared.{IsPrepared}
 use Rattle.qd_sql_ast.specs.declared.tree.Stmt.{Stmt}
 use Rattle.qd_sequencer.specs.Sequences.{Sequence, chosen, with_writer}
 use Rattle.qd_wal.specs.declared.writer.WalWriter.{WalWriter}
@@ -15,6 +17,10 @@ use Rattle.qd_wal.specs.Segments.{behind, ref_for}
 -- what the lines of a batch say, where those without a stamp take the time `now`
 abbrev pub SaysLines : List Schema → ℕ → Reading → Entry → Type 0
 SaysLines schemas now batch e = SaysOf schemas now batch (Ok e)
+
+-- The transaction of a batch is ready to be committed behind some schemas.
+abbrev pub IsReady : List Schema → ℕ → Reading → Prepared → Type 0
+IsReady schemas now batch p = (e : Entry) × SaysLines schemas now batch e × IsPrepared schemas e p
 
 -- what a statement does
 abbrev pub SaysStmt : List Schema → Stmt → Entry → Type 0

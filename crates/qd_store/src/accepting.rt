@@ -8,20 +8,43 @@ ghost use Rattle.qd_prepare.specs.Prepared.{IsRead, IsShort};
 ghost use Rattle.qd_sql_ast.specs.Kinds.{IsWrite};
 ghost use Rattle.qd_sequencer.specs.Faults.{CountsFault};
 ghost use Rattle.qd_sequencer.specs.Sequences.{IsAsBefore, chosen};
-ghost use Rattle.qd_store.specs.Arriving.{IsBehind, IsPlaced, SaysLines, SaysStmt};
+ghost use Rattle.qd_base.specs.Lawful.{AreSchemas};
+ghost use Rattle.qd_store.specs.Arriving.{IsBehind, IsPlaced, IsReady, SaysLines, SaysStmt};
 ghost use Rattle.qd_store.specs.Calls.{Commits, Stands};
 ghost use Rattle.qd_store.specs.Faults.{Causes, IsFullFor, IsSettled};
-ghost use Rattle.std.specs.Prelude.{◌≡◌, ◌+◌, ◌<◌, ◌≤◌, ℕ, None, Err, length, IfErr, IfOk, OnErr, OnOk};
+ghost use Rattle.std.specs.Prelude.{◌≡◌, ◌+◌, ◌<◌, ◌≤◌, ℕ, None, Err, length, IfErr, IfOk, IfSome, OnErr, OnOk};
 
 use crate::book::Book;
 use crate::fault::{of_lines, of_stmt};
+use qd_base::Schemas;
 use qd_ilp::Batch;
 use qd_io::IoFault;
+use qd_lines::LineFault;
 use qd_prepare::{Prepared, prepare_lines, prepare_stmt};
 use qd_sequencer::{CommitFault, Committed};
 use qd_sql_ast::Stmt;
 use qd_volume::Volume;
 use std::alloc::Global;
+
+/// What was made ready of a batch ahead, or else it is made ready now.
+fn ready_lines(
+    alloc: Global,
+    schemas: &Schemas,
+    batch: &Batch,
+    now: u64,
+    ahead: Option<Prepared>,
+) -> Result<Prepared, LineFault>
+    requires lawful { AreSchemas schemas.now }
+    requires read { IsRead batch.now }
+    requires ahead { IfSome ahead (IsReady schemas.now now batch.now) }
+    ensures prepared { IfOk result (IsReady schemas.now now batch.now) }
+    ensures refused { IfErr result (λ fault. IsLineFault schemas.now now batch.now fault) }
+{
+    match ahead {
+        Some(prepared) => Ok(prepared),
+        None => prepare_lines(alloc, schemas, batch, now),
+    }
+}
 
 impl Book {
     /// Settles what a failed commit may have left: its transaction isn't there. A call that writes begins with it.
@@ -45,8 +68,10 @@ impl Book {
         writer: Option<u32>,
         batch: &Batch,
         now: u64,
+        ahead: Option<Prepared>,
     ) -> Result<Committed, CommitFault>
         requires read { IsRead batch.now }
+        requires ahead { IfSome ahead (IsReady self.old.sequence.schemas now batch.now) }
         ensures limits { self.new.limits ≡ self.old.limits }
         ensures count { IfOk result (λ done. done.n ≡ length self.new.sequence.refs) }
         ensures writer { IfOk result (λ done. done.writer ≡ (chosen self.old.sequence writer).wal) }
@@ -61,7 +86,7 @@ impl Book {
         ensures counted { CountsFault (V.storage volume.old).faults (V.storage volume.new).faults result }
     {
         self.settle(volume)?;
-        match prepare_lines(alloc, self.sequencer.schemas(), batch, now) {
+        match ready_lines(alloc, self.sequencer.schemas(), batch, now, ahead) {
             Ok(Prepared { bytes, schemas }) => self.commit(volume, writer, bytes.bytes(), schemas),
             Err(cause) => Err(of_lines(cause)),
         }

@@ -20,7 +20,7 @@ ghost use Rattle.qd_scan.specs.Sources.{IsBlockOf};
 ghost use Rattle.qd_sequencer.specs.Faults.{CountsFault};
 ghost use Rattle.qd_sequencer.specs.Sequences.{IsAsBefore, chosen, without_writer};
 ghost use Rattle.qd_store.specs.declared.fault.PublishFault.TheVariants as fault;
-ghost use Rattle.qd_store.specs.Arriving.{IsBehind, IsPlaced, SaysLines, SaysStmt};
+ghost use Rattle.qd_store.specs.Arriving.{IsBehind, IsPlaced, IsReady, SaysLines, SaysStmt};
 ghost use Rattle.qd_store.specs.Calls.{Commits, Creates, Stands};
 ghost use Rattle.qd_store.specs.Damage.{IsDraftDamage};
 ghost use Rattle.qd_store.specs.Drafts.{IsDraftOver, IsDraftedFrom, IsMergedOver};
@@ -49,6 +49,7 @@ use qd_durable::LogFault;
 use qd_ilp::Batch;
 use qd_io::IoFault;
 use qd_manifest::Shape;
+use qd_prepare::Prepared;
 use qd_sequencer::{CommitFault, Committed};
 use qd_sql_ast::Stmt;
 use qd_symbols::SymbolMap;
@@ -148,7 +149,8 @@ impl<V: Volume> Store<V> {
     /// Commits the transaction of a batch, which is written behind those of a writer: lines without a stamp take the time `now`, in
     /// microseconds. A writer that isn't kept is replaced by a new one, whose number is that of the transactions before its first.
     /// It makes no rows; it costs three writes and three syncs, time and memory linear in the batch, and a copy of all schemas where
-    /// the batch makes a table or a column. All memory of its own is taken before the first write.
+    /// the batch makes a table or a column. All memory of its own is taken before the first write. Where `ahead` has what
+    /// `prepare_lines` of `qd_prepare` made ready over the store's schemas, the batch isn't read again.
     ///
     /// After an `Ok` the transaction is there for good, as the last of the history. At each moment a crash leaves a whole store with
     /// the history, or with one transaction more: this one, or the one of an earlier commit that failed. After an `Err` all is as
@@ -161,8 +163,10 @@ impl<V: Volume> Store<V> {
         writer: Option<u32>,
         batch: &Batch,
         now: u64,
+        ahead: Option<Prepared>,
     ) -> Result<Committed, CommitFault>
         requires read { IsRead batch.now }
+        requires ahead { IfSome ahead (IsReady self.old.store.sequence.schemas now batch.now) }
         ensures limits { self.new.store.limits ≡ self.old.store.limits }
         ensures count { IfOk result (λ done. done.n ≡ length self.new.store.sequence.refs) }
         ensures writer { IfOk result (λ done. done.writer ≡ (chosen self.old.store.sequence writer).wal) }
@@ -177,7 +181,7 @@ impl<V: Volume> Store<V> {
         ensures counted { CountsFault self.old.storage.faults self.new.storage.faults result }
     {
         self.book
-            .accept_lines(alloc, &mut self.volume, writer, batch, now)
+            .accept_lines(alloc, &mut self.volume, writer, batch, now, ahead)
     }
 
     /// Commits the transaction of a statement that writes, as [`Store::accept_lines`] does that of a batch.
@@ -377,6 +381,13 @@ impl<V: Volume> Store<V> {
         ensures shape { (version : shown.Version) → version_at self.now.store.versions.versions row ≡ Some version → result.now ≡ version.shape }
     {
         self.book.versions.shape_of(row)
+    }
+
+    /// Gives the number that the next new block gets, in constant time.
+    pub fn next_block(&self) -> u64
+        ensures next { result ≡ self.now.store.versions.versions.next_block }
+    {
+        self.book.versions.next_block()
     }
 
     /// Lends the schemas behind all transactions of the history, in constant time.

@@ -124,7 +124,7 @@ impl<V: Volume> StoreParts<V> {
     {
         one_entry_is_read();
         self.last_damage = None;
-        let done = self.store.accept_lines(alloc, writer, batch, now)?;
+        let done = self.store.accept_lines(alloc, writer, batch, now, None)?;
         self.telling
             .turn::<(), Store<V>, Behind<V>>(&(), &self.store);
         Ok(done)

@@ -103,7 +103,7 @@ fn commit_lines(
 ) -> Result<bool, Trouble> {
     let batch = parse_batch(alloc, text)?;
     let said = bytes_of_lines(alloc, store.schemas(), &batch)?;
-    let done = store.accept_lines(alloc, writer, &batch, NOW);
+    let done = store.accept_lines(alloc, writer, &batch, NOW, None);
     record.follow(said, &done)?;
     push_commit(out, &done)
 }

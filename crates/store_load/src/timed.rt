@@ -89,7 +89,7 @@ fn commit<V: Volume>(
     let start = Instant::now(rt)?;
     let batch = parse_batch(alloc, text)?;
     let parsed = micros(rt, &start)?;
-    let _done = store.accept_lines(alloc, Some(0), &batch, 0)?;
+    let _done = store.accept_lines(alloc, Some(0), &batch, 0, None)?;
     Ok(parsed)
 }
 

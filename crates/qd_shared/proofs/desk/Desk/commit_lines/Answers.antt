@@ -32,4 +32,5 @@ returns g c =
     record {
       commits = subst (λ (d : Desk). CommitsTo (batch_at c.args.now c.args.batch.now) (Ok c.in_ok-done.done) d new) c.self.view_is
           (commits_done (batch_at c.args.now c.args.batch.now) old c.accept_lines.new.self c.self.invariant c.in_ok-done.done c.turn.new.self.history i.writer c.one_entry_is_read.ensures e.place e.count e.versions e.limits e.told c.turn.ensures e.counted);
+      sound = c.learn.ensures.sound c.requires.sound;
     }

@@ -1,18 +1,31 @@
-use Rattle.std.proofs.Common.{ap, sym, ◌∙◌}
-use Rattle.qd_score.specs.Calls.{known_by}
-use Rattle.qd_shared.specs.Passes.{Pass}
-use Rattle.qd_shared.proofs.Applying.{applies}
+use Rattle.std.proofs.Common.{◌≡◌, ◌∙◌, Ok, length, subst, arith}
+use Rattle.qd_shared.specs.declared.rounds.Begun.TheVariants as begun
+use Rattle.qd_shared.specs.Desks.{items_in}
+use Rattle.qd_shared.specs.Rounds.{IsBegun}
+use Rattle.qd_shared.proofs.Applying.{answered_wide}
+use Rattle.qd_shared.proofs.Merging.{round_number, round_of}
+use Rattle.qd_shared.proofs.Passing.{passes_both}
 use Rattle.qd_shared.proofs.shared.Shared.catch_up.Goals as goal
 
-pub returns : goal.returns
-returns g c =
-    let same = c.give.ensures.seat.sits.of ∙ sym (ap (λ (p : Pass). p.table) c.pass.view_is ∙ c.requires.pass) in
-    let t = c.take-hold.ensures in
-    let r = c.retire_rows-hold.ensures in
-    let s = c.show_all-hold.ensures in
-    let e = c.clear-hold.ensures in
+pub end_round-requires-clause-round : goal.end_round-requires-clause-round
+end_round-requires-clause-round g c =
+    let b = c.in-Ok-Drafted.ensures.begins in
+    let is : c.in-Ok-Drafted.field-0 ≡ begun.Drafted c.in-Ok-Drafted.draft c.in-Ok-Drafted.next_block = search in
+    let d = subst (λ x. IsBegun (Ok x) b.found b.left) is b.begun in
+    round_of c.begin_round.new.pass b.found b.left c.in-Ok-Drafted.draft c.in-Ok.merged c.in-Ok-Drafted.next_block b.holds.noted b.holds.seen b.history b.calls d.0 d.1 d.2 c.in-Ok.ensures.merged b.passes.count
+
+pub returns-in-Ok : goal.returns-in-Ok
+returns-in-Ok g c =
+    let b = c.in-Ok-Drafted.ensures.begins in
+    let is : c.in-Ok-Drafted.field-0 ≡ begun.Drafted c.in-Ok-Drafted.draft c.in-Ok-Drafted.next_block = search in
+    let d = subst (λ x. IsBegun (Ok x) b.found b.left) is b.begun in
+    let number = round_number b.found (length (items_in b.found)) c.in-Ok-Drafted.draft c.in-Ok.merged d.0 c.in-Ok.ensures.merged in
     record {
-      applies = applies c.args.pass.now c.pass.inside.seat.table_id c.give.new.seat.table_id (known_by c.pass.inside.seat) (known_by c.take-hold.new.seat) (known_by c.retire_rows-hold.new.seat) (known_by c.show_all-hold.new.seat) (known_by c.clear-hold.new.seat) (known_by c.give.new.seat)
-          c.pass.view_is c.pass.invariant.2 c.take-hold.result.book c.retire_rows-hold.result.book c.show_all-hold.result.0.book c.clear-hold.result.book t.begins t.along same r.steps s.steps e.steps e.may c.give.ensures.gave c.give.ensures.counted
-          c.show_all-hold.result.1 r.items s.items e.items r.history s.history e.history r.shown s.shown e.shown s.applied;
+      applies = record {
+        found = b.found;
+        before = b.holds.seen_before;
+        passes = passes_both c.args.pass.now c.begin_round.new.pass c.end_round.new.pass b.passes c.end_round.ensures.passes;
+        answered = answered_wide (length (items_in b.found)) c.in-Ok.merged.upto c.end_round.result c.args.pass.now c.begin_round.new.pass c.end_round.new.pass (omega (arith, number)) b.passes c.end_round.ensures.answered;
+      };
+      alone = λ sole idle. c.end_round.ensures.alone (b.passes.mode ∙ sole) (b.passes.phase ∙ idle);
     }

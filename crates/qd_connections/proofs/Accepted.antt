@@ -62,7 +62,7 @@ module _ {W : Type 0} (stream : W → Stream) where
       ∙ ap₂ (λ (r : Option (List Stream)) (n : ℕ). record began { clock_times = now.clock_times; clock_faults = now.clock_faults; returned = r; starts_failed = n }) wires starts
 
   pub serves_all : (lender l : GName) (began mid now : Supply) (table : TableId) (old new : Arrivals W) (first main : Pass) (starved : Bool) (most : ℕ) (ended : Result ℕ IoFault) (wires : List W) (t : Works W Visit) (failed failed' : ℕ)
-      → Takes wires old.ahead new.ahead → Ends wires most new.closed ended → IsWithin wires most → IsLent lender l began mid table first main → IsCounted stream began mid main starved t → t.out ≡ []
+      → Takes wires old.ahead new.ahead → Ends wires most old.ahead new.ahead new.closed ended → IsWithin wires most → IsLent lender l began mid table first main → IsCounted stream began mid main starved t → t.out ≡ []
       → failed ≡ 0 → Serves wires no_works t failed failed' → now ≡ after_starts failed' mid → ServesAll stream began now old new first main starved most ended
   serves_all lender l began mid now table old new first main starved most ended wires t failed failed' takes ends within lent counted none zero serves told = record {
     wires = wires;

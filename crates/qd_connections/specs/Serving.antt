@@ -23,7 +23,7 @@ module _ {W : Type 0} (stream : W → Stream) where
     pub refused : ℕ
     pub account : IsAccount main began.returned now.returned starved (map stream wires) [] refused
     pub counted : now.starts_failed ≡ counts_together began.starts_failed refused
-    pub ends : Ends wires most new.closed ended
+    pub ends : Ends wires most old.ahead new.ahead new.closed ended
     pub within : IsWithin wires most
     pub rest : now ≡ after_all now began
     pub table : main.table ≡ first.table

@@ -7,7 +7,7 @@ use Rattle.qd_io.specs.Ends.{last_count, counts_together}
 use Rattle.qd_net.specs.Arrivals.{Arrives}
 use Rattle.qd_threads.specs.Jobs.{one_more}
 use Rattle.qd_server.specs.Works.{Works, with_work, back}
-use Rattle.qd_server.specs.Accepting.{Serves, IsOut, GoesOn, Takes, Round, IsWithin, number_of}
+use Rattle.qd_server.specs.Accepting.{Serves, IsOut, GoesOn, Takes, Round, IsEmptied, IsWithin, number_of}
 
 -- an item that is read at a place stands there
 pub got_at : {X : Type 0} (xs : List X) (i : ℕ) (x : X) → x ≡ slice_index_or xs i x → i < length xs → slice_get xs i ≡ Some x
@@ -85,8 +85,18 @@ module _ {W : Type 0} where
   pub number_more : (ws vs : List W) (taken now : ℕ) → taken ≡ number_of ws → length vs ≡ 1 → now ≡ min (taken + 1) last_count → now ≡ number_of (ws ++ vs)
   number_more ws vs taken now is one more = let l = length-append ws vs in omega arith
 
-  pub round_over : (ws : List W) (closed b : Bool) → b ≡ false → Round ws closed (Ok b) → (ws ≡ []) × (closed ≡ true)
-  round_over ws closed b is round = subst (λ t. Round ws closed (Ok t)) is round
+  pub round_over : (ws : List W) (ahead now : Option (List W)) (closed b : Bool) → b ≡ false → Round ws ahead now closed (Ok b) → (ws ≡ []) × (closed ≡ true) × IsEmptied ahead now
+  round_over ws ahead now closed b is round = subst (λ t. Round ws ahead now closed (Ok t)) is round
 
-  pub round_on : (ws : List W) (closed b : Bool) → b ≡ true → Round ws closed (Ok b) → length ws ≡ 1
-  round_on ws closed b is round = subst (λ t. Round ws closed (Ok t)) is round
+  pub round_on : (ws : List W) (ahead now : Option (List W)) (closed b : Bool) → b ≡ true → Round ws ahead now closed (Ok b) → length ws ≡ 1
+  round_on ws ahead now closed b is round = subst (λ t. Round ws ahead now closed (Ok t)) is round
+
+  -- none comes any more, and none is left
+  pub emptied : (ahead now : Option (List W)) → Arrives ahead now (Ok None) → IsEmptied ahead now
+  emptied None now h = tt
+  emptied (Some wires) now h = h.1
+
+  -- nor of those that were ahead before
+  pub emptied_on : (ws : List W) (a b c : Option (List W)) → Takes ws a b → IsEmptied b c → IsEmptied a c
+  emptied_on ws None b c takes none = tt
+  emptied_on ws (Some ahead) b c takes none = subst (λ (o : Option (List W)). IsEmptied o c) takes.2 none

@@ -30,19 +30,25 @@ abbrev pub Takes : {W : Type 0} → List W → Option (List W) → Option (List 
 Takes wires None now = Unit {0}
 Takes {W} wires (Some ahead) now = (rest : List W) × (ahead ≡ wires ++ rest) × (now ≡ Some rest)
 
+-- none is left of the wires ahead, where the listener tells them
+abbrev pub IsEmptied : {W : Type 0} → Option (List W) → Option (List W) → Type 0
+IsEmptied None now = Unit {0}
+IsEmptied (Some ahead) now = now ≡ Some []
+
 -- one wire was taken, or none since none comes any more; where there was a fault one wire may have been given up
-abbrev pub Round : {W : Type 0} → List W → Bool → Result Bool IoFault → Type 0
-Round wires closed (Ok true) = length wires ≡ 1
-Round wires closed (Ok false) = (wires ≡ []) × (closed ≡ true)
-Round wires closed (Err fault) = length wires ≤ 1
+abbrev pub Round : {W : Type 0} → List W → Option (List W) → Option (List W) → Bool → Result Bool IoFault → Type 0
+Round wires ahead now closed (Ok true) = length wires ≡ 1
+Round wires ahead now closed (Ok false) = (wires ≡ []) × (closed ≡ true) × IsEmptied ahead now
+Round wires ahead now closed (Err fault) = length wires ≤ 1
 
 -- how many wires were taken, as far as a count can show it
 abbrev pub number_of : {W : Type 0} → List W → ℕ
 number_of wires = min (length wires) last_count
 
--- a server that ends without a fault has taken as many wires as were asked for, or the listener has answered that none comes
-abbrev pub Ends : {W : Type 0} → List W → ℕ → Bool → Result ℕ IoFault → Type 0
-Ends wires most closed result = IfOk result (λ k. (k ≡ number_of wires) × (((most ≢ 0) × (length wires ≡ most)) ⊎ (closed ≡ true)))
+-- a server that ends without a fault has taken as many wires as were asked for, or the listener has answered that none comes, and
+-- none is left
+abbrev pub Ends : {W : Type 0} → List W → ℕ → Option (List W) → Option (List W) → Bool → Result ℕ IoFault → Type 0
+Ends wires most ahead now closed result = IfOk result (λ k. (k ≡ number_of wires) × (((most ≢ 0) × (length wires ≡ most)) ⊎ ((closed ≡ true) × IsEmptied ahead now)))
 
 -- no more wires are taken than were asked for, where 0 is no end
 abbrev pub IsWithin : {W : Type 0} → List W → ℕ → Type 0
@@ -57,4 +63,4 @@ pub record Site (W J M : Type 0) : Type 0 where
 
 -- A server took some wires and served them; it ended for this reason, and took no more than it was asked for.
 abbrev pub Accepts : {W J M : Type 0} → (M → Works W J → Type 0) → Site W J M → Site W J M → ℕ → Result ℕ IoFault → Type 0
-Accepts {W} works old now most result = (wires : List W) × Takes wires old.listener.ahead now.listener.ahead × GoesOn works old.maker now.maker old.outs now.outs wires old.failed now.failed × Ends wires most now.listener.closed result × IsWithin wires most
+Accepts {W} works old now most result = (wires : List W) × Takes wires old.listener.ahead now.listener.ahead × GoesOn works old.maker now.maker old.outs now.outs wires old.failed now.failed × Ends wires most old.listener.ahead now.listener.ahead now.listener.closed result × IsWithin wires most

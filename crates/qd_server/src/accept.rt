@@ -118,7 +118,7 @@ fn accept_next<
     requires out { HasOut M.works maker.old outs.old.items }
     requires few { length outs.old.items ≤ MOST }
     requires capacity { deque_capacity outs.old ≡ MOST }
-    ensures accepts { (wires : List L.Wire) × Takes wires (L.arrivals listener.old).ahead (L.arrivals listener.new).ahead × GoesOn M.works maker.old maker.new outs.old.items outs.new.items wires threads.old.failed threads.new.failed × Round wires (L.arrivals listener.new).closed result }
+    ensures accepts { (wires : List L.Wire) × Takes wires (L.arrivals listener.old).ahead (L.arrivals listener.new).ahead × GoesOn M.works maker.old maker.new outs.old.items outs.new.items wires threads.old.failed threads.new.failed × Round wires (L.arrivals listener.old).ahead (L.arrivals listener.new).ahead (L.arrivals listener.new).closed result }
     ensures counted { Counts (L.arrivals listener.old).faults (L.arrivals listener.new).faults result }
     ensures few { length outs.new.items ≤ MOST }
     ensures capacity { deque_capacity outs.new ≡ MOST }

@@ -273,17 +273,30 @@ module _ (found : Option (List Entry)) (host host' : Supply) (port most : ℕ) (
   reads-of-serving status.NoMemory n r = refl
   reads-of-serving status.NoListener n r = refl
 
+-- over a volume that isn't made or is whole, and where nothing fails, `serve` finishes unless memory runs out
+complete-serving : (found : Option (List Entry)) (old new : Outside) (port most : ℕ) (t : Traffic) (s : Status) (h : List Entry) → found ≡ Some h → MayFind found old.host.shelf → ServedPort found old.host new.host port most t s
+    → CountsWrites old.output.writes_failed new.output.writes_failed s → NoneFailed old new → (number_of s ≡ 0) ⊎ (number_of s ≡ 7)
+complete-serving found old new port most t status.Finished h is may r writes none = inl refl
+complete-serving found old new port most t status.Usage h is may r writes none = absurd r
+complete-serving found old new port most t status.BadFrame h is may r writes none = absurd r
+complete-serving found old new port most t status.ReadFault h is may r writes none = absurd r
+complete-serving found old new port most t status.WriteFault h is may r writes none = absurd (none.writes writes.1)
+complete-serving found old new port most t status.NoVolume h is may r writes none = absurd (none.volume r.1)
+complete-serving found old new port most t status.Damaged h is may r writes none = absurd (never_damaged reply_bytes found old.host new.host t h [] (subst (λ (o : Option (List Entry)). MayFind o old.host.shelf) is may) r.0)
+complete-serving found old new port most t status.NoMemory h is may r writes none = inr refl
+complete-serving found old new port most t status.NoListener h is may r writes none = absurd (none.listener r.1)
+
 -- what `serve` did
-pub did-serve : (port : ℕ) (dir : List ℕ) (most : Option ℕ) (found : Option (List Entry)) (old new : Outside) (s : Status)
+pub did-serve : (port : ℕ) (dir : List ℕ) (most : Option ℕ) (found : Option (List Entry)) (old new : Outside) (s : Status) → MayFind found old.host.shelf
     → ServedPort found old.host new.host port (limit_of most) (traffic old.input new.input old.output new.output) s → CountsWrites old.output.writes_failed new.output.writes_failed s
     → Names old.host.folders new.host.folders (Some dir) (s ≡ status.NoMemory) → Did (command.Serve port dir most) found old new (number_of s)
-did-serve port dir most found old new s served writes named =
+did-serve port dir most found old new s may served writes named =
     let t = traffic old.input new.input old.output new.output in
     record {
       ends = ends-serving found old.host new.host port (limit_of most) t s port dir most served;
       ran = (s, refl, served);
       folder = folder-of old.host.folders new.host.folders (Some dir) s named;
-      complete = λ h is well none. absurd well;
+      complete = λ h is well none. complete-serving found old new port (limit_of most) t s h is may served writes none;
       damaged = λ damaged none. damaged-serving found old.host new.host port (limit_of most) t s old.output.writes_failed new.output.writes_failed served writes damaged none.writes none.volume;
     }
 

@@ -1,5 +1,5 @@
 -- Connections of a port, from what the store, its passes and the listener say.
-use Rattle.std.proofs.Common.{◌≡◌, ◌∙◌, ◌⊎◌, ℕ, ◌≤◌, ◌<◌, inl, inr, Bool, true, false, List, [], length, map, Option, Some, None, IfSome, Result, Ok, Err, refl, sym, ap, subst, arith, append-nil}
+use Rattle.std.proofs.Common.{◌≡◌, ◌≢◌, ◌∙◌, ◌⊎◌, ℕ, ◌≤◌, ◌<◌, inl, inr, Bool, true, false, List, [], length, map, ◌++◌, Option, Some, None, IfSome, Result, Ok, Err, refl, sym, ap, subst, arith, append-nil}
 use Rattle.std.specs.List.Sorted.{IsPermutation}
 use Rattle.std.proofs.lemmas.List.{length-map, map-append}
 use Rattle.std.proofs.lemmas.List.Elements.{All-nil}
@@ -20,7 +20,7 @@ use Rattle.qd_net.specs.Arrivals.{Arrivals}
 use Rattle.qd_print.specs.Printed.{reply_bytes}
 use Rattle.qd_score_model.specs.declared.view.View.{View}
 use Rattle.qd_score_model.specs.Machine.{shared}
-use Rattle.qd_server.specs.Accepting.{Takes}
+use Rattle.qd_server.specs.Accepting.{Ends, IsEmptied, Takes}
 use Rattle.qd_session.specs.Looks.{Extends}
 use Rattle.qd_session.proofs.RunLemmas.{extends-on}
 use Rattle.qd_shared.specs.declared.item.Item.{Item}
@@ -42,7 +42,7 @@ use Rattle.qd_wal.specs.Laws.{OneEntryIsRead}
 use Rattle.qd_top.specs.declared.status.Status.{Status}
 use Rattle.qd_top.specs.declared.status.Status.TheVariants as status
 use Rattle.qd_top.specs.Ports.{EndsServing, Listens, ServedBy, listener_status, serving_status}
-use Rattle.qd_top.specs.Run.{AreFirst, AsksFor, CountsWrites, KeepsSome, OverPort, ServedAll, ServedPort, Traffic, fresh, traffic}
+use Rattle.qd_top.specs.Run.{AreEnough, AreFirst, AsksFor, CountsWrites, KeepsSome, OverPort, ServedAll, ServedPort, Traffic, fresh, traffic}
 use Rattle.qd_top.specs.Stores.{HasNoStore, IsServable, Refuses, SaysDamage, SaysFault, begun_of}
 use Rattle.qd_top.proofs.HostLemmas.{asks-failed, asks-memory, asks-ok, counts_none, damaged, put-nothing, unopened}
 
@@ -78,8 +78,8 @@ history_shared first main history origin view is =
     ap (λ (o : Option Desk). history_by (is_told o) (view_of main).seen) origin ∙ ap (λ (v : View Item (List TableParts)). history_by (is_told first.knows.origin) v.seen) view ∙ is
 
 -- no connection was taken
-pub nobody_by : (main : Pass) (host host' : Supply) (most : ℕ) (s : Status) → (view_of main).own ≡ [] → host'.returned ≡ host.returned → host'.starts_failed ≡ host.starts_failed → ServedBy main main host host' most s
-nobody_by main host host' most s none returned starts = record {
+pub nobody_by : (main : Pass) (host host' : Supply) (most : ℕ) (s : Status) → (view_of main).own ≡ [] → host'.returned ≡ host.returned → host'.starts_failed ≡ host.starts_failed → (s ≡ status.Finished → ⊥) → ServedBy main main host host' most s
+nobody_by main host host' most s none returned starts other = record {
   taken = [];
   over = [];
   ahead = first_none host.wires;
@@ -90,6 +90,7 @@ nobody_by main host host' most s none returned starts = record {
   own = subst (λ (ns : List ℕ). IsPermutation [] ns) (sym none) (IsPermutation-refl []);
   turned = starts ∙ counts_none host.starts_failed;
   fed = λ e. All-nil (λ (c : Connection). IsTaken c.fate);
+  enough = λ e. absurd (other e);
   grows = extends_same (history_of main) (history_of main) refl;
 }
 
@@ -97,6 +98,23 @@ first_taken : {W : Type 0} (stream : W → Stream) (wires : List W) (ahead now :
 first_taken stream wires None now told is takes = subst (λ (o : Option (List Stream)). AreFirst (map stream wires) o) is tt
 first_taken stream wires (Some ahead) now told is (rest, whole, later) =
     subst (λ (o : Option (List Stream)). AreFirst (map stream wires) o) is (map stream rest, ap (map stream) whole ∙ map-append stream wires rest)
+
+-- as many were taken as were asked for, or all that were ahead
+enough_by : {W : Type 0} (stream : W → Stream) (wires : List W) (most : ℕ) (ahead now : Option (List W)) (told : Option (List Stream)) {closed : Bool} → shown stream ahead ≡ told → Takes wires ahead now
+    → ((most ≢ 0) × (length wires ≡ most)) ⊎ ((closed ≡ true) × IsEmptied ahead now) → AreEnough most (map stream wires) told
+enough_by stream wires most None now told is takes (inl (some, all)) = inl (some, length-map wires stream ∙ all)
+enough_by stream wires most (Some ahead) now told is takes (inl (some, all)) = inl (some, length-map wires stream ∙ all)
+enough_by stream wires most None now told is takes (inr (none, empty)) = inr (subst (λ (o : Option (List Stream)). IfSome o (λ all. map stream wires ≡ all)) is tt)
+enough_by {W} stream wires most (Some ahead) now told is (rest, whole, later) (inr (none, empty)) =
+    let last : rest ≡ [] = (let e : Some rest ≡ Some [] = sym later ∙ empty in cc) in
+    let same : ahead ≡ wires = whole ∙ (ap (λ (l : List W). wires ++ l) last ∙ append-nil wires) in
+    inr (subst (λ (o : Option (List Stream)). IfSome o (λ all. map stream wires ≡ all)) is (ap (map stream) (sym same)))
+
+finished_by : (starved : Bool) (ended : Result ℕ IoFault) → serving_status starved ended ≡ status.Finished → (count : ℕ) × (ended ≡ Ok count)
+finished_by true ended e = absurd (cc (e))
+finished_by false (Ok count) e = (count, refl)
+finished_by false (Err fault.Failed) e = absurd (cc (e))
+finished_by false (Err fault.Memory) e = absurd (cc (e))
 
 fed_by : (starved : Bool) (ended : Result ℕ IoFault) → (serving_status starved ended ≡ status.NoMemory → ⊥) → starved ≡ false
 fed_by true ended other = absurd (other refl)
@@ -136,6 +154,9 @@ module _ {W : Type 0} (stream : W → Stream) (h0 h1 h2 h3 : Supply) (old new : 
         own = a.own;
         turned = s32 ∙ all.counted ∙ ap (λ (n : ℕ). counts_together n all.refused) s10 ∙ ap (λ (n : ℕ). counts_together h0.starts_failed n) (sym a.turned);
         fed = λ other. a.fed (fed_by starved ended (λ e. other (is ∙ e)));
+        enough = λ e.
+            let (count, well) = finished_by starved ended (sym is ∙ e) in
+            enough_by stream all.wires most old.ahead new.ahead h0.wires told all.takes (subst (λ (r : Result ℕ IoFault). Ends all.wires most old.ahead new.ahead new.closed r) well all.ends).1;
         grows = all.grows;
       }
 
@@ -159,6 +180,11 @@ module _ {W : Type 0} (stream : W → Stream) (h0 h1 h2 h3 : Supply) (old new : 
       positive : (a b : ℕ) → a ≡ 0 → HasRisen a b → 0 < b
       positive a b zero (inl less) = omega (arith, less)
       positive a b zero (inr last) = omega (arith, last)
+
+-- that there was none is no good end
+pub no_listener_ends : (why : IoFault) (s : Status) → s ≡ listener_status why → s ≡ status.Finished → ⊥
+no_listener_ends fault.Failed s is e = absurd (cc (is, e))
+no_listener_ends fault.Memory s is e = absurd (cc (is, e))
 
 -- there was no listener
 pub listened_not : (T : Type 0) (h0 h1 : Supply) (port : ℕ) (why : IoFault) (s : Status) → h1 ≡ with_listeners_of h1 h0 → hosts.Names {T = T} h0.ports h1.ports (Some port) (Err why) → Counts {T = T} h0.listener_faults h1.listener_faults (Err why) → s ≡ listener_status why → Listens h0 h1 port s
@@ -200,12 +226,13 @@ closed first last host host' host'' most s owned p c kept back =
       counted_in = c.within;
       turned = p.turned;
       fed = p.fed;
+      enough = p.enough;
     })
 
 -- a store that wasn't shared is given back
 pub unshared : (found : Option (List Entry)) (host host' : Supply) (most : ℕ) (s : Status) (owned : Owned) → IfSome found (IsTold owned)
-    → ((history : Option (List Entry)) → IfSome history (IsTold owned) → IfSome history (KeepsSome owned.storage.disk)) → host' ≡ after_volume owned.storage host → ServedAll found host host' most s
-unshared found host host' most s owned told kept back =
+    → ((history : Option (List Entry)) → IfSome history (IsTold owned) → IfSome history (KeepsSome owned.storage.disk)) → host' ≡ after_volume owned.storage host → (s ≡ status.Finished → ⊥) → ServedAll found host host' most s
+unshared found host host' most s owned told kept back other =
     subst (λ (h : Supply). ServedAll found host h most s) (sym back)
     (record {
       history = found;
@@ -225,6 +252,7 @@ unshared found host host' most s owned told kept back =
       counted_in = none_counted found;
       turned = counts_none host.starts_failed;
       fed = λ e. All-nil (λ (c : Connection). IsTaken c.fate);
+      enough = λ e. absurd (other e);
     })
   where
     none_counted : (history : Option (List Entry)) → IfSome history (λ h. 0 ≤ length h)
@@ -269,6 +297,7 @@ module _ (found : Option (List Entry)) (given host host' : Supply) (port most : 
     counted_in = a.counted_in;
     turned = a.turned ∙ ap (λ (n : ℕ). counts_together n (refusals_in a.over)) still.starts_failed;
     fed = a.fed;
+    enough = λ e. subst (λ (o : Option (List Stream)). AreEnough most a.taken o) still.wires (a.enough e);
   }
 
   listens_since : (s : Status) → AsksFor host.ports host'.ports (Some port) ⊎ ((s ≡ status.NoMemory) × (host'.ports ≡ host.ports)) → AsksFor given.ports host'.ports (Some port) ⊎ ((s ≡ status.NoMemory) × (host'.ports ≡ given.ports))

@@ -12,7 +12,7 @@ use Rattle.qd_session.specs.Looks.{Extends}
 use Rattle.qd_shared.specs.Passes.{Pass, history_of, view_of}
 use Rattle.qd_top.specs.declared.status.Status.{Status}
 use Rattle.qd_top.specs.declared.status.Status.TheVariants as status
-use Rattle.qd_top.specs.Run.{AreFirst, AsksFor}
+use Rattle.qd_top.specs.Run.{AreEnough, AreFirst, AsksFor}
 
 -- the status where there is no listener, or it has failed
 abbrev pub listener_status : IoFault → Status
@@ -52,4 +52,5 @@ pub record ServedBy (first last : Pass) (host host' : Supply) (most : ℕ) (s : 
   pub own : IsPermutation (flat_map numbers_of over) (view_of last).own
   pub turned : host'.starts_failed ≡ counts_together host.starts_failed (refusals_in over)
   pub fed : (s ≡ status.NoMemory → ⊥) → All (λ c. IsTaken c.fate) over
+  pub enough : s ≡ status.Finished → AreEnough most taken host.wires
   pub grows : Extends (history_of first) (history_of last)

@@ -318,6 +318,10 @@ abbrev pub AreFirst : List Stream → Option (List Stream) → Type 0
 AreFirst taken None = Unit {0}
 AreFirst taken (Some wires) = (rest : List Stream) × (wires ≡ taken ++ rest)
 
+-- they are as many as were asked for, where that isn't 0, or all of them, where those are told
+abbrev pub AreEnough : ℕ → List Stream → Option (List Stream) → Type 0
+AreEnough most taken wires = ((most ≢ 0) × (length taken ≡ most)) ⊎ IfSome wires (λ all. taken ≡ all)
+
 -- A volume keeps this history, and behind it at most one transaction, of a write that failed.
 abbrev pub KeepsSome : Option Disk → List Entry → Type 0
 KeepsSome shelf h = (left : Option Entry) × (n : ℕ) × KeepsTold shelf h left n
@@ -335,6 +339,8 @@ pub record ServedAll (found : Option (List Entry)) (host host' : Supply) (most :
   pub over : List Connection
   pub first : AreFirst taken host.wires
   pub within : most ≢ 0 → length taken ≤ most
+  -- it has finished once enough were taken
+  pub enough : s ≡ status.Finished → AreEnough most taken host.wires
   pub once : IsPermutation taken (map (λ c. c.before) over)
   pub back : CameBack host.returned host'.returned (map (λ c. c.after) over)
   pub each : All (IsFated history) over
@@ -409,17 +415,18 @@ EndsWith (command.Run dir) number = (number ≡ 0) ⊎ (number ≡ 2) ⊎ (numbe
 EndsWith (command.Gen number_given lines) number = (number ≡ 0) ⊎ (number ≡ 4) ⊎ (number ≡ 5) ⊎ (number ≡ 6) ⊎ (number ≡ 7)
 EndsWith (command.Serve port dir most) number = (number ≡ 0) ⊎ (number ≡ 4) ⊎ (number ≡ 5) ⊎ (number ≡ 6) ⊎ (number ≡ 7) ⊎ (number ≡ 8)
 
--- what `run` serves is whole frames, where that is told; what `gen` serves always is; of what `serve` serves nothing is said
+-- what `run` serves is whole frames, where that is told; what `gen` serves always is; `serve` finishes whatever is sent
 abbrev pub IsServedWell : Command → Option (List ℕ) → Type 0
 IsServedWell (command.Run dir) input = IsWellFramed input
 IsServedWell (command.Gen number lines) input = Unit {0}
-IsServedWell (command.Serve port dir most) input = ⊥
+IsServedWell (command.Serve port dir most) input = Unit {0}
 
--- no count of failures has risen: of reads, of writes, and of the volume
+-- no count of failures has risen: of reads, of writes, of the volume, and of listeners
 pub record NoneFailed (old new : Outside) : Type 0 where
   pub reads : HasRisen old.input.reads_failed new.input.reads_failed → ⊥
   pub writes : HasRisen old.output.writes_failed new.output.writes_failed → ⊥
   pub volume : HasRisen old.host.volume_faults new.host.volume_faults → ⊥
+  pub listener : HasRisen old.host.listener_faults new.host.listener_faults → ⊥
 
 -- What a command did where the program ended with a number.
 pub record Did (asked : Command) (found : Option (List Entry)) (old new : Outside) (number : ℕ) : Type 0 where

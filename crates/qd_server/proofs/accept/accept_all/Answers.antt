@@ -5,7 +5,7 @@ use Rattle.qd_server.proofs.accept.accept_all.Goals as goal
 
 pub returns-in_err-outs-clause-accepts : goal.returns-in_err-outs-clause-accepts
 returns-in_err-outs-clause-accepts g c =
-    let ends : Ends {W = g.row.L-Wire.Denot} [] c.args.most (g.L.Listener.arrivals c.args.listener.now).closed c.from_residual.result = search rules in
+    let ends : Ends {W = g.row.L-Wire.Denot} [] c.args.most (g.L.Listener.arrivals c.args.listener.now).ahead (g.L.Listener.arrivals c.args.listener.now).ahead (g.L.Listener.arrivals c.args.listener.now).closed c.from_residual.result = search rules in
     ([], takes_nothing (g.L.Listener.arrivals c.args.listener.now).ahead, goes_nowhere g.M.Maker.works c.args.maker.now [] c.args.threads.now.failed, ends, (λ ne. zero-le))
 
 pub returns-clause-accepts : goal.returns-clause-accepts

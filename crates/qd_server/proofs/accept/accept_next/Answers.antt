@@ -9,7 +9,7 @@ admit-requires-clause-out g c κs within = still_out g.M.Maker.works c.args.make
 
 pub returns-in_err-wire-clause-accepts : goal.returns-in_err-wire-clause-accepts
 returns-in_err-wire-clause-accepts g c =
-    let round : Round {W = g.row.L-Wire.Denot} [] (g.L.Listener.arrivals c.next_wire.new.self).closed c.from_residual.result = search rules in (
+    let round : Round {W = g.row.L-Wire.Denot} [] (g.L.Listener.arrivals c.args.listener.now).ahead (g.L.Listener.arrivals c.next_wire.new.self).ahead (g.L.Listener.arrivals c.next_wire.new.self).closed c.from_residual.result = search rules in (
       [],
       takes_none (g.L.Listener.arrivals c.args.listener.now).ahead (g.L.Listener.arrivals c.next_wire.new.self).ahead _ c.in_err-wire.ensures.told,
       c.make_room.ensures.goes_on c.args.threads.now.failed,
@@ -19,7 +19,7 @@ returns-in_err-wire-clause-accepts g c =
 pub returns-in_err-admit-clause-accepts : goal.returns-in_err-admit-clause-accepts
 returns-in_err-admit-clause-accepts g c =
     let told = subst (λ o. Arrives (g.L.Listener.arrivals c.args.listener.now).ahead (g.L.Listener.arrivals c.next_wire.new.self).ahead (Ok o)) c.in-Some.is c.in_ok-wire.ensures.told in
-    let round : Round (c.in-Some.wire ∷ []) (g.L.Listener.arrivals c.next_wire.new.self).closed c.from_residual-in_err-admit.result = search rules in (
+    let round : Round (c.in-Some.wire ∷ []) (g.L.Listener.arrivals c.args.listener.now).ahead (g.L.Listener.arrivals c.next_wire.new.self).ahead (g.L.Listener.arrivals c.next_wire.new.self).closed c.from_residual-in_err-admit.result = search rules in (
       c.in-Some.wire ∷ [],
       takes_one c.in-Some.wire (g.L.Listener.arrivals c.args.listener.now).ahead (g.L.Listener.arrivals c.next_wire.new.self).ahead told,
       goes_further g.M.Maker.works c.args.maker.now c.make_room.new.maker c.admit.new.maker c.args.outs.now.items c.make_room.new.outs.items c.admit.new.outs.items [] (c.in-Some.wire ∷ []) c.args.threads.now.failed c.args.threads.now.failed c.admit.new.threads.failed

@@ -1,13 +1,13 @@
 use Rattle.std.proofs.Common.{ap}
 use Rattle.qd_host.specs.Hosts.{Supply}
-use Rattle.qd_top.proofs.PortLemmas.{listened, listened_not, nobody_by, passed_by}
+use Rattle.qd_top.proofs.PortLemmas.{listened, listened_not, no_listener_ends, nobody_by, passed_by}
 use Rattle.qd_top.proofs.ports.serve_listener.Goals as goal
 
 pub returns-in-Err-clause-served : goal.returns-in-Err-clause-served
 returns-in-Err-clause-served g c =
     let old = g.H.Host.supply c.args.host.now in
     let new = g.H.Host.supply c.listener.new.self in
-    nobody_by c.args.main old new c.args.most c.without_listener.result c.requires.new (ap (λ (h : Supply). h.returned) c.listener.ensures.rest) (ap (λ (h : Supply). h.starts_failed) c.listener.ensures.rest)
+    nobody_by c.args.main old new c.args.most c.without_listener.result c.requires.new (ap (λ (h : Supply). h.returned) c.listener.ensures.rest) (ap (λ (h : Supply). h.starts_failed) c.listener.ensures.rest) (no_listener_ends c.in-Err.fault c.without_listener.result c.without_listener.ensures.status)
 
 pub returns-in-Err-clause-listens : goal.returns-in-Err-clause-listens
 returns-in-Err-clause-listens g c =

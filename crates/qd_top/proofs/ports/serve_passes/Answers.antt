@@ -19,7 +19,7 @@ pub returns-in-Err-clause-served : goal.returns-in-Err-clause-served
 returns-in-Err-clause-served g c =
     let host = g.H.Host.supply c.args.host.now in
     let last = g.H.Host.supply c.put_back-in-Err.new.host in
-    closed c.args.main c.args.main host host last c.args.most status.NoMemory c.close-in-Err.result (nobody_by c.args.main host host c.args.most status.NoMemory c.requires.new refl refl) c.close-in-Err.ensures.closes c.put_back-in-Err.ensures.kept c.put_back-in-Err.ensures.back
+    closed c.args.main c.args.main host host last c.args.most status.NoMemory c.close-in-Err.result (nobody_by c.args.main host host c.args.most status.NoMemory c.requires.new refl refl (λ e. absurd (cc (e)))) c.close-in-Err.ensures.closes c.put_back-in-Err.ensures.kept c.put_back-in-Err.ensures.back
 
 pub returns-in-Err-clause-listens : goal.returns-in-Err-clause-listens
 returns-in-Err-clause-listens g c =

@@ -16,4 +16,4 @@ returns-in-Ok-clause-served g c =
 pub returns-in-Err-clause-served : goal.returns-in-Err-clause-served
 returns-in-Err-clause-served g c =
     let begins = subst (λ (o : Owned). BeginsWith c.args.told.now.history o) (sym c.in-Err.ensures.back) c.requires.told in
-    unshared c.args.told.now.history (g.H.Host.supply c.args.host.now) (g.H.Host.supply c.put_back.new.host) c.args.most status.NoMemory c.in-Err.store (told_over c.args.told.now.history c.in-Err.store begins) c.put_back.ensures.kept c.put_back.ensures.back
+    unshared c.args.told.now.history (g.H.Host.supply c.args.host.now) (g.H.Host.supply c.put_back.new.host) c.args.most status.NoMemory c.in-Err.store (told_over c.args.told.now.history c.in-Err.store begins) c.put_back.ensures.kept c.put_back.ensures.back (λ e. absurd (cc (e)))

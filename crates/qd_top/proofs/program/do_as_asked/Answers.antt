@@ -68,7 +68,7 @@ returns-in-Ok-Some-Serve-clause-answered g c =
     let limit = c.most_of.ensures in
     let served = subst (λ (n : ℕ). ServedPort c.args.told.now.history old.host new.host i.port n (traffic input input old.output new.output) c.serve_port.result) limit (c.serve_port.ensures.served input) in
     answered-command one c.args.words.now c.args.told.now.history old new c.serve_port.result asks
-    (did-serve i.port i.dir i.connections c.args.told.now.history old new c.serve_port.result served c.serve_port.ensures.writes (named-as old.host.folders new.host.folders (ap Some c.bytes.ensures.same) c.serve_port.ensures.named))
+    (did-serve i.port i.dir i.connections c.args.told.now.history old new c.serve_port.result c.requires.found served c.serve_port.ensures.writes (named-as old.host.folders new.host.folders (ap Some c.bytes.ensures.same) c.serve_port.ensures.named))
     (λ done. asks_alone (λ (other : Command). Did other c.args.told.now.history old new (number_of c.serve_port.result)) i.field-0 c.args.words.now one i.ensures.exact found done)
     (reads-of-serving c.args.told.now.history old.host new.host i.port (limit_of i.connections) (traffic input input old.output new.output) c.serve_port.result input.reads_failed served) c.serve_port.ensures.writes (λ other. refl)
 

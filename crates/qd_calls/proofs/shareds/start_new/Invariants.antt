@@ -1,5 +1,5 @@
 use Rattle.std.proofs.Common.{None}
-use Rattle.qd_calls.proofs.shareds.share_new.Given as goal
+use Rattle.qd_calls.proofs.shareds.start_new.Given as goal
 
 abbrev pub ghost-of : goal.ghost-of
 ghost-of a = None

@@ -9,6 +9,8 @@ mod exprs;
 #[cfg(test)]
 mod ports;
 #[cfg(test)]
+mod rounds;
+#[cfg(test)]
 mod shareds;
 #[cfg(test)]
 mod stores;

@@ -9,6 +9,8 @@ mod exprs;
 #[cfg(test)]
 mod ports;
 #[cfg(test)]
+mod removals;
+#[cfg(test)]
 mod rounds;
 #[cfg(test)]
 mod shareds;

@@ -95,6 +95,10 @@ pub record Https : Type 0 where
   pub closing : Bool
   pub asked : Asked
 
+-- a front to which nothing has been fed
+abbrev pub first_https : Https
+first_https = record { waiting = []; start = 0; closing = false; asked = asked.Nothing }
+
 -- what the bytes that wait spell, followed by these
 abbrev pub https_spell : Https → List ℕ → Script → Type 0
 https_spell f more script = MatchBool f.closing (EndsHere script.turns script.ending) (HttpSteps f.start (f.waiting ++ more) script.turns script.ending)

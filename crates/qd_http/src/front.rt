@@ -1,10 +1,10 @@
 //! The front of HTTP.
-ghost use Rattle.std.specs.Prelude.{◌≡◌, ℕ, ◌+◌, List, [], length, false, true, IfOk, OnOk, OnErr};
+ghost use Rattle.std.specs.Prelude.{◌≡◌, ℕ, ◌+◌, List, length, false, true, IfOk, OnOk, OnErr};
 ghost use Rattle.httparse.specs.Grammar.{RequestHead};
 ghost use Rattle.qd_base.specs.declared.request.Request.TheVariants as Request;
 ghost use Rattle.qd_base.specs.Script.{TakesStep, ends_with};
 ghost use Rattle.qd_http.specs.Responses.{printed};
-ghost use Rattle.qd_http.specs.Steps.{BeginsNone, BeginsRequest, IsUnfinished, StepIs, TakesHttp, https_protocol, turn_of};
+ghost use Rattle.qd_http.specs.Steps.{BeginsNone, BeginsRequest, IsUnfinished, StepIs, TakesHttp, first_https, https_protocol, turn_of};
 
 use crate::reader::Reader;
 use crate::reply::{Asked, print_answer};
@@ -44,9 +44,7 @@ impl Model for HttpFront {
 impl HttpFront {
     /// Makes a front to which nothing has been fed. It takes no memory until something is.
     pub fn new(alloc: Global) -> HttpFront
-        ensures waiting { result.waiting ≡ [] }
-        ensures start { result.start ≡ 0 }
-        ensures open_ { result.closing ≡ false }
+        ensures empty { result ≡ first_https }
     {
         HttpFront {
             reader: Reader::new(alloc),

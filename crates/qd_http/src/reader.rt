@@ -179,7 +179,7 @@ impl Reader {
         ensures err { OnErr result (IsUnchanged self.old self.new) }
     {
         let Stage::Body(order) = &self.stage else {
-            return Ok(more());
+            unreachable!();
         };
         let waiting = self.queue.as_slice();
         let size = order.head + order.body as usize;

@@ -5,8 +5,10 @@ use Rattle.std.proofs.lemmas.Fmt.{IsAscii-decimal, decimal_injective, decimal_by
 use Rattle.std.proofs.lemmas.Str.{IsUtf8-from_ascii}
 use Rattle.std.proofs.lemmas.List.{append-nil}
 use Rattle.qd_args.specs.Plain.{IsPlainText, is_plain}
+use Rattle.qd_args.specs.declared.command.Spoken.{Spoken}
+use Rattle.qd_args.specs.declared.command.Spoken.TheVariants as spoken
 use Rattle.qd_args.specs.Pieces as pieces
-use Rattle.qd_args.specs.Pieces.{AreSpelled, IsCount, IsFolder, IsOption, Piece, Spells}
+use Rattle.qd_args.specs.Pieces.{AreSpelled, IsCount, IsFolder, IsOption, Piece, Spells, word_of}
 use Rattle.qd_args.specs.Parts.{BeginsWithNone, IsBehind}
 
 not_both : (w : List ℕ) → is_plain w ≡ true → is_plain w ≡ false → ⊥
@@ -65,17 +67,46 @@ dir_hyphen tail = refl
 connections_hyphen : (tail : List ℕ) → is_plain (codes "--connections" ++ tail) ≡ false
 connections_hyphen tail = refl
 
-two_names : (v w : List ℕ) → codes "--dir" ++ v ≡ codes "--connections" ++ w → ⊥
-two_names v w e =
+front_hyphen : (tail : List ℕ) → is_plain (codes "--front" ++ tail) ≡ false
+front_hyphen tail = refl
+
+-- no word begins with both names
+abbrev AreApart : List ℕ → List ℕ → Type 0
+AreApart name other = (v w : List ℕ) → name ++ v ≡ other ++ w → ⊥
+
+dir_or_connections : AreApart (codes "--dir") (codes "--connections")
+dir_or_connections v w e =
     let bytes : 100 ≡ 99 = ap (λ x. slice_index_or x 2 0) e in
     absurd (omega (arith, bytes))
 
+dir_or_front : AreApart (codes "--dir") (codes "--front")
+dir_or_front v w e =
+    let bytes : 100 ≡ 102 = ap (λ x. slice_index_or x 2 0) e in
+    absurd (omega (arith, bytes))
+
+connections_or_front : AreApart (codes "--connections") (codes "--front")
+connections_or_front v w e =
+    let bytes : 99 ≡ 102 = ap (λ x. slice_index_or x 2 0) e in
+    absurd (omega (arith, bytes))
+
 -- no option has two names
-names_apart : (d t : List ℕ) (o u b c : List (List ℕ)) → IsOption (codes "--dir") d o → IsOption (codes "--connections") t u → o ++ b ≡ u ++ c → ⊥
-names_apart d t o u b c x y e =
-    let k = first_of (codes "--dir") d o b x in
-    let l = first_of (codes "--connections") t u c y in
-    two_names k.0 l.0 (heads (codes "--dir" ++ k.0) (codes "--connections" ++ l.0) k.1 l.1 (sym k.2 ∙ e ∙ l.2))
+names_apart : (name other : List ℕ) → AreApart name other → (d t : List ℕ) (o u b c : List (List ℕ)) → IsOption name d o → IsOption other t u → o ++ b ≡ u ++ c → ⊥
+names_apart name other apart d t o u b c x y e =
+    let k = first_of name d o b x in
+    let l = first_of other t u c y in
+    apart k.0 l.0 (heads (name ++ k.0) (other ++ l.0) k.1 l.1 (sym k.2 ∙ e ∙ l.2))
+
+-- fronts have words of their own
+frames_or_http : codes "frames" ≡ codes "http" → ⊥
+frames_or_http e =
+    let bytes : 102 ≡ 104 = ap (λ x. slice_index_or x 0 0) e in
+    absurd (omega (arith, bytes))
+
+same_front : (f g : Spoken) → word_of f ≡ word_of g → f ≡ g
+same_front spoken.Frames spoken.Frames e = refl
+same_front spoken.Frames spoken.Http e = absurd (frames_or_http e)
+same_front spoken.Http spoken.Frames e = absurd (frames_or_http (sym e))
+same_front spoken.Http spoken.Http e = refl
 
 same_count : (n m : ℕ) (t u : List ℕ) → IsCount n t → IsCount m u → t ≡ u → n ≡ m
 same_count n m t u a b e = decimal_injective n m (omega arith) (omega arith) (sym a.2 ∙ e ∙ b.2)
@@ -89,32 +120,46 @@ one_piece (pieces.word v) (pieces.folder d) f g b c s t e =
     absurd (hyphen_first (codes "--dir") d g c v b dir_hyphen t.1 (sym e ∙ ap (λ x. x ++ b) s.1) s.0.0)
 one_piece (pieces.word v) (pieces.connections n) f g b c s t e =
     absurd (hyphen_first (codes "--connections") t.0 g c v b connections_hyphen t.2 (sym e ∙ ap (λ x. x ++ b) s.1) s.0.0)
+one_piece (pieces.word v) (pieces.front a) f g b c s t e =
+    absurd (hyphen_first (codes "--front") (word_of a) g c v b front_hyphen t (sym e ∙ ap (λ x. x ++ b) s.1) s.0.0)
 one_piece (pieces.folder d) (pieces.word w) f g b c s t e =
     absurd (hyphen_first (codes "--dir") d f b w c dir_hyphen s.1 (e ∙ ap (λ x. x ++ c) t.1) t.0.0)
 one_piece (pieces.folder d) (pieces.folder h) f g b c s t e =
     let same = same_option (codes "--dir") d h f g b c s.1 t.1 e in
     (ap pieces.folder same.0, same.1)
-one_piece (pieces.folder d) (pieces.connections n) f g b c s t e = absurd (names_apart d t.0 f g b c s.1 t.2 e)
+one_piece (pieces.folder d) (pieces.connections n) f g b c s t e =
+    absurd (names_apart (codes "--dir") (codes "--connections") dir_or_connections d t.0 f g b c s.1 t.2 e)
+one_piece (pieces.folder d) (pieces.front a) f g b c s t e =
+    absurd (names_apart (codes "--dir") (codes "--front") dir_or_front d (word_of a) f g b c s.1 t e)
 one_piece (pieces.connections n) (pieces.word w) f g b c s t e =
     absurd (hyphen_first (codes "--connections") s.0 f b w c connections_hyphen s.2 (e ∙ ap (λ x. x ++ c) t.1) t.0.0)
-one_piece (pieces.connections n) (pieces.folder d) f g b c s t e = absurd (names_apart d s.0 g f c b t.1 s.2 (sym e))
+one_piece (pieces.connections n) (pieces.folder d) f g b c s t e =
+    absurd (names_apart (codes "--dir") (codes "--connections") dir_or_connections d s.0 g f c b t.1 s.2 (sym e))
 one_piece (pieces.connections n) (pieces.connections m) f g b c s t e =
     let same = same_option (codes "--connections") s.0 t.0 f g b c s.2 t.2 e in
     (ap pieces.connections (same_count n m s.0 t.0 s.1 t.1 same.0), same.1)
+one_piece (pieces.connections n) (pieces.front a) f g b c s t e =
+    absurd (names_apart (codes "--connections") (codes "--front") connections_or_front s.0 (word_of a) f g b c s.2 t e)
+one_piece (pieces.front a) (pieces.word w) f g b c s t e =
+    absurd (hyphen_first (codes "--front") (word_of a) f b w c front_hyphen s (e ∙ ap (λ x. x ++ c) t.1) t.0.0)
+one_piece (pieces.front a) (pieces.folder d) f g b c s t e =
+    absurd (names_apart (codes "--dir") (codes "--front") dir_or_front d (word_of a) g f c b t.1 s (sym e))
+one_piece (pieces.front a) (pieces.connections n) f g b c s t e =
+    absurd (names_apart (codes "--connections") (codes "--front") connections_or_front t.0 (word_of a) g f c b t.2 s (sym e))
+one_piece (pieces.front a) (pieces.front h) f g b c s t e =
+    let same = same_option (codes "--front") (word_of a) (word_of h) f g b c s t e in
+    (ap pieces.front (same_front a h same.0), same.1)
+
+option_word : (name value : List ℕ) (o : List (List ℕ)) → IsOption name value o → 1 ≤ length o
+option_word name value o (inl e) = let lengths : length o ≡ 2 = ap length e in omega (arith, lengths)
+option_word name value o (inr e) = let lengths : length o ≡ 1 = ap length e in omega (arith, lengths)
 
 -- no piece is spelled by no word
 some_word : (p : Piece) (f : List (List ℕ)) → Spells p f → 1 ≤ length f
 some_word (pieces.word w) f s = let lengths : length f ≡ 1 = ap length s.1 in omega (arith, lengths)
 some_word (pieces.folder d) f s = option_word (codes "--dir") d f s.1
-  where
-    option_word : (name value : List ℕ) (o : List (List ℕ)) → IsOption name value o → 1 ≤ length o
-    option_word name value o (inl e) = let lengths : length o ≡ 2 = ap length e in omega (arith, lengths)
-    option_word name value o (inr e) = let lengths : length o ≡ 1 = ap length e in omega (arith, lengths)
 some_word (pieces.connections n) f s = option_word (codes "--connections") s.0 f s.2
-  where
-    option_word : (name value : List ℕ) (o : List (List ℕ)) → IsOption name value o → 1 ≤ length o
-    option_word name value o (inl e) = let lengths : length o ≡ 2 = ap length e in omega (arith, lengths)
-    option_word name value o (inr e) = let lengths : length o ≡ 1 = ap length e in omega (arith, lengths)
+some_word (pieces.front a) f s = option_word (codes "--front") (word_of a) f s
 
 pub some_words : (p : Piece) (front rest : List (List ℕ)) → Spells p front → front ++ rest ≡ [] → ⊥
 some_words p [] rest s e = let some : 1 ≤ length {A = List ℕ} [] = some_word p [] s in absurd (omega (arith, some))
@@ -159,11 +204,12 @@ other_tail name words rest word tail are is some other value back b = by b.1
 
 -- ---- where no piece is
 
-pub no_plain_text : (words rest : List (List ℕ)) (word : List ℕ) → words ≡ word ∷ rest → (IsPlainText word → ⊥) → ((value : List ℕ) (back : List (List ℕ)) → IsBehind (codes "--dir") words value back → ⊥) → ((value : List ℕ) (back : List (List ℕ)) → IsBehind (codes "--connections") words value back → ⊥) → BeginsWithNone words
-no_plain_text words rest word are other no_dir no_connections (pieces.word w) back b =
+pub no_plain_text : (words rest : List (List ℕ)) (word : List ℕ) → words ≡ word ∷ rest → (IsPlainText word → ⊥) → ((value : List ℕ) (back : List (List ℕ)) → IsBehind (codes "--dir") words value back → ⊥) → ((value : List ℕ) (back : List (List ℕ)) → IsBehind (codes "--connections") words value back → ⊥) → ((value : List ℕ) (back : List (List ℕ)) → IsBehind (codes "--front") words value back → ⊥) → BeginsWithNone words
+no_plain_text words rest word are other no_dir no_connections no_front (pieces.word w) back b =
     other (subst IsPlainText (sym (heads word w rest back (sym are ∙ b.2 ∙ ap (λ (o : List (List ℕ)). o ++ back) b.1.1))) b.1.0)
-no_plain_text words rest word are other no_dir no_connections (pieces.folder d) back b = no_dir d back (b.0, b.1.1, b.2)
-no_plain_text words rest word are other no_dir no_connections (pieces.connections n) back b = no_connections b.1.0 back (b.0, b.1.2, b.2)
+no_plain_text words rest word are other no_dir no_connections no_front (pieces.folder d) back b = no_dir d back (b.0, b.1.1, b.2)
+no_plain_text words rest word are other no_dir no_connections no_front (pieces.connections n) back b = no_connections b.1.0 back (b.0, b.1.2, b.2)
+no_plain_text words rest word are other no_dir no_connections no_front (pieces.front a) back b = no_front (word_of a) back (b.0, b.1, b.2)
 
 -- ---- numbers are plain texts
 

@@ -12,6 +12,15 @@ pub const MAX_GEN_LINES: u32 = 1_000_000;
 /// The greatest number of connections that can be asked for.
 pub const MAX_CONNECTIONS: u32 = 1_000_000;
 
+/// What is spoken on a connection.
+#[derive(Clone, Copy, Debug)]
+pub enum Spoken {
+    /// Frames, as `run` serves them.
+    Frames,
+    /// HTTP.
+    Http,
+}
+
 /// What a command line asks for. Contracts see a folder as its bytes.
 #[derive(Debug, Drop)]
 pub enum Command {
@@ -36,6 +45,8 @@ pub enum Command {
         dir: Txt,
         /// How many connections are served, from 1 to 1,000,000; without end where it is none.
         connections: Option<u32>,
+        /// What is spoken on them.
+        front: Spoken,
     },
 }
 
@@ -43,34 +54,41 @@ pub enum Command {
 pub(super) fn command_of(
     dir: Option<Txt>,
     connections: Option<u32>,
+    front: Option<Spoken>,
     words: &[&str],
 ) -> Option<Command>
-    ensures { (command : Command) → ((result ≡ Some command) ↔ AsksWith command dir connections (map (λ w. w.now) words.now)) }
+    ensures { (command : Command) → ((result ≡ Some command) ↔ AsksWith command dir connections front (map (λ w. w.now) words.now)) }
 {
     match words {
-        ["run"] => run_of(dir, connections),
-        ["gen", number, lines] => gen_of(dir, connections, number, lines),
-        ["serve", port] => serve_of(dir, connections, port),
+        ["run"] => run_of(dir, connections, front),
+        ["gen", number, lines] => gen_of(dir, connections, front, number, lines),
+        ["serve", port] => serve_of(dir, connections, front, port),
         _ => None,
     }
 }
 
-/// The command `run`, which takes no number of connections.
-fn run_of(dir: Option<Txt>, connections: Option<u32>) -> Option<Command>
-    ensures { (command : Command) → ((result ≡ Some command) ↔ AsksWith command dir connections (codes "run" ∷ [])) }
+/// The command `run`, which takes no number of connections and no front.
+fn run_of(dir: Option<Txt>, connections: Option<u32>, front: Option<Spoken>) -> Option<Command>
+    ensures { (command : Command) → ((result ≡ Some command) ↔ AsksWith command dir connections front (codes "run" ∷ [])) }
 {
-    match connections {
-        Some(_) => None,
-        None => Some(Command::Run { dir }),
+    match (connections, front) {
+        (None, None) => Some(Command::Run { dir }),
+        _ => None,
     }
 }
 
 /// The command `gen` of two numbers, where they are such and in range, which takes no option.
-fn gen_of(dir: Option<Txt>, connections: Option<u32>, number: &str, lines: &str) -> Option<Command>
-    ensures { (command : Command) → ((result ≡ Some command) ↔ AsksWith command dir connections (codes "gen" ∷ number.now ∷ lines.now ∷ [])) }
+fn gen_of(
+    dir: Option<Txt>,
+    connections: Option<u32>,
+    front: Option<Spoken>,
+    number: &str,
+    lines: &str,
+) -> Option<Command>
+    ensures { (command : Command) → ((result ≡ Some command) ↔ AsksWith command dir connections front (codes "gen" ∷ number.now ∷ lines.now ∷ [])) }
 {
-    match (dir, connections) {
-        (None, None) => numbered(number, lines),
+    match (dir, connections, front) {
+        (None, None, None) => numbered(number, lines),
         _ => None,
     }
 }
@@ -89,9 +107,14 @@ fn numbered(number: &str, lines: &str) -> Option<Command>
     }
 }
 
-/// The command `serve` of a port, which takes a folder.
-fn serve_of(dir: Option<Txt>, connections: Option<u32>, port: &str) -> Option<Command>
-    ensures { (command : Command) → ((result ≡ Some command) ↔ AsksWith command dir connections (codes "serve" ∷ port.now ∷ [])) }
+/// The command `serve` of a port, which takes a folder. It speaks frames where no front was said.
+fn serve_of(
+    dir: Option<Txt>,
+    connections: Option<u32>,
+    front: Option<Spoken>,
+    port: &str,
+) -> Option<Command>
+    ensures { (command : Command) → ((result ≡ Some command) ↔ AsksWith command dir connections front (codes "serve" ∷ port.now ∷ [])) }
 {
     let dir = dir?;
     let port = port_of(port)?;
@@ -99,6 +122,7 @@ fn serve_of(dir: Option<Txt>, connections: Option<u32>, port: &str) -> Option<Co
         port,
         dir,
         connections,
+        front: front.unwrap_or(Spoken::Frames),
     })
 }
 

@@ -12,6 +12,6 @@ mod reading;
 #[cfg(test)]
 mod tests;
 
-pub use command::{Command, MAX_CONNECTIONS, MAX_GEN_LINES};
+pub use command::{Command, MAX_CONNECTIONS, MAX_GEN_LINES, Spoken};
 pub use laws::words_ask_for_one;
 pub use reading::read_words;

@@ -4,6 +4,7 @@ ghost use Rattle.qd_args.specs.declared.command.Command.{Command};
 ghost use Rattle.qd_args.specs.Parts.{IsLine, IsPlain, SaidAsks, and_piece, said_by, said_of, unsaid};
 ghost use Rattle.qd_args.specs.Words.{Asks};
 
+use crate::command::Spoken;
 use crate::piece::{Piece, first_piece};
 use qd_base::{Memory, Txt};
 use std::alloc::Global;
@@ -17,6 +18,8 @@ pub(super) struct Line<'a> {
     pub(super) dir: Option<&'a [u8]>,
     /// The number of connections that an option gives.
     pub(super) connections: Option<u32>,
+    /// The front that an option names.
+    pub(super) front: Option<Spoken>,
 }
 
 impl<'a> Line<'a> {
@@ -31,6 +34,7 @@ impl<'a> Line<'a> {
             texts,
             dir: None,
             connections: None,
+            front: None,
         })
     }
 
@@ -50,6 +54,7 @@ impl<'a> Line<'a> {
             }
             Piece::Folder(dir) => Ok(self.dir.replace(dir).is_none()),
             Piece::Connections(number) => Ok(self.connections.replace(number).is_none()),
+            Piece::Front(front) => Ok(self.front.replace(front).is_none()),
         }
     }
 }

@@ -1,10 +1,11 @@
 //! The pieces of a command line: its plain words, and its options with their values.
 ghost use Rattle.std.specs.Prelude.{◌≡◌, ◌≢◌, ℕ, List, ◌++◌, MatchOption};
 ghost use Rattle.qd_args.specs.Plain.{IsPlainText};
-ghost use Rattle.qd_args.specs.Pieces.{IsCount, IsFolder};
+ghost use Rattle.qd_args.specs.declared.command.Spoken.{Spoken};
+ghost use Rattle.qd_args.specs.Pieces.{IsCount, IsFolder, word_of};
 ghost use Rattle.qd_args.specs.Parts.{BeginsWith, BeginsWithNone, IsBehind, said_by};
 
-use crate::command::MAX_CONNECTIONS;
+use crate::command::{MAX_CONNECTIONS, Spoken};
 use crate::number::number_of;
 use qd_base::Txt;
 use std::str;
@@ -18,6 +19,8 @@ pub(super) enum Piece<'a> {
     Folder(&'a [u8]),
     /// The number of connections that an option gives.
     Connections(u32),
+    /// The front that an option names.
+    Front(Spoken),
 }
 
 /// The piece that the words begin with, and the words behind it.
@@ -29,6 +32,9 @@ pub(super) fn first_piece(words: &[Txt]) -> Option<(Piece<'_>, &[Txt])>
     }
     if let Some((value, rest)) = value_of(b"--connections", words) {
         return Some((Piece::Connections(count_of(value)?), rest));
+    }
+    if let Some((value, rest)) = value_of(b"--front", words) {
+        return Some((Piece::Front(front_of(value)?), rest));
     }
     let (word, rest) = words.split_first()?;
     Some((Piece::Word(plain_text(word.bytes())?), rest))
@@ -71,6 +77,17 @@ fn count_of(word: &[u8]) -> Option<u32>
         Some(number)
     } else {
         None
+    }
+}
+
+/// The front of this word, where it is the word of one.
+fn front_of(word: &[u8]) -> Option<Spoken>
+    ensures { MatchOption result ((front : Spoken) → word.now ≢ word_of front) (λ front. word.now ≡ word_of front) }
+{
+    match word {
+        b"frames" => Some(Spoken::Frames),
+        b"http" => Some(Spoken::Http),
+        _ => None,
     }
 }
 

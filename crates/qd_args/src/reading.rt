@@ -5,7 +5,7 @@ ghost use Rattle.qd_args.specs.Parts.{IsLine, SaidAsks, said_of};
 ghost use Rattle.qd_args.specs.Plain.{ArePlain};
 ghost use Rattle.qd_args.specs.Words.{Asks, AsksWith};
 
-use crate::command::{Command, command_of};
+use crate::command::{Command, Spoken, command_of};
 use crate::line::{Line, line_of};
 use clap::error::ErrorKind;
 use clap::{Arg, Command as CommandLine};
@@ -36,7 +36,13 @@ fn read_line(alloc: Global, line: Line<'_>) -> Result<Option<Command>, Memory>
     ensures { IfOk result (λ found. (command : Command) → ((found ≡ Some command) ↔ SaidAsks command (said_of line.entry))) }
 {
     let dir = owned(alloc, line.dir)?;
-    read_texts(alloc, dir, line.connections, line.texts.as_slice())
+    read_texts(
+        alloc,
+        dir,
+        line.connections,
+        line.front,
+        line.texts.as_slice(),
+    )
 }
 
 /// A copy of a folder's name.
@@ -54,16 +60,17 @@ fn read_texts(
     alloc: Global,
     dir: Option<Txt>,
     connections: Option<u32>,
+    front: Option<Spoken>,
     texts: &[&str],
 ) -> Result<Option<Command>, Memory>
     requires { (words : List (List ℕ)) × (map (λ t. t.now) texts.now ≡ codes "tsdb" ∷ words) × ArePlain words }
-    ensures { IfOk result (λ found. (command : Command) → ((found ≡ Some command) ↔ AsksWith command dir connections (drop 1 (map (λ t. t.now) texts.now)))) }
+    ensures { IfOk result (λ found. (command : Command) → ((found ≡ Some command) ↔ AsksWith command dir connections front (drop 1 (map (λ t. t.now) texts.now)))) }
 {
     let words = Arg::new(alloc, WORDS).num_args(0..);
     let line = CommandLine::new(alloc, "tsdb").arg(words)?;
     match line.try_get_matches_from(texts) {
         Ok(matches) => match matches.get_strs(WORDS) {
-            Some(words) => Ok(command_of(dir, connections, words)),
+            Some(words) => Ok(command_of(dir, connections, front, words)),
             None => Ok(None),
         },
         Err(error) => {

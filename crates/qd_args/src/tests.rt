@@ -1,5 +1,5 @@
 //! Lines of words, and what they ask for, where no case of the built program says it.
-use super::{Command, read_words};
+use super::{Command, Spoken, read_words};
 use qd_base::{Memory, Txt};
 use std::alloc::Global;
 use std::test::Fail;
@@ -14,7 +14,7 @@ fn asked(alloc: Global, words: &[&[u8]]) -> Result<Option<Command>, Memory> {
 }
 
 /// Lines of words that ask for nothing.
-const OTHERS: [&[&[u8]]; 40] = [
+const OTHERS: [&[&[u8]]; 46] = [
     &[b"run "],
     &[b"-"],
     &[b"--"],
@@ -61,6 +61,12 @@ const OTHERS: [&[&[u8]]; 40] = [
     &[b"serve", b"1", b"--dir=d", b"--connection", b"1"],
     &[b"run", b"--dir=d", b"--connections=1"],
     &[b"gen", b"1", b"1", b"--connections=1"],
+    &[b"serve", b"1", b"--dir=d", b"--front"],
+    &[b"serve", b"1", b"--dir=d", b"--front="],
+    &[b"serve", b"1", b"--dir=d", b"--front", b"HTTP"],
+    &[b"serve", b"1", b"--dir=d", b"--front=http", b"--front=http"],
+    &[b"run", b"--dir=d", b"--front=frames"],
+    &[b"gen", b"1", b"1", b"--front", b"http"],
 ];
 
 #[test]
@@ -117,7 +123,7 @@ fn words_that_name_a_folder(rt: HostRuntime) -> Result<(), Fail> {
     Ok(())
 }
 
-/// Whether what was found is to serve connections at this port, over the folder `d`, so many of them.
+/// Whether what was found is to serve connections at this port, over the folder `d`, so many of them, in frames.
 fn serves(found: &Option<Command>, at: u16, most: Option<u32>) -> bool {
     match found {
         Some(
@@ -125,14 +131,15 @@ fn serves(found: &Option<Command>, at: u16, most: Option<u32>) -> bool {
                 port,
                 dir,
                 connections,
+                front: Spoken::Frames,
             },
         ) => *port == at && dir.bytes() == b"d".as_slice() && *connections == most,
         _ => false,
     }
 }
 
-/// Lines of words that are to serve connections at port 80, three or without end.
-const SERVERS: [(&[&[u8]], Option<u32>); 9] = [
+/// Lines of words that are to serve connections at port 80, three or without end, in frames.
+const SERVERS: [(&[&[u8]], Option<u32>); 10] = [
     (&[b"serve", b"80", b"--dir", b"d"], None),
     (&[b"--dir=d", b"serve", b"80"], None),
     (&[b"serve", b"--dir", b"d", b"80"], None),
@@ -154,6 +161,7 @@ const SERVERS: [(&[&[u8]], Option<u32>); 9] = [
         Some(3),
     ),
     (&[b"--connections=3", b"serve", b"80", b"--dir=d"], Some(3)),
+    (&[b"serve", b"80", b"--dir=d", b"--front", b"frames"], None),
 ];
 
 #[test]
@@ -165,5 +173,39 @@ fn words_to_serve_connections(rt: HostRuntime) -> Result<(), Fail> {
     assert!(rt; serves(&asked(rt.alloc(), &least)?, 1, None));
     let greatest: [&[u8]; 4] = [b"serve", b"65535", b"--dir=d", b"--connections=1000000"];
     assert!(rt; serves(&asked(rt.alloc(), &greatest)?, 65_535, Some(1_000_000)));
+    Ok(())
+}
+
+/// Whether what was found is to serve connections in HTTP.
+fn speaks_http(found: &Option<Command>) -> bool {
+    match found {
+        Some(
+            Command::Serve {
+                front: Spoken::Http,
+                ..
+            },
+        ) => true,
+        _ => false,
+    }
+}
+
+/// Lines of words that are to serve connections in HTTP.
+const SPEAKERS: [&[&[u8]]; 3] = [
+    &[b"serve", b"80", b"--dir=d", b"--front", b"http"],
+    &[b"--front=http", b"serve", b"80", b"--dir", b"d"],
+    &[
+        b"serve",
+        b"--dir=d",
+        b"--front=http",
+        b"--connections=3",
+        b"80",
+    ],
+];
+
+#[test]
+fn words_to_serve_http(rt: HostRuntime) -> Result<(), Fail> {
+    for words in SPEAKERS {
+        assert!(rt; speaks_http(&asked(rt.alloc(), words)?));
+    }
     Ok(())
 }

@@ -2,6 +2,7 @@
 use Rattle.std.proofs.Common.{◌≡◌, ◌∙◌, ℕ, Bool, false, List, [], ◌++◌, length, map, Option, Result, refl, sym, ap, ap₂, subst, arith}
 use Rattle.std.specs.Borrow.{GName}
 use Rattle.atomic_table.specs.Seated.{TableId}
+use Rattle.qd_fronts.specs.declared.front.FrontKind.{FrontKind}
 use Rattle.qd_host.specs.Hosts.{Supply, after_starts}
 use Rattle.qd_io.specs.Clocks.{Times}
 use Rattle.qd_io.specs.declared.fault.IoFault.{IoFault}
@@ -33,16 +34,16 @@ lent_begins lender l began now table first main name same shared is = record {
   grows = subst (λ (p : Pass). Extends (history_of p) (history_of main)) is (still_seen (is_told main.knows.origin) (view_of main).seen);
 }
 
-module _ {W : Type 0} (stream : W → Stream) where
-  pub counted_begins : (began now : Supply) (main : Pass) (starved : Bool) → now ≡ began → starved ≡ false → (view_of main).own ≡ [] → IsMain main 0 MOST → IsCounted stream began now main starved no_works
+module _ {W : Type 0} (stream : W → Stream) (kind : FrontKind) where
+  pub counted_begins : (began now : Supply) (main : Pass) (starved : Bool) → now ≡ began → starved ≡ false → (view_of main).own ≡ [] → IsMain main 0 MOST → IsCounted stream kind began now main starved no_works
   counted_begins began now main starved same fed none is = record {
-    account = subst (λ (x : Supply). IsAccount main x.returned now.returned starved [] [] 0) same
-        (subst (λ (b : Bool). IsAccount main now.returned now.returned b [] [] 0) (sym fed) (account_begins main now.returned none));
+    account = subst (λ (x : Supply). IsAccount kind main x.returned now.returned starved [] [] 0) same
+        (subst (λ (b : Bool). IsAccount kind main now.returned now.returned b [] [] 0) (sym fed) (account_begins kind main now.returned none));
     main_is = is;
   }
 
   pub works_begin : (lender l : GName) (began now : Supply) (table : TableId) (first main : Pass) (starved : Bool) → l ≡ lender → now ≡ began → table ≡ first.table → main ≡ first → starved ≡ false → (view_of main).own ≡ [] → IsMain main 0 MOST
-      → IsLent lender l began now table first main × IsCounted stream began now main starved no_works
+      → IsLent lender l began now table first main × IsCounted stream kind began now main starved no_works
   works_begin lender l began now table first main starved name same shared is fed none main_is =
       (lent_begins lender l began now table first main name same shared is, counted_begins began now main starved same fed none main_is)
 
@@ -62,15 +63,15 @@ module _ {W : Type 0} (stream : W → Stream) where
       ∙ ap₂ (λ (r : Option (List Stream)) (n : ℕ). record began { clock_times = now.clock_times; clock_faults = now.clock_faults; returned = r; starts_failed = n }) wires starts
 
   pub serves_all : (lender l : GName) (began mid now : Supply) (table : TableId) (old new : Arrivals W) (first main : Pass) (starved : Bool) (most : ℕ) (ended : Result ℕ IoFault) (wires : List W) (t : Works W Visit) (failed failed' : ℕ)
-      → Takes wires old.ahead new.ahead → Ends wires most old.ahead new.ahead new.closed ended → IsWithin wires most → IsLent lender l began mid table first main → IsCounted stream began mid main starved t → t.out ≡ []
-      → failed ≡ 0 → Serves wires no_works t failed failed' → now ≡ after_starts failed' mid → ServesAll stream began now old new first main starved most ended
+      → Takes wires old.ahead new.ahead → Ends wires most old.ahead new.ahead new.closed ended → IsWithin wires most → IsLent lender l began mid table first main → IsCounted stream kind began mid main starved t → t.out ≡ []
+      → failed ≡ 0 → Serves wires no_works t failed failed' → now ≡ after_starts failed' mid → ServesAll stream kind began now old new first main starved most ended
   serves_all lender l began mid now table old new first main starved most ended wires t failed failed' takes ends within lent counted none zero serves told = record {
     wires = wires;
     takes = takes;
     refused = length t.unstarted;
-    account = subst (λ (r : Option (List Stream)). IsAccount main began.returned r starved (map stream wires) [] (length t.unstarted)) (sym (ap (λ (s : Supply). s.returned) told))
-        (subst (λ (o : List Visit). IsAccount main began.returned mid.returned starved (map stream wires) o (length t.unstarted)) none
-        (subst (λ (l : List W). IsAccount main began.returned mid.returned starved (map stream l) t.out (length t.unstarted)) serves.taken counted.account));
+    account = subst (λ (r : Option (List Stream)). IsAccount kind main began.returned r starved (map stream wires) [] (length t.unstarted)) (sym (ap (λ (s : Supply). s.returned) told))
+        (subst (λ (o : List Visit). IsAccount kind main began.returned mid.returned starved (map stream wires) o (length t.unstarted)) none
+        (subst (λ (l : List W). IsAccount kind main began.returned mid.returned starved (map stream l) t.out (length t.unstarted)) serves.taken counted.account));
     counted =
         let many : failed' ≡ counts_together 0 (length t.unstarted) = serves.counted ∙ ap₂ (λ (a b : ℕ). counts_together a b) zero (sym (ap length serves.unstarted)) in
         let same : mid.starts_failed ≡ began.starts_failed = ap (λ (s : Supply). s.starts_failed) lent.rest in

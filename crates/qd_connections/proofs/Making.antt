@@ -10,6 +10,7 @@ use Rattle.std.proofs.lemmas.List.Elements.{All-head}
 use Rattle.std.proofs.lemmas.List.Sorted.{All-permutation, IsPermutation-remove, IsPermutation-sym, IsPermutation-to_front, length_permutation}
 use mathlib.Core.List.{IsPrefix}
 use Rattle.atomic_table.specs.Seated.{TableId}
+use Rattle.qd_fronts.specs.declared.front.FrontKind.{FrontKind}
 use Rattle.qd_base.specs.declared.op.Entry.{Entry}
 use Rattle.qd_host.specs.Hosts.{Returns, Supply, after_clock, with_returned, without_clock}
 use Rattle.qd_io.specs.Clocks.{Timeline, Times}
@@ -116,25 +117,25 @@ taken_out xs i x is = IsPermutation-remove xs i x (slice_get_within xs i x is) (
 pub all_at : {X : Type 0} (P : X → Type 0) (xs : List X) (i : ℕ) (x : X) → slice_get xs i ≡ Some x → All P xs → P x
 all_at P xs i x is h = All-head P x (remove xs i) (All-permutation P xs (x ∷ remove xs i) (taken_out xs i x is) h)
 
-module _ {W : Type 0} (stream : W → Stream) (began now : Supply) where
+module _ {W : Type 0} (stream : W → Stream) (kind : FrontKind) (began now : Supply) where
   abbrev Counted : Supply → Pass → Bool → Works W Visit → Type 0
-  Counted supply main starved s = IsCounted stream began supply main starved s
+  Counted supply main starved s = IsCounted stream kind began supply main starved s
 
   -- a wire more is taken
   one_taken : (s : Works W Visit) (wire : W) → map stream (s.taken ++ wire ∷ []) ≡ map stream s.taken ++ stream wire ∷ []
   one_taken s wire = map-append stream s.taken (wire ∷ [])
 
   pub counted_with_work : (then : Supply) (main later : Pass) (starved : Bool) (s : Works W Visit) (wire : W) (v : Visit)
-      → then.returned ≡ now.returned → GoesOnAs main later → view_of later ≡ lent (view_of main) → v.wire ≡ stream wire → IsOfMain later v → length s.out < MOST
+      → then.returned ≡ now.returned → GoesOnAs main later → view_of later ≡ lent (view_of main) → v.wire ≡ stream wire → IsOfMain kind later v → length s.out < MOST
       → Counted now main starved s → Counted then later starved (with_work s wire v)
   counted_with_work then main later starved s wire v same on view is mine few k =
-      let a = account_with_work main later began.returned now.returned starved (map stream s.taken) s.out (length s.unstarted) (stream wire) v on (ap (λ (x : View Item (List TableParts)). x.own) view) is mine k.account in
+      let a = account_with_work kind main later began.returned now.returned starved (map stream s.taken) s.out (length s.unstarted) (stream wire) v on (ap (λ (x : View Item (List TableParts)). x.own) view) is mine k.account in
       let room : (view_of later).room ≡ (view_of main).room - 1 = ap (λ (x : View Item (List TableParts)). x.room) view in
       let count = length-append s.out (v ∷ []) in
       let enough = k.main_is.room in
       record {
-        account = subst (λ (r : Option (List Stream)). IsAccount later began.returned r starved (map stream (s.taken ++ wire ∷ [])) (s.out ++ v ∷ []) (length s.unstarted)) (sym same)
-            (subst (λ (l : List Stream). IsAccount later began.returned now.returned starved l (s.out ++ v ∷ []) (length s.unstarted)) (sym (one_taken s wire)) a);
+        account = subst (λ (r : Option (List Stream)). IsAccount kind later began.returned r starved (map stream (s.taken ++ wire ∷ [])) (s.out ++ v ∷ []) (length s.unstarted)) (sym same)
+            (subst (λ (l : List Stream). IsAccount kind later began.returned now.returned starved l (s.out ++ v ∷ []) (length s.unstarted)) (sym (one_taken s wire)) a);
         main_is = record {
           mode = ap (λ (x : View Item (List TableParts)). x.mode) view ∙ k.main_is.mode;
           idle = ap (λ (x : View Item (List TableParts)). x.phase) view ∙ k.main_is.idle;
@@ -145,8 +146,8 @@ module _ {W : Type 0} (stream : W → Stream) (began now : Supply) where
   pub counted_given_up : (then : Supply) (main : Pass) (starved : Bool) (s : Works W Visit) (wire : W) → Returns now.returned then.returned (stream wire)
       → Counted now main starved s → Counted then main true (with_wire s wire)
   counted_given_up then main starved s wire back k = record {
-    account = subst (λ (l : List Stream). IsAccount main began.returned then.returned true l s.out (length s.unstarted)) (sym (one_taken s wire))
-        (account_given_up main began.returned now.returned then.returned starved (map stream s.taken) s.out (length s.unstarted) (stream wire) back k.account);
+    account = subst (λ (l : List Stream). IsAccount kind main began.returned then.returned true l s.out (length s.unstarted)) (sym (one_taken s wire))
+        (account_given_up kind main began.returned now.returned then.returned starved (map stream s.taken) s.out (length s.unstarted) (stream wire) back k.account);
     main_is = k.main_is;
   }
 
@@ -168,10 +169,10 @@ module _ {W : Type 0} (stream : W → Stream) (began now : Supply) where
   -- a work that was out is over
   pub counted_over : (then : Supply) (main other later : Pass) (starved : Bool) (s : Works W Visit) (t : Works W Visit) (v : Visit) (after : Stream) (fate : Fate)
       → t.taken ≡ s.taken → IsPermutation s.out (v ∷ t.out) → and_refused fate (length s.unstarted) ≡ length t.unstarted → IsJoined main other later → (view_of other).own ≡ acknowledged fate
-      → HasFate (history_of later) v.wire after fate → IsTaken fate → Returns now.returned then.returned after → Counted now main starved s → Counted then later starved t
+      → HasFate kind (history_of later) v.wire after fate → IsTaken fate → Returns now.returned then.returned after → Counted now main starved s → Counted then later starved t
   counted_over then main other later starved s t v after fate taken here count j own has fed back k = record {
-    account = subst (λ (l : List W). IsAccount later began.returned then.returned starved (map stream l) t.out (length t.unstarted)) (sym taken)
-        (account_over main later began.returned now.returned then.returned starved (map stream s.taken) s.out t.out (length s.unstarted) (length t.unstarted) v after fate (joined_on main other later j)
+    account = subst (λ (l : List W). IsAccount kind later began.returned then.returned starved (map stream l) t.out (length t.unstarted)) (sym taken)
+        (account_over kind main later began.returned now.returned then.returned starved (map stream s.taken) s.out t.out (length s.unstarted) (length t.unstarted) v after fate (joined_on main other later j)
         (subst (λ (ns : List ℕ). IsPermutation ((view_of main).own ++ ns) (view_of later).own) own (own_joined main other later j)) has fed count here back k.account);
     main_is = main_joined main other later s.out t.out v j here k.main_is;
   }
@@ -182,18 +183,19 @@ pub main_stays : (main : Pass) → GoesOnAs main main
 main_stays main = record { table = refl; origin = refl; history = still_seen (is_told main.knows.origin) (view_of main).seen }
 
 -- a visit by a pass that was split off
-pub visit_of_main : (main later part : Pass) (v : Visit) (wire : Stream) (clock : Timeline) → v ≡ record { wire = wire; clock = clock; pass = part } → IsPart main part
-    → later.table ≡ main.table → later.knows.origin ≡ main.knows.origin → IsOfMain later v
-visit_of_main main later part v wire clock is p table origin = record {
+pub visit_of_main : (kind : FrontKind) → (main later part : Pass) (v : Visit) (wire : Stream) (clock : Timeline) → v ≡ record { front = kind; wire = wire; clock = clock; pass = part } → IsPart main part
+    → later.table ≡ main.table → later.knows.origin ≡ main.knows.origin → IsOfMain kind later v
+visit_of_main kind main later part v wire clock is p table origin = record {
+  front = ap (λ (x : Visit). x.front) is;
   table = ap (λ (x : Visit). x.pass.table) is ∙ p.table ∙ sym table;
   origin = ap (λ (x : Visit). x.pass.knows.origin) is ∙ p.origin ∙ sym origin;
   new = ap (λ (x : Visit). (view_of x.pass).own) is ∙ ap (λ (x : View Item (List TableParts)). x.own) p.view;
 }
 
 -- a session that is over, whose pass was joined to the main one
-pub session_of : (main later other : Pass) (v : Visit) (o : Visited) (after : Stream) → o.pass ≡ other → o.wire ≡ after → IsOfMain main v → IsServed v o → IsJoined main other later
-    → HasFate (history_of later) v.wire after (served (view_of other).own)
-session_of main later other v o after pass wire mine gives j =
+pub session_of : (kind : FrontKind) → (main later other : Pass) (v : Visit) (o : Visited) (after : Stream) → o.pass ≡ other → o.wire ≡ after → IsOfMain kind main v → IsServed v o → IsJoined main other later
+    → HasFate kind (history_of later) v.wire after (served (view_of other).own)
+session_of kind main later other v o after pass wire mine gives j =
     let told : is_told o.pass.knows.origin ≡ is_told main.knows.origin =
     told_as_before gives.from o.pass gives.history ∙ ap is_told (gives.looked.goes.origin ∙ mine.origin)
     in
@@ -201,6 +203,7 @@ session_of main later other v o after pass wire mine gives j =
       visit = v;
       out = o;
       served = gives;
+      speaks = mine.front;
       before_is = refl;
       after_is = wire;
       new = mine.new;

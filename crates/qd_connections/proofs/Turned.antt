@@ -2,6 +2,7 @@
 use Rattle.std.proofs.Common.{◌≡◌, ◌∙◌, ℕ, List, [], ◌++◌, Option, Some, None, Result, Ok, Err, refl, sym, ap, subst, append-nil}
 use Rattle.std.specs.Prelude.{take, drop}
 use Rattle.std.proofs.lemmas.List.{take-append-drop}
+use Rattle.qd_fronts.specs.declared.front.FrontKind.{FrontKind}
 use Rattle.qd_io.specs.declared.fault.IoFault.{IoFault}
 use Rattle.qd_io.specs.Ends.{InputStays, Stream, WritesAll}
 use Rattle.qd_session.specs.Session.{PutTo}
@@ -20,11 +21,11 @@ put_none None = tt
 put_none (Some bytes) = ap (λ (l : List ℕ). Some l) (sym (append-nil bytes))
 
 -- there was no memory for the refusal
-pub unsaid : (wire : Stream) → IsTurnedAway wire wire
-unsaid wire = record { unread = refl; written = []; missing = no_worker; put = put_none wire.output; refusal = refl }
+pub unsaid : (kind : FrontKind) → (wire : Stream) → IsTurnedAway kind wire wire
+unsaid kind wire = record { unread = refl; written = []; missing = no_worker kind; put = put_none wire.output; refusal = refl }
 
-said : (before after : Stream) (line : List ℕ) → line ≡ no_worker → WritesAll {T = Unit {0}} {E = IoFault} before.output after.output line (Ok tt) → InputStays before after → IsTurnedAway before after
-said before after line is told rest = record {
+said : (kind : FrontKind) → (before after : Stream) (line : List ℕ) → line ≡ no_worker kind → WritesAll {T = Unit {0}} {E = IoFault} before.output after.output line (Ok tt) → InputStays before after → IsTurnedAway kind before after
+said kind before after line is told rest = record {
   unread = rest.input;
   written = line;
   missing = [];
@@ -32,11 +33,11 @@ said before after line is told rest = record {
   refusal = sym is ∙ sym (append-nil line);
 }
 
-said_in_part : (before after : Stream) (line : List ℕ) (f : IoFault) → line ≡ no_worker → WritesAll {T = Unit {0}} {E = IoFault} before.output after.output line (Err f) → InputStays before after → IsTurnedAway before after
-said_in_part before after line f is told rest =
+said_in_part : (kind : FrontKind) → (before after : Stream) (line : List ℕ) (f : IoFault) → line ≡ no_worker kind → WritesAll {T = Unit {0}} {E = IoFault} before.output after.output line (Err f) → InputStays before after → IsTurnedAway kind before after
+said_in_part kind before after line f is told rest =
     let p = put_some before.output after.output line f told in
     record { unread = rest.input; written = p.0; missing = p.1; put = p.2; refusal = sym is ∙ p.3 }
 
-pub said_as : (before after : Stream) (line : List ℕ) (result : Result (Unit {0}) IoFault) → line ≡ no_worker → WritesAll before.output after.output line result → InputStays before after → IsTurnedAway before after
-said_as before after line (Ok done) is told rest = said before after line is told rest
-said_as before after line (Err f) is told rest = said_in_part before after line f is told rest
+pub said_as : (kind : FrontKind) → (before after : Stream) (line : List ℕ) (result : Result (Unit {0}) IoFault) → line ≡ no_worker kind → WritesAll before.output after.output line result → InputStays before after → IsTurnedAway kind before after
+said_as kind before after line (Ok done) is told rest = said kind before after line is told rest
+said_as kind before after line (Err f) is told rest = said_in_part kind before after line f is told rest

@@ -5,7 +5,8 @@ use Rattle.qd_base.specs.declared.code.Code.TheVariants as code
 use Rattle.qd_base.specs.declared.op.Entry.{Entry}
 use Rattle.qd_base.specs.declared.request.Reply.TheVariants as reply
 use Rattle.qd_io.specs.Ends.{Stream}
-use Rattle.qd_print.specs.Printed.{reply_bytes}
+use Rattle.qd_fronts.specs.declared.front.FrontKind.{FrontKind}
+use Rattle.qd_fronts.specs.Fronts.{any_protocol, begun}
 use Rattle.qd_session.specs.Looks.{Extends}
 use Rattle.qd_session.specs.Session.{PutTo}
 use Rattle.qd_shared.specs.Passes.{history_of, view_of}
@@ -24,37 +25,38 @@ pub record Connection : Type 0 where
   pub after : Stream
   pub fate : Fate
 
--- A session was held over the connection. What it saw in the end is a beginning of the history, and the transactions of these numbers
+-- A session was held over the connection, by this protocol. What it saw in the end is a beginning of the history, and the transactions of these numbers
 -- are its own.
-pub record IsSession (history : Option (List Entry)) (before after : Stream) (numbers : List ℕ) : Type 0 where
+pub record IsSession (kind : FrontKind) (history : Option (List Entry)) (before after : Stream) (numbers : List ℕ) : Type 0 where
   pub visit : Visit
   pub out : Visited
   pub served : IsServed visit out
+  pub speaks : visit.front ≡ kind
   pub before_is : visit.wire ≡ before
   pub after_is : out.wire ≡ after
   pub new : (view_of visit.pass).own ≡ []
   pub own : (view_of out.pass).own ≡ numbers
   pub seen : Extends (history_of out.pass) history
 
--- the refusal of a connection for which no thread could be started
-abbrev pub no_worker : List ℕ
-no_worker = reply_bytes (reply.Refused (code_number code.NoWorker) 0)
+-- the refusal of a connection for which no thread could be started, as its protocol prints it
+abbrev pub no_worker : FrontKind → List ℕ
+no_worker kind = (any_protocol (begun kind)).printed (reply.Refused (code_number code.NoWorker) 0)
 
 -- Nothing was taken from a connection, and the refusal was written to it: whole, or in part where a write failed or no memory was found.
-pub record IsTurnedAway (before after : Stream) : Type 0 where
+pub record IsTurnedAway (kind : FrontKind) (before after : Stream) : Type 0 where
   pub unread : after.input ≡ before.input
   pub written : List ℕ
   pub missing : List ℕ
   pub put : PutTo before.output after.output written
-  pub refusal : no_worker ≡ written ++ missing
+  pub refusal : no_worker kind ≡ written ++ missing
 
-abbrev pub HasFate : Option (List Entry) → (before after : Stream) → Fate → Type 0
-HasFate history before after (served numbers) = IsSession history before after numbers
-HasFate history before after turned_away = IsTurnedAway before after
-HasFate history before after given_up = after ≡ before
+abbrev pub HasFate : FrontKind → Option (List Entry) → (before after : Stream) → Fate → Type 0
+HasFate kind history before after (served numbers) = IsSession kind history before after numbers
+HasFate kind history before after turned_away = IsTurnedAway kind before after
+HasFate kind history before after given_up = after ≡ before
 
-abbrev pub IsFated : Option (List Entry) → Connection → Type 0
-IsFated history c = HasFate history c.before c.after c.fate
+abbrev pub IsFated : FrontKind → Option (List Entry) → Connection → Type 0
+IsFated kind history c = HasFate kind history c.before c.after c.fate
 
 abbrev pub acknowledged : Fate → List ℕ
 acknowledged (served numbers) = numbers

@@ -2,6 +2,7 @@
 use Rattle.std.specs.Prelude.{◌≡◌, Bool, length, map}
 use Rattle.std.specs.Borrow.{GName}
 use Rattle.atomic_table.specs.Seated.{TableId}
+use Rattle.qd_fronts.specs.declared.front.FrontKind.{FrontKind}
 use Rattle.qd_host.specs.Hosts.{Supply}
 use Rattle.qd_io.specs.Ends.{Stream}
 use Rattle.qd_server.specs.declared.maker.TheConstants.{MOST}
@@ -26,6 +27,6 @@ pub record IsLent (lender lender' : GName) (began now : Supply) (table : TableId
 
 module _ {W : Type 0} (stream : W → Stream) where
   -- an account of works is one of connections
-  pub record IsCounted (began now : Supply) (main : Pass) (starved : Bool) (s : Works W Visit) : Type 0 where
-    pub account : IsAccount main began.returned now.returned starved (map stream s.taken) s.out (length s.unstarted)
+  pub record IsCounted (kind : FrontKind) (began now : Supply) (main : Pass) (starved : Bool) (s : Works W Visit) : Type 0 where
+    pub account : IsAccount kind main began.returned now.returned starved (map stream s.taken) s.out (length s.unstarted)
     pub main_is : IsMain main (length s.out) MOST

@@ -1,5 +1,6 @@
 -- What serving all connections of a listener does.
 use Rattle.std.specs.Prelude.{◌≡◌, ℕ, Bool, List, [], map, Result}
+use Rattle.qd_fronts.specs.declared.front.FrontKind.{FrontKind}
 use Rattle.qd_host.specs.Hosts.{Supply}
 use Rattle.qd_io.specs.declared.fault.IoFault.{IoFault}
 use Rattle.qd_io.specs.Ends.{Stream, counts_together}
@@ -17,11 +18,11 @@ after_all now supply = record (after_serving now supply) { starts_failed = now.s
 module _ {W : Type 0} (stream : W → Stream) where
   -- Some wires were taken, the first ones of the listener; each of them was served, or turned away, or given up, and given back. As many
   -- were turned away as starts of threads were refused.
-  pub record ServesAll (began now : Supply) (old new : Arrivals W) (first main : Pass) (starved : Bool) (most : ℕ) (ended : Result ℕ IoFault) : Type 0 where
+  pub record ServesAll (kind : FrontKind) (began now : Supply) (old new : Arrivals W) (first main : Pass) (starved : Bool) (most : ℕ) (ended : Result ℕ IoFault) : Type 0 where
     pub wires : List W
     pub takes : Takes wires old.ahead new.ahead
     pub refused : ℕ
-    pub account : IsAccount main began.returned now.returned starved (map stream wires) [] refused
+    pub account : IsAccount kind main began.returned now.returned starved (map stream wires) [] refused
     pub counted : now.starts_failed ≡ counts_together began.starts_failed refused
     pub ends : Ends wires most old.ahead new.ahead new.closed ended
     pub within : IsWithin wires most

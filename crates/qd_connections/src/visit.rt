@@ -4,10 +4,11 @@ ghost use Rattle.std.specs.Prelude.{◌≡◌, ◌≢◌};
 ghost use Rattle.qd_shared.specs.Passes.{view_of};
 ghost use Rattle.qd_connections.specs.Visits.{IsServed, MayVisit};
 
+use qd_fronts::{AnyFront, FrontKind};
 use qd_io::Clock;
 use qd_net::Wire;
 use qd_pass::PassBack;
-use qd_session::{Ended, FrameFront, serve};
+use qd_session::{Ended, serve};
 use qd_shared::{Pass, Shared};
 use qd_threads::Job;
 use qd_volume::Volume;
@@ -15,12 +16,13 @@ use std::alloc::Global;
 use std::marker::Model;
 use std::sync::{Arc, Wait};
 
-/// A connection, and what its session needs: a clock, and a pass of the store.
+/// A connection, and what its session needs: the protocol that it speaks, a clock, and a pass of the store.
 ///
 /// Contracts see what they show.
 #[derive(Drop)]
 pub struct Visit<W: Wire, C: Clock, V: Volume + Drop> {
     alloc: Global,
+    front: FrontKind,
     wire: W,
     clock: C,
     shared: Arc<Shared<V>>,
@@ -34,15 +36,16 @@ impl<W: Wire, C: Clock, V: Volume + Drop> Model for Visit<W, C, V> {
 
     ghost Value = { Visit };
 
-    ghost view = { λ v. record { wire = W.stream v.wire; clock = C.timeline v.clock; pass = v.pass } };
+    ghost view = { λ v. record { front = v.front; wire = W.stream v.wire; clock = C.timeline v.clock; pass = v.pass } };
 
     ghost invariant = { λ v. (v.pass.table ≡ arc_value v.shared) × MayVisit v.pass };
 }
 
 impl<W: Wire, C: Clock, V: Volume + Drop> Visit<W, C, V> {
-    /// A connection with a clock and a pass of this store.
+    /// A connection that speaks this protocol, with a clock and a pass of this store.
     pub fn new(
         alloc: Global,
+        front: FrontKind,
         wire: W,
         clock: C,
         shared: Arc<Shared<V>>,
@@ -50,10 +53,11 @@ impl<W: Wire, C: Clock, V: Volume + Drop> Visit<W, C, V> {
     ) -> Visit<W, C, V>
         requires pass { pass.table ≡ arc_value shared }
         requires may { MayVisit pass }
-        ensures { result ≡ record { wire = W.stream wire; clock = C.timeline clock; pass = pass } }
+        ensures { result ≡ record { front = front; wire = W.stream wire; clock = C.timeline clock; pass = pass } }
     {
         Visit {
             alloc,
+            front,
             wire,
             clock,
             shared,
@@ -70,6 +74,7 @@ impl<W: Wire, C: Clock, V: Volume + Drop> Visit<W, C, V> {
     {
         let Visit {
             alloc: _,
+            front: _,
             wire,
             clock,
             shared: _,
@@ -107,18 +112,19 @@ impl<
 
     ghost gives = { IsServed };
 
-    /// Holds the session, from its first frame to the end of the input, a fault, or a request for the end.
+    /// Holds the session, from its first request to the end of the input, a fault, or a request for the end.
     fn run<R: Wait>(self, rt: &R) -> Visited<W, C, V>
         ensures given { IsServed self result }
     {
         let Visit {
             alloc,
+            front,
             mut wire,
             mut clock,
             shared,
             pass,
         } = self;
-        let mut front = FrameFront::new(alloc);
+        let mut front = AnyFront::new(alloc, front);
         let mut back = PassBack::new(rt, shared, pass);
         let ended = serve(alloc, &mut front, &mut back, &mut wire, &mut clock);
         wire.hang_up();

@@ -21,9 +21,11 @@ use Rattle.qd_session.specs.Session.{IsClean}
 use Rattle.qd_volume.specs.Disk.{Disk, reads_of}
 use Rattle.qd_args.specs.Words.{Asks, IsCommand}
 use Rattle.qd_args.specs.declared.command.Command.{Command}
+use Rattle.qd_args.specs.declared.command.Spoken.{Spoken}
+use Rattle.qd_fronts.specs.declared.front.FrontKind.{FrontKind}
 use Rattle.qd_args.specs.declared.command.Command.TheVariants as command
 use Rattle.qd_args.specs.declared.command.TheConstants.{MAX_GEN_LINES}
-use Rattle.qd_top.specs.Run.{Answered, AsksFor, AsksToRun, CountsReads, CountsWrites, Did, EndsWith, FoundDamage, IsDamagedTold, IsUnserved, IsWellFramed, NoneFailed, Outside, Ran, Served, ServedPort, Traffic, Unopened, WroteUsage, limit_of, reached, traffic, usage}
+use Rattle.qd_top.specs.Run.{kind_of, Answered, AsksFor, AsksToRun, CountsReads, CountsWrites, Did, EndsWith, FoundDamage, IsDamagedTold, IsUnserved, IsWellFramed, NoneFailed, Outside, Ran, Served, ServedPort, Traffic, Unopened, WroteUsage, limit_of, reached, traffic, usage}
 use Rattle.qd_top.specs.Stores.{IsOfNoStore, Names}
 use Rattle.qd_top.specs.Status.{number_of}
 use Rattle.qd_top.specs.declared.status.Status.{Status}
@@ -235,21 +237,21 @@ did-gen number lines found old new s left may same ran ends writes named = recor
 
 -- ---- a port, by the number of its status
 
-module _ (found : Option (List Entry)) (host host' : Supply) (port most : ℕ) (t : Traffic) where
+module _ (kind : FrontKind) (found : Option (List Entry)) (host host' : Supply) (port most : ℕ) (t : Traffic) where
   -- serving doesn't end as a session does
-  ends-serving : (s : Status) (named : ℕ) (folder : List ℕ) (limit : Option ℕ) → ServedPort found host host' port most t s → EndsWith (command.Serve named folder limit) (number_of s)
-  ends-serving status.Finished named folder limit r = inl refl
-  ends-serving status.Usage named folder limit r = absurd r
-  ends-serving status.BadFrame named folder limit r = absurd r
-  ends-serving status.ReadFault named folder limit r = absurd r
-  ends-serving status.WriteFault named folder limit r = inr (inl refl)
-  ends-serving status.NoVolume named folder limit r = inr (inr (inl refl))
-  ends-serving status.Damaged named folder limit r = inr (inr (inr (inl refl)))
-  ends-serving status.NoMemory named folder limit r = inr (inr (inr (inr (inl refl))))
-  ends-serving status.NoListener named folder limit r = inr (inr (inr (inr (inr refl))))
+  ends-serving : (s : Status) (named : ℕ) (folder : List ℕ) (limit : Option ℕ) (spoken : Spoken) → ServedPort kind found host host' port most t s → EndsWith (command.Serve named folder limit spoken) (number_of s)
+  ends-serving status.Finished named folder limit spoken r = inl refl
+  ends-serving status.Usage named folder limit spoken r = absurd r
+  ends-serving status.BadFrame named folder limit spoken r = absurd r
+  ends-serving status.ReadFault named folder limit spoken r = absurd r
+  ends-serving status.WriteFault named folder limit spoken r = inr (inl refl)
+  ends-serving status.NoVolume named folder limit spoken r = inr (inr (inl refl))
+  ends-serving status.Damaged named folder limit spoken r = inr (inr (inr (inl refl)))
+  ends-serving status.NoMemory named folder limit spoken r = inr (inr (inr (inr (inl refl))))
+  ends-serving status.NoListener named folder limit spoken r = inr (inr (inr (inr (inr refl))))
 
   -- over a damaged volume it says where, or finds no memory
-  damaged-serving : (s : Status) (writes writes' : ℕ) → ServedPort found host host' port most t s → CountsWrites writes writes' s → IsDamagedTold host.shelf
+  damaged-serving : (s : Status) (writes writes' : ℕ) → ServedPort kind found host host' port most t s → CountsWrites writes writes' s → IsDamagedTold host.shelf
       → (HasRisen writes writes' → ⊥) → (HasRisen host.volume_faults host'.volume_faults → ⊥) → (number_of s ≡ 6) ⊎ (number_of s ≡ 7)
   damaged-serving status.Finished writes writes' r write damaged no_write no_volume = absurd (r.begun.undamaged damaged)
   damaged-serving status.Usage writes writes' r write damaged no_write no_volume = absurd r
@@ -262,7 +264,7 @@ module _ (found : Option (List Entry)) (host host' : Supply) (port most : ℕ) (
   damaged-serving status.NoListener writes writes' r write damaged no_write no_volume = absurd (r.0.begun.undamaged damaged)
 
   -- no read of the input is counted
-  pub reads-of-serving : (s : Status) (n : ℕ) → ServedPort found host host' port most t s → CountsReads n n s
+  pub reads-of-serving : (s : Status) (n : ℕ) → ServedPort kind found host host' port most t s → CountsReads n n s
   reads-of-serving status.Finished n r = refl
   reads-of-serving status.Usage n r = absurd r
   reads-of-serving status.BadFrame n r = absurd r
@@ -274,30 +276,30 @@ module _ (found : Option (List Entry)) (host host' : Supply) (port most : ℕ) (
   reads-of-serving status.NoListener n r = refl
 
 -- over a volume that isn't made or is whole, and where nothing fails, `serve` finishes unless memory runs out
-complete-serving : (found : Option (List Entry)) (old new : Outside) (port most : ℕ) (t : Traffic) (s : Status) (h : List Entry) → found ≡ Some h → MayFind found old.host.shelf → ServedPort found old.host new.host port most t s
+complete-serving : (kind : FrontKind) (found : Option (List Entry)) (old new : Outside) (port most : ℕ) (t : Traffic) (s : Status) (h : List Entry) → found ≡ Some h → MayFind found old.host.shelf → ServedPort kind found old.host new.host port most t s
     → CountsWrites old.output.writes_failed new.output.writes_failed s → NoneFailed old new → (number_of s ≡ 0) ⊎ (number_of s ≡ 7)
-complete-serving found old new port most t status.Finished h is may r writes none = inl refl
-complete-serving found old new port most t status.Usage h is may r writes none = absurd r
-complete-serving found old new port most t status.BadFrame h is may r writes none = absurd r
-complete-serving found old new port most t status.ReadFault h is may r writes none = absurd r
-complete-serving found old new port most t status.WriteFault h is may r writes none = absurd (none.writes writes.1)
-complete-serving found old new port most t status.NoVolume h is may r writes none = absurd (none.volume r.1)
-complete-serving found old new port most t status.Damaged h is may r writes none = absurd (never_damaged reply_bytes found old.host new.host t h [] (subst (λ (o : Option (List Entry)). MayFind o old.host.shelf) is may) r.0)
-complete-serving found old new port most t status.NoMemory h is may r writes none = inr refl
-complete-serving found old new port most t status.NoListener h is may r writes none = absurd (none.listener r.1)
+complete-serving kind found old new port most t status.Finished h is may r writes none = inl refl
+complete-serving kind found old new port most t status.Usage h is may r writes none = absurd r
+complete-serving kind found old new port most t status.BadFrame h is may r writes none = absurd r
+complete-serving kind found old new port most t status.ReadFault h is may r writes none = absurd r
+complete-serving kind found old new port most t status.WriteFault h is may r writes none = absurd (none.writes writes.1)
+complete-serving kind found old new port most t status.NoVolume h is may r writes none = absurd (none.volume r.1)
+complete-serving kind found old new port most t status.Damaged h is may r writes none = absurd (never_damaged reply_bytes found old.host new.host t h [] (subst (λ (o : Option (List Entry)). MayFind o old.host.shelf) is may) r.0)
+complete-serving kind found old new port most t status.NoMemory h is may r writes none = inr refl
+complete-serving kind found old new port most t status.NoListener h is may r writes none = absurd (none.listener r.1)
 
 -- what `serve` did
-pub did-serve : (port : ℕ) (dir : List ℕ) (most : Option ℕ) (found : Option (List Entry)) (old new : Outside) (s : Status) → MayFind found old.host.shelf
-    → ServedPort found old.host new.host port (limit_of most) (traffic old.input new.input old.output new.output) s → CountsWrites old.output.writes_failed new.output.writes_failed s
-    → Names old.host.folders new.host.folders (Some dir) (s ≡ status.NoMemory) → Did (command.Serve port dir most) found old new (number_of s)
-did-serve port dir most found old new s may served writes named =
+pub did-serve : (port : ℕ) (dir : List ℕ) (most : Option ℕ) (spoken : Spoken) (found : Option (List Entry)) (old new : Outside) (s : Status) → MayFind found old.host.shelf
+    → ServedPort (kind_of spoken) found old.host new.host port (limit_of most) (traffic old.input new.input old.output new.output) s → CountsWrites old.output.writes_failed new.output.writes_failed s
+    → Names old.host.folders new.host.folders (Some dir) (s ≡ status.NoMemory) → Did (command.Serve port dir most spoken) found old new (number_of s)
+did-serve port dir most spoken found old new s may served writes named =
     let t = traffic old.input new.input old.output new.output in
     record {
-      ends = ends-serving found old.host new.host port (limit_of most) t s port dir most served;
+      ends = ends-serving (kind_of spoken) found old.host new.host port (limit_of most) t s port dir most spoken served;
       ran = (s, refl, served);
       folder = folder-of old.host.folders new.host.folders (Some dir) s named;
-      complete = λ h is well none. complete-serving found old new port (limit_of most) t s h is may served writes none;
-      damaged = λ damaged none. damaged-serving found old.host new.host port (limit_of most) t s old.output.writes_failed new.output.writes_failed served writes damaged none.writes none.volume;
+      complete = λ h is well none. complete-serving (kind_of spoken) found old new port (limit_of most) t s h is may served writes none;
+      damaged = λ damaged none. damaged-serving (kind_of spoken) found old.host new.host port (limit_of most) t s old.output.writes_failed new.output.writes_failed served writes damaged none.writes none.volume;
     }
 
 -- ---- nothing was done
@@ -312,12 +314,12 @@ nothing-done host input output = record { unserved = record { unread = refl; put
 nothing-served : (asked : Command) (found : Option (List Entry)) (o : Outside) → Served asked found o o status.NoMemory
 nothing-served (command.Run dir) found o = inr (nothing-done o.host o.input.input o.output.output)
 nothing-served (command.Gen number lines) found o = (Some (generated number lines), inr (nothing-done o.host (Some (generated number lines)) o.output.output))
-nothing-served (command.Serve port dir most) found o = inr (inr (nothing-done o.host o.input.input o.output.output), refl)
+nothing-served (command.Serve port dir most spoken) found o = inr (inr (nothing-done o.host o.input.input o.output.output), refl)
 
 ends-without_memory : (asked : Command) → EndsWith asked 7
 ends-without_memory (command.Run dir) = inr (inr (inr (inr (inr (inr refl)))))
 ends-without_memory (command.Gen number lines) = inr (inr (inr (inr refl)))
-ends-without_memory (command.Serve port dir most) = inr (inr (inr (inr (inl refl))))
+ends-without_memory (command.Serve port dir most spoken) = inr (inr (inr (inr (inl refl))))
 
 -- no memory was found to read the words, and nothing was done
 pub did-nothing : (asked : Command) (found : Option (List Entry)) (o : Outside) → Did asked found o o 7
@@ -399,12 +401,12 @@ not_usage (command.Gen number lines) n (inr (inl e)) u = omega (arith, e, u)
 not_usage (command.Gen number lines) n (inr (inr (inl e))) u = omega (arith, e, u)
 not_usage (command.Gen number lines) n (inr (inr (inr (inl e)))) u = omega (arith, e, u)
 not_usage (command.Gen number lines) n (inr (inr (inr (inr e)))) u = omega (arith, e, u)
-not_usage (command.Serve port dir most) n (inl e) u = omega (arith, e, u)
-not_usage (command.Serve port dir most) n (inr (inl e)) u = omega (arith, e, u)
-not_usage (command.Serve port dir most) n (inr (inr (inl e))) u = omega (arith, e, u)
-not_usage (command.Serve port dir most) n (inr (inr (inr (inl e)))) u = omega (arith, e, u)
-not_usage (command.Serve port dir most) n (inr (inr (inr (inr (inl e))))) u = omega (arith, e, u)
-not_usage (command.Serve port dir most) n (inr (inr (inr (inr (inr e))))) u = omega (arith, e, u)
+not_usage (command.Serve port dir most spoken) n (inl e) u = omega (arith, e, u)
+not_usage (command.Serve port dir most spoken) n (inr (inl e)) u = omega (arith, e, u)
+not_usage (command.Serve port dir most spoken) n (inr (inr (inl e))) u = omega (arith, e, u)
+not_usage (command.Serve port dir most spoken) n (inr (inr (inr (inl e)))) u = omega (arith, e, u)
+not_usage (command.Serve port dir most spoken) n (inr (inr (inr (inr (inl e))))) u = omega (arith, e, u)
+not_usage (command.Serve port dir most spoken) n (inr (inr (inr (inr (inr e))))) u = omega (arith, e, u)
 
 -- the number of a failed listener comes only where one failed
 listener-from : (asked : Command) (found : Option (List Entry)) (old new : Outside) (s : Status) → Served asked found old new s → s ≡ status.NoListener → HasRisen old.host.listener_faults new.host.listener_faults
@@ -413,7 +415,7 @@ listener-from asked found old new s served is = by asked (subst (λ (u : Status)
     by : (one : Command) → Served one found old new status.NoListener → HasRisen old.host.listener_faults new.host.listener_faults
     by (command.Run dir) r = absurd r
     by (command.Gen number lines) r = absurd r.1
-    by (command.Serve port dir most) r = r.1
+    by (command.Serve port dir most spoken) r = r.1
 
 -- what is said of words that ask for one command, which was done
 pub answered-command : (asked : Command) (words : List (List ℕ)) (found : Option (List Entry)) (old new : Outside) (s : Status) → Asks asked words
@@ -506,4 +508,4 @@ named-as {dir} {dir'} {P} old new is named = subst (λ (d : Option (List ℕ)). 
 
 -- the lines that `gen` is asked for are few
 pub gen_few : (number lines : ℕ) (words : List (List ℕ)) → Asks (command.Gen number lines) words → lines ≤ MAX_GEN_LINES
-gen_few number lines words (pieces, spelled, (folder, connections, folders, counts, (none, alone, low, some, few, are))) = few
+gen_few number lines words (pieces, spelled, (folder, connections, said, folders, counts, fronts, (none, alone, silent, low, some, few, are))) = few

@@ -10,6 +10,7 @@ use Rattle.qd_connections.specs.Accounts.{CameBack}
 use Rattle.qd_connections.specs.Connections.{Connection, IsFated, IsTaken, refusals_in}
 use Rattle.qd_connections.specs.Serving.{ServesAll}
 use Rattle.qd_connections.proofs.Counting.{fates_last}
+use Rattle.qd_fronts.specs.declared.front.FrontKind.{FrontKind}
 use Rattle.qd_host.specs.Hosts as hosts
 use Rattle.qd_host.specs.Hosts.{ConnectionsStay, Supply, after_listener, after_volume, shown, with_listeners_of}
 use Rattle.qd_io.specs.declared.fault.IoFault.{IoFault}
@@ -78,15 +79,15 @@ history_shared first main history origin view is =
     ap (λ (o : Option Desk). history_by (is_told o) (view_of main).seen) origin ∙ ap (λ (v : View Item (List TableParts)). history_by (is_told first.knows.origin) v.seen) view ∙ is
 
 -- no connection was taken
-pub nobody_by : (main : Pass) (host host' : Supply) (most : ℕ) (s : Status) → (view_of main).own ≡ [] → host'.returned ≡ host.returned → host'.starts_failed ≡ host.starts_failed → (s ≡ status.Finished → ⊥) → ServedBy main main host host' most s
-nobody_by main host host' most s none returned starts other = record {
+pub nobody_by : (kind : FrontKind) → (main : Pass) (host host' : Supply) (most : ℕ) (s : Status) → (view_of main).own ≡ [] → host'.returned ≡ host.returned → host'.starts_failed ≡ host.starts_failed → (s ≡ status.Finished → ⊥) → ServedBy kind main main host host' most s
+nobody_by kind main host host' most s none returned starts other = record {
   taken = [];
   over = [];
   ahead = first_none host.wires;
   within = λ e. omega arith;
   once = IsPermutation-refl [];
   back = subst (λ (o : Option (List Stream)). CameBack host.returned o []) (sym returned) (back_nothing host.returned);
-  each = All-nil (IsFated (history_of main));
+  each = All-nil (IsFated kind (history_of main));
   own = subst (λ (ns : List ℕ). IsPermutation [] ns) (sym none) (IsPermutation-refl []);
   turned = starts ∙ counts_none host.starts_failed;
   fed = λ e. All-nil (λ (c : Connection). IsTaken c.fate);
@@ -133,9 +134,9 @@ ends_by false (Err fault.Failed) = tt
 ends_by false (Err fault.Memory) = tt
 
 -- A listener was given, its connections were served, and it was taken back.
-module _ {W : Type 0} (stream : W → Stream) (h0 h1 h2 h3 : Supply) (old new : Arrivals W) (first last : Pass) (starved : Bool) (most : ℕ) (ended : Result ℕ IoFault) (s : Status)
-    (given : h1 ≡ with_listeners_of h1 h0) (all : ServesAll stream h1 h2 old new first last starved most ended) (back : h3 ≡ after_listener new.faults h2) (is : s ≡ serving_status starved ended) where
-  pub passed_by : shown stream old.ahead ≡ h0.wires → ServedBy first last h0 h3 most s
+module _ {W : Type 0} (stream : W → Stream) (kind : FrontKind) (h0 h1 h2 h3 : Supply) (old new : Arrivals W) (first last : Pass) (starved : Bool) (most : ℕ) (ended : Result ℕ IoFault) (s : Status)
+    (given : h1 ≡ with_listeners_of h1 h0) (all : ServesAll stream kind h1 h2 old new first last starved most ended) (back : h3 ≡ after_listener new.faults h2) (is : s ≡ serving_status starved ended) where
+  pub passed_by : shown stream old.ahead ≡ h0.wires → ServedBy kind first last h0 h3 most s
   passed_by told =
       let a = all.account in
       let r10 : h1.returned ≡ h0.returned = ap (λ (h : Supply). h.returned) given in
@@ -203,11 +204,11 @@ pub listens_on : (host host' host'' : Supply) (storage : Storage) (port : ℕ) (
 listens_on host host' host'' storage port s l back =
     subst (λ (h : Supply). Listens host h port s) (sym back) (record { ports = l.ports; failed = l.failed; ends = l.ends; folders = l.folders })
 
-pub closed : (first last : Pass) (host host' host'' : Supply) (most : ℕ) (s : Status) (owned : Owned) → ServedBy first last host host' most s → Closes last owned
-    → ((history : Option (List Entry)) → IfSome history (IsTold owned) → IfSome history (KeepsSome owned.storage.disk)) → host'' ≡ after_volume owned.storage host' → ServedAll (history_of first) host host'' most s
-closed first last host host' host'' most s owned p c kept back =
+pub closed : (kind : FrontKind) → (first last : Pass) (host host' host'' : Supply) (most : ℕ) (s : Status) (owned : Owned) → ServedBy kind first last host host' most s → Closes last owned
+    → ((history : Option (List Entry)) → IfSome history (IsTold owned) → IfSome history (KeepsSome owned.storage.disk)) → host'' ≡ after_volume owned.storage host' → ServedAll kind (history_of first) host host'' most s
+closed kind first last host host' host'' most s owned p c kept back =
     let on = goes_on (history_of last) c.history c.seen in
-    subst (λ (h : Supply). ServedAll (history_of first) host h most s) (sym back)
+    subst (λ (h : Supply). ServedAll kind (history_of first) host h most s) (sym back)
     (record {
       history = c.history;
       grows = extends-on (history_of first) (history_of last) c.history p.grows on;
@@ -218,7 +219,7 @@ closed first last host host' host'' most s owned p c kept back =
       within = p.within;
       once = p.once;
       back = p.back;
-      each = fates_last (history_of last) c.history on p.over p.each;
+      each = fates_last kind (history_of last) c.history on p.over p.each;
       numbers = (view_of last).own;
       own = p.own;
       count = length (view_of last).seen;
@@ -230,10 +231,10 @@ closed first last host host' host'' most s owned p c kept back =
     })
 
 -- a store that wasn't shared is given back
-pub unshared : (found : Option (List Entry)) (host host' : Supply) (most : ℕ) (s : Status) (owned : Owned) → IfSome found (IsTold owned)
-    → ((history : Option (List Entry)) → IfSome history (IsTold owned) → IfSome history (KeepsSome owned.storage.disk)) → host' ≡ after_volume owned.storage host → (s ≡ status.Finished → ⊥) → ServedAll found host host' most s
-unshared found host host' most s owned told kept back other =
-    subst (λ (h : Supply). ServedAll found host h most s) (sym back)
+pub unshared : (kind : FrontKind) → (found : Option (List Entry)) (host host' : Supply) (most : ℕ) (s : Status) (owned : Owned) → IfSome found (IsTold owned)
+    → ((history : Option (List Entry)) → IfSome history (IsTold owned) → IfSome history (KeepsSome owned.storage.disk)) → host' ≡ after_volume owned.storage host → (s ≡ status.Finished → ⊥) → ServedAll kind found host host' most s
+unshared kind found host host' most s owned told kept back other =
+    subst (λ (h : Supply). ServedAll kind found host h most s) (sym back)
     (record {
       history = found;
       grows = extends_same found found refl;
@@ -244,7 +245,7 @@ unshared found host host' most s owned told kept back other =
       within = λ e. omega arith;
       once = IsPermutation-refl [];
       back = back_nothing host.returned;
-      each = All-nil (IsFated found);
+      each = All-nil (IsFated kind found);
       numbers = [];
       own = IsPermutation-refl [];
       count = 0;
@@ -277,8 +278,8 @@ connections_on a b c s t = record {
   returned = t.returned ∙ s.returned;
 }
 
-module _ (found : Option (List Entry)) (given host host' : Supply) (port most : ℕ) (still : ConnectionsStay given host) where
-  all_since : (s : Status) → ServedAll found host host' most s → ServedAll found given host' most s
+module _ (kind : FrontKind) (found : Option (List Entry)) (given host host' : Supply) (port most : ℕ) (still : ConnectionsStay given host) where
+  all_since : (s : Status) → ServedAll kind found host host' most s → ServedAll kind found given host' most s
   all_since s a = record {
     history = a.history;
     grows = a.grows;
@@ -304,7 +305,7 @@ module _ (found : Option (List Entry)) (given host host' : Supply) (port most : 
   listens_since s (inl asks) = inl (subst (λ (o : Option (List ℕ)). AsksFor o host'.ports (Some port)) still.ports asks)
   listens_since s (inr (is, same)) = inr (is, same ∙ still.ports)
 
-  over_port : (owned : Owned) (s : Status) (input output : Stream) → IsServable found given host owned → ServedAll found host host' most s → Listens host host' port s → OverPort found given host' port most (traffic input input output output) s
+  over_port : (owned : Owned) (s : Status) (input output : Stream) → IsServable found given host owned → ServedAll kind found host host' most s → Listens host host' port s → OverPort kind found given host' port most (traffic input input output output) s
   over_port owned s input output servable a l = record {
     before = begun_of owned found (fresh host);
     begun = servable.begun;
@@ -314,7 +315,7 @@ module _ (found : Option (List Entry)) (given host host' : Supply) (port most : 
     put = put-nothing output.output;
   }
 
-  pub served_since : (owned : Owned) (s : Status) (input output : Stream) → IsServable found given host owned → ServedAll found host host' most s → Listens host host' port s → ServedPort found given host' port most (traffic input input output output) s
+  pub served_since : (owned : Owned) (s : Status) (input output : Stream) → IsServable found given host owned → ServedAll kind found host host' most s → Listens host host' port s → ServedPort kind found given host' port most (traffic input input output output) s
   served_since owned status.Finished input output servable a l = over_port owned status.Finished input output servable a l
   served_since owned status.Usage input output servable a l = absurd l.ends
   served_since owned status.BadFrame input output servable a l = absurd l.ends
@@ -340,11 +341,11 @@ writes_of_serving n status.NoListener e = refl
 
 -- ---- no store was opened
 
-module _ (found : Option (List Entry)) (host host' : Supply) (port most : ℕ) (still : host'.ports ≡ host.ports) (input output output' : Option (List ℕ)) where
+module _ (kind : FrontKind) (found : Option (List Entry)) (host host' : Supply) (port most : ℕ) (still : host'.ports ≡ host.ports) (input output output' : Option (List ℕ)) where
   abbrev t : Traffic
   t = record { input = input; left = input; output = output; written = output' }
 
-  said_damage : (file at : ℕ) (s : Status) → SaysDamage file at output output' s → Refuses (IsDamagedAt file at) host host' → ServedPort found host host' port most t s
+  said_damage : (file at : ℕ) (s : Status) → SaysDamage file at output output' s → Refuses (IsDamagedAt file at) host host' → ServedPort kind found host host' port most t s
   said_damage file at status.Finished said r = absurd said
   said_damage file at status.Usage said r = absurd said
   said_damage file at status.BadFrame said r = absurd said
@@ -355,8 +356,8 @@ module _ (found : Option (List Entry)) (host host' : Supply) (port most : ℕ) (
   said_damage file at status.NoMemory (bytes, missing, put, place) r = inr (inl (missing, damaged host host' input output output' file at bytes missing r put place), still)
   said_damage file at status.NoListener said r = absurd said
 
-  pub refused_port : (why : OpenFault) (s : Status) → HasNoStore why host host' → SaysFault why output output' s → ServedPort found host host' port most t s
+  pub refused_port : (why : OpenFault) (s : Status) → HasNoStore why host host' → SaysFault why output output' s → ServedPort kind found host host' port most t s
   refused_port opening.NotMade s none said = absurd none
-  refused_port opening.Vol s none (is, put) = subst (λ (u : Status). ServedPort found host host' port most t u) (sym is) (unopened host host' input output output' none.0 put, none.1, still)
+  refused_port opening.Vol s none (is, put) = subst (λ (u : Status). ServedPort kind found host host' port most t u) (sym is) (unopened host host' input output output' none.0 put, none.1, still)
   refused_port (opening.Damaged file at) s none said = said_damage file at s said none
-  refused_port opening.Memory s none (is, put) = subst (λ (u : Status). ServedPort found host host' port most t u) (sym is) (inr (inr (unopened host host' input output output' none put), still))
+  refused_port opening.Memory s none (is, put) = subst (λ (u : Status). ServedPort kind found host host' port most t u) (sym is) (inr (inr (unopened host host' input output output' none put), still))

@@ -4,6 +4,7 @@ use Rattle.std.specs.List.{flat_map}
 use Rattle.std.specs.List.Sorted.{IsPermutation}
 use Rattle.qd_connections.specs.Accounts.{CameBack}
 use Rattle.qd_connections.specs.Connections.{Connection, IsFated, IsTaken, numbers_of, refusals_in}
+use Rattle.qd_fronts.specs.declared.front.FrontKind.{FrontKind}
 use Rattle.qd_host.specs.Hosts.{Supply}
 use Rattle.qd_io.specs.Ends.{HasRisen, Stream, counts_together}
 use Rattle.qd_io.specs.declared.fault.IoFault.{IoFault}
@@ -41,14 +42,14 @@ pub record Listens (host host' : Supply) (port : ℕ) (s : Status) : Type 0 wher
   pub folders : host'.folders ≡ host.folders
 
 -- Connections were served by passes that were split off the first one, and joined to the last.
-pub record ServedBy (first last : Pass) (host host' : Supply) (most : ℕ) (s : Status) : Type 0 where
+pub record ServedBy (kind : FrontKind) (first last : Pass) (host host' : Supply) (most : ℕ) (s : Status) : Type 0 where
   pub taken : List Stream
   pub over : List Connection
   pub ahead : AreFirst taken host.wires
   pub within : most ≢ 0 → length taken ≤ most
   pub once : IsPermutation taken (map (λ c. c.before) over)
   pub back : CameBack host.returned host'.returned (map (λ c. c.after) over)
-  pub each : All (IsFated (history_of last)) over
+  pub each : All (IsFated kind (history_of last)) over
   pub own : IsPermutation (flat_map numbers_of over) (view_of last).own
   pub turned : host'.starts_failed ≡ counts_together host.starts_failed (refusals_in over)
   pub fed : (s ≡ status.NoMemory → ⊥) → All (λ c. IsTaken c.fate) over

@@ -31,12 +31,16 @@ use Rattle.qd_top.specs.declared.status.Status.{Status}
 use Rattle.qd_top.specs.declared.status.Status.TheVariants as status
 use Rattle.qd_top.specs.Status.{number_of}
 use Rattle.qd_args.specs.declared.command.Command.{Command}
+use Rattle.qd_args.specs.declared.command.Spoken.{Spoken}
+use Rattle.qd_args.specs.declared.command.Spoken.TheVariants as spoken
+use Rattle.qd_fronts.specs.declared.front.FrontKind.{FrontKind}
+use Rattle.qd_fronts.specs.declared.front.FrontKind.TheVariants as kind
 use Rattle.qd_args.specs.declared.command.Command.TheVariants as command
 use Rattle.qd_args.specs.Words.{Asks, IsCommand}
 
 -- the line that other words are answered with
 abbrev pub usage : List ℕ
-usage = codes "usage: tsdb run [--dir D] | gen NUMBER LINES | serve PORT --dir D [--connections N]" ++ 10 ∷ []
+usage = codes "usage: tsdb run [--dir D] | gen NUMBER LINES | serve PORT --dir D [--connections N] [--front F]" ++ 10 ∷ []
 
 -- replies, printed one behind the other
 abbrev pub printed : (Reply → List ℕ) → List Reply → List ℕ
@@ -328,7 +332,7 @@ KeepsSome shelf h = (left : Option Entry) × (n : ℕ) × KeepsTold shelf h left
 
 -- Connections of a listener, from the first one on, and at most so many where that isn't 0, were served over the store of the host's
 -- volume, which the host has taken back.
-pub record ServedAll (found : Option (List Entry)) (host host' : Supply) (most : ℕ) (s : Status) : Type 0 where
+pub record ServedAll (kind : FrontKind) (found : Option (List Entry)) (host host' : Supply) (most : ℕ) (s : Status) : Type 0 where
   -- the transactions in the end: those that were found are a front of them
   pub history : Option (List Entry)
   pub grows : Extends found history
@@ -343,7 +347,7 @@ pub record ServedAll (found : Option (List Entry)) (host host' : Supply) (most :
   pub enough : s ≡ status.Finished → AreEnough most taken host.wires
   pub once : IsPermutation taken (map (λ c. c.before) over)
   pub back : CameBack host.returned host'.returned (map (λ c. c.after) over)
-  pub each : All (IsFated history) over
+  pub each : All (IsFated kind history) over
   -- no number was acknowledged twice: put in order they rise, up to no more than there are transactions
   pub numbers : List ℕ
   pub own : IsPermutation (flat_map numbers_of over) numbers
@@ -357,26 +361,26 @@ pub record ServedAll (found : Option (List Entry)) (host host' : Supply) (most :
 
 -- Connections were served, over a store that was opened, or made where there was none. The listener is that of the port that was named;
 -- where no memory was found, none may have been asked for. The program's own input and output were left alone.
-pub record OverPort (found : Option (List Entry)) (host host' : Supply) (port most : ℕ) (t : Traffic) (s : Status) : Type 0 where
+pub record OverPort (kind : FrontKind) (found : Option (List Entry)) (host host' : Supply) (port most : ℕ) (t : Traffic) (s : Status) : Type 0 where
   pub before : Store
   pub begun : IsBegun found host before
-  pub all : ServedAll found host host' most s
+  pub all : ServedAll kind found host host' most s
   pub listens : AsksFor host.ports host'.ports (Some port) ⊎ ((s ≡ status.NoMemory) × (host'.ports ≡ host.ports))
   pub unread : t.left ≡ t.input
   pub put : PutTo t.output t.written []
 
 -- What serving a port did, where it ended with a status. Where no store was opened, no listener was asked for.
-abbrev pub ServedPort : (found : Option (List Entry)) → (host host' : Supply) → (port most : ℕ) → Traffic → Status → Type 0
-ServedPort found host host' port most t status.Finished = OverPort found host host' port most t status.Finished
-ServedPort found host host' port most t status.Usage = ⊥
-ServedPort found host host' port most t status.BadFrame = ⊥
-ServedPort found host host' port most t status.ReadFault = ⊥
-ServedPort found host host' port most t status.WriteFault = (missing : List ℕ) × FoundDamage host host' t missing × (host'.ports ≡ host.ports)
-ServedPort found host host' port most t status.NoVolume = Unopened host host' t × HasRisen host.volume_faults host'.volume_faults × (host'.ports ≡ host.ports)
-ServedPort found host host' port most t status.Damaged = FoundDamage host host' t [] × (host'.ports ≡ host.ports)
-ServedPort found host host' port most t status.NoMemory =
-    OverPort found host host' port most t status.NoMemory ⊎ ((((missing : List ℕ) × FoundDamage host host' t missing) ⊎ Unopened host host' t) × (host'.ports ≡ host.ports))
-ServedPort found host host' port most t status.NoListener = OverPort found host host' port most t status.NoListener × HasRisen host.listener_faults host'.listener_faults
+abbrev pub ServedPort : FrontKind → (found : Option (List Entry)) → (host host' : Supply) → (port most : ℕ) → Traffic → Status → Type 0
+ServedPort kind found host host' port most t status.Finished = OverPort kind found host host' port most t status.Finished
+ServedPort kind found host host' port most t status.Usage = ⊥
+ServedPort kind found host host' port most t status.BadFrame = ⊥
+ServedPort kind found host host' port most t status.ReadFault = ⊥
+ServedPort kind found host host' port most t status.WriteFault = (missing : List ℕ) × FoundDamage host host' t missing × (host'.ports ≡ host.ports)
+ServedPort kind found host host' port most t status.NoVolume = Unopened host host' t × HasRisen host.volume_faults host'.volume_faults × (host'.ports ≡ host.ports)
+ServedPort kind found host host' port most t status.Damaged = FoundDamage host host' t [] × (host'.ports ≡ host.ports)
+ServedPort kind found host host' port most t status.NoMemory =
+    OverPort kind found host host' port most t status.NoMemory ⊎ ((((missing : List ℕ) × FoundDamage host host' t missing) ⊎ Unopened host host' t) × (host'.ports ≡ host.ports))
+ServedPort kind found host host' port most t status.NoListener = OverPort kind found host host' port most t status.NoListener × HasRisen host.listener_faults host'.listener_faults
 
 -- ---- a command
 
@@ -389,6 +393,11 @@ pub record Outside : Type 0 where
 abbrev pub outside : Stream → Stream → Supply → Outside
 outside input output host = record { input = input; output = output; host = host }
 
+-- the protocol that a word names
+abbrev pub kind_of : Spoken → FrontKind
+kind_of spoken.Frames = kind.Frames
+kind_of spoken.Http = kind.Http
+
 -- how many connections are served at most, where 0 is no end
 abbrev pub limit_of : Option ℕ → ℕ
 limit_of None = 0
@@ -400,26 +409,26 @@ abbrev pub Served : Command → (found : Option (List Entry)) → (old new : Out
 Served (command.Run dir) found old new s = Ran reply_bytes found old.host new.host (traffic old.input new.input old.output new.output) s
 Served (command.Gen number lines) found old new s =
     (left : Option (List ℕ)) × Ran (without_done reply_bytes) found old.host new.host (record { input = Some (generated number lines); left = left; output = old.output.output; written = new.output.output }) s
-Served (command.Serve port dir most) found old new s = ServedPort found old.host new.host port (limit_of most) (traffic old.input new.input old.output new.output) s
+Served (command.Serve port dir most spoken) found old new s = ServedPort (kind_of spoken) found old.host new.host port (limit_of most) (traffic old.input new.input old.output new.output) s
 
 -- the folder whose store a command serves, where it names one
 abbrev pub folder_of : Command → Option (List ℕ)
 folder_of (command.Run dir) = dir
 folder_of (command.Gen number lines) = None
-folder_of (command.Serve port dir most) = Some dir
+folder_of (command.Serve port dir most spoken) = Some dir
 
 -- the numbers that a command may end with: over the generated input, which is whole frames in memory, no frame is bad and
 -- no read fails
 abbrev pub EndsWith : Command → ℕ → Type 0
 EndsWith (command.Run dir) number = (number ≡ 0) ⊎ (number ≡ 2) ⊎ (number ≡ 3) ⊎ (number ≡ 4) ⊎ (number ≡ 5) ⊎ (number ≡ 6) ⊎ (number ≡ 7)
 EndsWith (command.Gen number_given lines) number = (number ≡ 0) ⊎ (number ≡ 4) ⊎ (number ≡ 5) ⊎ (number ≡ 6) ⊎ (number ≡ 7)
-EndsWith (command.Serve port dir most) number = (number ≡ 0) ⊎ (number ≡ 4) ⊎ (number ≡ 5) ⊎ (number ≡ 6) ⊎ (number ≡ 7) ⊎ (number ≡ 8)
+EndsWith (command.Serve port dir most spoken) number = (number ≡ 0) ⊎ (number ≡ 4) ⊎ (number ≡ 5) ⊎ (number ≡ 6) ⊎ (number ≡ 7) ⊎ (number ≡ 8)
 
 -- what `run` serves is whole frames, where that is told; what `gen` serves always is; `serve` finishes whatever is sent
 abbrev pub IsServedWell : Command → Option (List ℕ) → Type 0
 IsServedWell (command.Run dir) input = IsWellFramed input
 IsServedWell (command.Gen number lines) input = Unit {0}
-IsServedWell (command.Serve port dir most) input = Unit {0}
+IsServedWell (command.Serve port dir most spoken) input = Unit {0}
 
 -- no count of failures has risen: of reads, of writes, of the volume, and of listeners
 pub record NoneFailed (old new : Outside) : Type 0 where

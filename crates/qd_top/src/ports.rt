@@ -17,6 +17,7 @@ ghost use Rattle.qd_top.specs.Stores.{Names};
 use crate::opening::{open_host, refuse_store};
 use crate::status::Status;
 use qd_connections::{Served, serve_connections};
+use qd_fronts::FrontKind;
 use qd_ghost::Telling;
 use qd_host::{Host, faults_come_back};
 use qd_io::{IoFault, Sink};
@@ -38,6 +39,7 @@ pub(crate) fn serve_port<
     rt: &R,
     alloc: Global,
     told: &Telling,
+    kind: FrontKind,
     port: u16,
     dir: &[u8],
     most: u64,
@@ -45,12 +47,12 @@ pub(crate) fn serve_port<
     host: &mut H,
 ) -> Status
     requires found { MayFind told.now.history (H.supply host.old).shelf }
-    ensures served { (input : Stream) → ServedPort told.now.history (H.supply host.old) (H.supply host.new) port most (traffic input input (K.stream output.old) (K.stream output.new)) result }
+    ensures served { (input : Stream) → ServedPort kind told.now.history (H.supply host.old) (H.supply host.new) port most (traffic input input (K.stream output.old) (K.stream output.new)) result }
     ensures named { Names (H.supply host.old).folders (H.supply host.new).folders (Some dir.now) (result ≡ Status.NoMemory) }
     ensures writes { CountsWrites (K.stream output.old).writes_failed (K.stream output.new).writes_failed result }
 {
     match open_host(alloc, told, Some(dir), host) {
-        Ok(store) => serve_shared(rt, alloc, told, store, port, most, host),
+        Ok(store) => serve_shared(rt, alloc, told, kind, store, port, most, host),
         Err(why) => refuse_store(alloc, why, output),
     }
 }
@@ -60,6 +62,7 @@ fn serve_shared<R: thread::Threads + Wait + Clock + Copy + Send + Drop + 'static
     rt: &R,
     alloc: Global,
     told: &Telling,
+    kind: FrontKind,
     store: Store<H::Vol>,
     port: u16,
     most: u64,
@@ -68,14 +71,14 @@ fn serve_shared<R: thread::Threads + Wait + Clock + Copy + Send + Drop + 'static
     requires usual { AreUsual store.store.limits }
     requires first { HasFirstRow store.store.versions.versions }
     requires told { BeginsWith told.now.history store }
-    ensures served { ServedAll told.now.history (H.supply host.old) (H.supply host.new) most result }
+    ensures served { ServedAll kind told.now.history (H.supply host.old) (H.supply host.new) most result }
     ensures listens { Listens (H.supply host.old) (H.supply host.new) port result }
 {
     match Shared::start(alloc, store, told) {
         Ok((shared, pass)) => {
             let mut main = pass;
             shared.share(&mut main);
-            serve_passes(rt, alloc, shared, main, port, most, host)
+            serve_passes(rt, alloc, kind, shared, main, port, most, host)
         }
         Err(store) => {
             put_back(store, host);
@@ -88,6 +91,7 @@ fn serve_shared<R: thread::Threads + Wait + Clock + Copy + Send + Drop + 'static
 fn serve_passes<R: thread::Threads + Wait + Clock + Copy + Send + Drop + 'static, H: Host>(
     rt: &R,
     alloc: Global,
+    kind: FrontKind,
     shared: Shared<H::Vol>,
     main: Pass<H::Vol>,
     port: u16,
@@ -97,12 +101,14 @@ fn serve_passes<R: thread::Threads + Wait + Clock + Copy + Send + Drop + 'static
     requires pass { main.table ≡ shared }
     requires main { IsMain main 0 MOST }
     requires new { (view_of main).own ≡ [] }
-    ensures served { ServedAll (history_of main) (H.supply host.old) (H.supply host.new) most result }
+    ensures served { ServedAll kind (history_of main) (H.supply host.old) (H.supply host.new) most result }
     ensures listens { Listens (H.supply host.old) (H.supply host.new) port result }
 {
     match Arc::new(alloc, shared) {
         Ok(shared) => {
-            let (status, shared, main) = serve_listener(rt, alloc, shared, main, port, most, host);
+            let (status, shared, main) = serve_listener(
+                rt, alloc, kind, shared, main, port, most, host,
+            );
             put_back(shared.close(rt, main), host);
             status
         }
@@ -117,6 +123,7 @@ fn serve_passes<R: thread::Threads + Wait + Clock + Copy + Send + Drop + 'static
 fn serve_listener<R: thread::Threads + Wait + Clock + Copy + Send + Drop + 'static, H: Host>(
     rt: &R,
     alloc: Global,
+    kind: FrontKind,
     shared: Arc<Shared<H::Vol>>,
     main: Pass<H::Vol>,
     port: u16,
@@ -128,7 +135,7 @@ fn serve_listener<R: thread::Threads + Wait + Clock + Copy + Send + Drop + 'stat
     requires new { (view_of main).own ≡ [] }
     ensures shared { arc_value result.1 ≡ arc_value shared }
     ensures table { result.2.table ≡ main.table }
-    ensures served { ServedBy main result.2 (H.supply host.old) (H.supply host.new) most result.0 }
+    ensures served { ServedBy kind main result.2 (H.supply host.old) (H.supply host.new) most result.0 }
     ensures listens { Listens (H.supply host.old) (H.supply host.new) port result.0 }
 {
     let mut listener = match host.listener(port) {
@@ -141,7 +148,7 @@ fn serve_listener<R: thread::Threads + Wait + Clock + Copy + Send + Drop + 'stat
         starved,
         shared,
         main,
-    } = serve_connections(rt, alloc, host, &mut listener, shared, main, most);
+    } = serve_connections(rt, alloc, kind, host, &mut listener, shared, main, most);
     host.listener_back(listener);
     (served_as(ended, starved), shared, main)
 }

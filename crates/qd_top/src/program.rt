@@ -9,16 +9,17 @@ ghost use Rattle.qd_gen.specs.Quieted.{without_done};
 ghost use Rattle.qd_args.specs.declared.command.Command.{Command};
 ghost use Rattle.qd_args.specs.declared.command.TheConstants.{MAX_GEN_LINES};
 ghost use Rattle.qd_args.specs.Words.{IsCommand};
-ghost use Rattle.qd_top.specs.Run.{Answered, AsksToRun, CountsReads, CountsWrites, EndsWith, IsUnserved, Ran, WroteUsage, limit_of, outside, traffic};
+ghost use Rattle.qd_top.specs.Run.{Answered, AsksToRun, CountsReads, CountsWrites, EndsWith, IsUnserved, Ran, WroteUsage, kind_of, limit_of, outside, traffic};
 ghost use Rattle.qd_top.specs.Stores.{IsOfNoStore, Names};
 ghost use Rattle.qd_top.specs.Status.{number_of};
 
 use crate::ports::serve_port;
 use crate::serving::serve_ends;
 use crate::status::Status;
-use qd_args::{Command, read_words};
+use qd_args::{Command, Spoken, read_words};
 use qd_base::Txt;
 use qd_frames::FrameFront;
+use qd_fronts::FrontKind;
 use qd_gen::{Quiet, TextSource, gen_input, input_is_read_as_asked};
 use qd_ghost::Telling;
 use qd_host::Host;
@@ -116,12 +117,14 @@ fn do_as_asked<
                     port,
                     dir,
                     connections,
+                    front,
                 },
             ),
         ) => serve_port(
             rt,
             alloc,
             told,
+            front_of(front),
             port,
             dir.bytes(),
             most_of(connections),
@@ -135,7 +138,7 @@ fn do_as_asked<
 
 /// What words that the program doesn't know are answered with.
 const USAGE: &[u8] =
-    b"usage: tsdb run [--dir D] | gen NUMBER LINES | serve PORT --dir D [--connections N]\n";
+    b"usage: tsdb run [--dir D] | gen NUMBER LINES | serve PORT --dir D [--connections N] [--front F]\n";
 
 /// Writes the usage line.
 fn refuse_words<K: Sink>(output: &mut K) -> Status
@@ -180,6 +183,16 @@ fn name_of(dir: Option<&Txt>) -> Option<&[u8]>
     match dir {
         Some(dir) => Some(dir.bytes()),
         None => None,
+    }
+}
+
+/// The protocol that a word names.
+fn front_of(spoken: Spoken) -> FrontKind
+    ensures { result ≡ kind_of spoken }
+{
+    match spoken {
+        Spoken::Frames => FrontKind::Frames,
+        Spoken::Http => FrontKind::Http,
     }
 }
 

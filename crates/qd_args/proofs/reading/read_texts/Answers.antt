@@ -23,7 +23,7 @@ returns-in-Some c =
     let texts = texts_some c.get_strs.result c.in-Some.words _ c.in-Some.is c.get_strs.ensures in
     let same : map (λ w. w.now) c.in-Some.words.now ≡ given.0 =
     found_some given.0 (map (λ w. w.now) c.in-Some.words.now) (texts ∙ raw_values-rows (found_of c.in-Ok.matches) (codes "words") ∙ ap (all_of (codes "words")) rows ∙ found_is given.0 given.2) in
-    let P : List (List ℕ) → Type 0 = λ ws. (command : Command) → ((c.command_of.result ≡ Some command) ↔ AsksWith command c.args.dir c.args.connections ws) in
+    let P : List (List ℕ) → Type 0 = λ ws. (command : Command) → ((c.command_of.result ≡ Some command) ↔ AsksWith command c.args.dir c.args.connections c.args.front ws) in
     subst P (same ∙ sym (ap (drop 1) given.1)) c.command_of.ensures
 
 pub returns-in-None : goal.returns-in-None
@@ -34,7 +34,7 @@ returns-in-None c =
     let rows : rows_of (found_of c.in-Ok.matches) ≡ matches_of line (codes "tsdb" ∷ given.0) =
     (c.in-Ok.ensures.matches (ap is_simple app ∙ line_is_simple)).0 ∙ ap₂ matches_of app given.1 in
     let texts = texts_none c.get_strs.result _ c.in-None.is c.get_strs.ensures in
-    no_words (drop 1 (map (λ t. t.now) c.args.texts.now)) c.args.dir c.args.connections
+    no_words (drop 1 (map (λ t. t.now) c.args.texts.now)) c.args.dir c.args.connections c.args.front
     (ap (drop 1) given.1 ∙ found_nothing given.0 (texts ∙ raw_values-rows (found_of c.in-Ok.matches) (codes "words") ∙ ap (all_of (codes "words")) rows ∙ found_is given.0 given.2))
 
 pub returns-else-eq : goal.returns-else-eq

@@ -9,7 +9,7 @@ returns-in-Ok-clause-served g c =
     let then = g.H.Host.supply c.serve_listener-status.new.host in
     let last = g.H.Host.supply c.put_back.new.host in
     let r = c.serve_listener-status.result in
-    closed c.args.main r.2 host then last c.args.most r.0 c.close.result c.serve_listener-status.ensures.served c.close.ensures.closes c.put_back.ensures.kept c.put_back.ensures.back
+    closed c.args.kind c.args.main r.2 host then last c.args.most r.0 c.close.result c.serve_listener-status.ensures.served c.close.ensures.closes c.put_back.ensures.kept c.put_back.ensures.back
 
 pub returns-in-Ok-clause-listens : goal.returns-in-Ok-clause-listens
 returns-in-Ok-clause-listens g c =
@@ -19,7 +19,7 @@ pub returns-in-Err-clause-served : goal.returns-in-Err-clause-served
 returns-in-Err-clause-served g c =
     let host = g.H.Host.supply c.args.host.now in
     let last = g.H.Host.supply c.put_back-in-Err.new.host in
-    closed c.args.main c.args.main host host last c.args.most status.NoMemory c.close-in-Err.result (nobody_by c.args.main host host c.args.most status.NoMemory c.requires.new refl refl (λ e. absurd (cc (e)))) c.close-in-Err.ensures.closes c.put_back-in-Err.ensures.kept c.put_back-in-Err.ensures.back
+    closed c.args.kind c.args.main c.args.main host host last c.args.most status.NoMemory c.close-in-Err.result (nobody_by c.args.kind c.args.main host host c.args.most status.NoMemory c.requires.new refl refl (λ e. absurd (cc (e)))) c.close-in-Err.ensures.closes c.put_back-in-Err.ensures.kept c.put_back-in-Err.ensures.back
 
 pub returns-in-Err-clause-listens : goal.returns-in-Err-clause-listens
 returns-in-Err-clause-listens g c =

@@ -9,7 +9,7 @@ refuse_store-requires g c = record { made = is-made c.in-Err.why (g.H.Host.suppl
 pub returns-in-Ok-clause-served : goal.returns-in-Ok-clause-served
 returns-in-Ok-clause-served g c =
     λ input.
-    served_since c.args.told.now.history (g.H.Host.supply c.args.host.now) (g.H.Host.supply c.open_host.new.host) (g.H.Host.supply c.serve_shared.new.host) c.args.port c.args.most c.open_host.ensures.connections
+    served_since c.args.kind c.args.told.now.history (g.H.Host.supply c.args.host.now) (g.H.Host.supply c.open_host.new.host) (g.H.Host.supply c.serve_shared.new.host) c.args.port c.args.most c.open_host.ensures.connections
     c.in-Ok.store c.serve_shared.result input (g.K.Ends.stream c.args.output.now) c.in-Ok.ensures.opened c.serve_shared.ensures.served c.serve_shared.ensures.listens
 
 pub returns-in-Ok-clause-named : goal.returns-in-Ok-clause-named
@@ -22,7 +22,7 @@ returns-in-Ok-clause-writes g c = writes_of_serving (g.K.Ends.stream c.args.outp
 pub returns-in-Err-clause-served : goal.returns-in-Err-clause-served
 returns-in-Err-clause-served g c =
     λ input.
-    refused_port c.args.told.now.history (g.H.Host.supply c.args.host.now) (g.H.Host.supply c.open_host.new.host) c.args.port c.args.most c.open_host.ensures.connections.ports
+    refused_port c.args.kind c.args.told.now.history (g.H.Host.supply c.args.host.now) (g.H.Host.supply c.open_host.new.host) c.args.port c.args.most c.open_host.ensures.connections.ports
     input.input (g.K.Ends.stream c.args.output.now).output (g.K.Ends.stream c.refuse_store.new.output).output c.in-Err.why c.refuse_store.result c.in-Err.ensures.unopened c.refuse_store.ensures.said
 
 pub returns-in-Err-clause-named : goal.returns-in-Err-clause-named

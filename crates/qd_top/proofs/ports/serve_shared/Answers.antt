@@ -10,10 +10,10 @@ use Rattle.qd_top.proofs.ports.serve_shared.Goals as goal
 
 pub returns-in-Ok-clause-served : goal.returns-in-Ok-clause-served
 returns-in-Ok-clause-served g c =
-    subst (λ (h : Option (List Entry)). ServedAll h (g.H.Host.supply c.args.host.now) (g.H.Host.supply c.serve_passes.new.host) c.args.most c.serve_passes.result)
+    subst (λ (h : Option (List Entry)). ServedAll c.args.kind h (g.H.Host.supply c.args.host.now) (g.H.Host.supply c.serve_passes.new.host) c.args.most c.serve_passes.result)
     (history_shared c.in-Ok.pass c.share.new.pass c.args.told.now.history c.share.ensures.origin c.share.ensures.view c.in-Ok.ensures.starts.told) c.serve_passes.ensures.served
 
 pub returns-in-Err-clause-served : goal.returns-in-Err-clause-served
 returns-in-Err-clause-served g c =
     let begins = subst (λ (o : Owned). BeginsWith c.args.told.now.history o) (sym c.in-Err.ensures.back) c.requires.told in
-    unshared c.args.told.now.history (g.H.Host.supply c.args.host.now) (g.H.Host.supply c.put_back.new.host) c.args.most status.NoMemory c.in-Err.store (told_over c.args.told.now.history c.in-Err.store begins) c.put_back.ensures.kept c.put_back.ensures.back (λ e. absurd (cc (e)))
+    unshared c.args.kind c.args.told.now.history (g.H.Host.supply c.args.host.now) (g.H.Host.supply c.put_back.new.host) c.args.most status.NoMemory c.in-Err.store (told_over c.args.told.now.history c.in-Err.store begins) c.put_back.ensures.kept c.put_back.ensures.back (λ e. absurd (cc (e)))

@@ -2,7 +2,8 @@ use Rattle.std.proofs.Common.{◌≡◌, ℕ, ap, ◌∙◌, refl, subst, Some}
 use Rattle.qd_args.specs.Words.{Asks}
 use Rattle.qd_args.specs.declared.command.Command.{Command}
 use Rattle.qd_args.specs.declared.command.Command.TheVariants as command
-use Rattle.qd_top.specs.Run.{Did, ServedPort, limit_of, outside, traffic}
+use Rattle.qd_fronts.specs.declared.front.FrontKind.{FrontKind}
+use Rattle.qd_top.specs.Run.{kind_of, Did, ServedPort, limit_of, outside, traffic}
 use Rattle.qd_top.specs.Status.{number_of}
 use Rattle.qd_top.proofs.CommandLemmas.{answered-command, answered-nothing, answered-other, asks_alone, asks_none, did-gen, did-run, did-serve, either-unread, gen_few, named-as, reads-of-gen, reads-of-serving, unserved-from}
 use Rattle.qd_top.proofs.program.do_as_asked.Goals as goal
@@ -59,23 +60,24 @@ returns-in-Ok-Some-Gen-clause-unused g c =
 pub returns-in-Ok-Some-Serve-clause-answered : goal.returns-in-Ok-Some-Serve-clause-answered
 returns-in-Ok-Some-Serve-clause-answered g c =
     let i = c.in-Ok-Some-Serve in
-    let one = command.Serve i.port i.dir i.connections in
+    let one = command.Serve i.port i.dir i.connections i.front in
     let found : i.field-0 ≡ Some one = i.field-0-is ∙ ap Some i.field-0-0-is in
     let asks : Asks one c.args.words.now = (i.ensures.exact one).0 found in
     let input = g.S.Ends.stream c.args.input.now in
     let old = outside input (g.K.Ends.stream c.args.output.now) (g.H.Host.supply c.args.host.now) in
     let new = outside input (g.K.Ends.stream c.serve_port.new.output) (g.H.Host.supply c.serve_port.new.host) in
     let limit = c.most_of.ensures in
-    let served = subst (λ (n : ℕ). ServedPort c.args.told.now.history old.host new.host i.port n (traffic input input old.output new.output) c.serve_port.result) limit (c.serve_port.ensures.served input) in
+    let kind = c.front_of.ensures in
+    let served = subst (λ (f : FrontKind). ServedPort f c.args.told.now.history old.host new.host i.port (limit_of i.connections) (traffic input input old.output new.output) c.serve_port.result) kind (subst (λ (n : ℕ). ServedPort c.front_of.result c.args.told.now.history old.host new.host i.port n (traffic input input old.output new.output) c.serve_port.result) limit (c.serve_port.ensures.served input)) in
     answered-command one c.args.words.now c.args.told.now.history old new c.serve_port.result asks
-    (did-serve i.port i.dir i.connections c.args.told.now.history old new c.serve_port.result c.requires.found served c.serve_port.ensures.writes (named-as old.host.folders new.host.folders (ap Some c.bytes.ensures.same) c.serve_port.ensures.named))
+    (did-serve i.port i.dir i.connections i.front c.args.told.now.history old new c.serve_port.result c.requires.found served c.serve_port.ensures.writes (named-as old.host.folders new.host.folders (ap Some c.bytes.ensures.same) c.serve_port.ensures.named))
     (λ done. asks_alone (λ (other : Command). Did other c.args.told.now.history old new (number_of c.serve_port.result)) i.field-0 c.args.words.now one i.ensures.exact found done)
-    (reads-of-serving c.args.told.now.history old.host new.host i.port (limit_of i.connections) (traffic input input old.output new.output) c.serve_port.result input.reads_failed served) c.serve_port.ensures.writes (λ other. refl)
+    (reads-of-serving (kind_of i.front) c.args.told.now.history old.host new.host i.port (limit_of i.connections) (traffic input input old.output new.output) c.serve_port.result input.reads_failed served) c.serve_port.ensures.writes (λ other. refl)
 
 pub returns-in-Ok-Some-Serve-clause-unused : goal.returns-in-Ok-Some-Serve-clause-unused
 returns-in-Ok-Some-Serve-clause-unused g c =
     let i = c.in-Ok-Some-Serve in
-    let one = command.Serve i.port i.dir i.connections in
+    let one = command.Serve i.port i.dir i.connections i.front in
     λ other. absurd {A = c.serve_port.new.host ≡ c.args.host.now} (other (one, (i.ensures.exact one).0 (i.field-0-is ∙ ap Some i.field-0-0-is)))
 
 pub returns-in-Ok-None-clause-answered : goal.returns-in-Ok-None-clause-answered

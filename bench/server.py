@@ -122,8 +122,9 @@ class Server:
         self.kill()
 
 
-def served(program, folder, connections=None):
-    """A server over a folder, which ends once it has served so many connections, or never."""
+def served(program, folder, connections=None, front=None):
+    """A server over a folder, which ends once it has served so many connections, or never; by frames, or the protocol that is named."""
     port = free_port()
     words = ["serve", str(port), "--dir", folder]
-    return Server(program, port, words + (["--connections", str(connections)] if connections else []))
+    words += ["--connections", str(connections)] if connections else []
+    return Server(program, port, words + (["--front", front] if front else []))

@@ -25,8 +25,8 @@ pub record Connection : Type 0 where
   pub after : Stream
   pub fate : Fate
 
--- A session was held over the connection, by this protocol. What it saw in the end is a beginning of the history, and the transactions of these numbers
--- are its own.
+-- A session was held over the connection, by this protocol. What it saw in the end is a beginning of the history, and the transactions
+-- of these numbers are its own.
 pub record IsSession (kind : FrontKind) (history : Option (List Entry)) (before after : Stream) (numbers : List ℕ) : Type 0 where
   pub visit : Visit
   pub out : Visited

@@ -6,8 +6,8 @@ use qd_fronts::{AnyFront, FrontKind};
 use qd_io::{Sink, Source, write_all};
 use std::alloc::Global;
 
-/// Writes the refusal of a connection for which no thread could be started, as its protocol prints it, as far as there is memory for it and the wire takes it.
-/// Nothing is read.
+/// Writes the refusal of a connection for which no thread could be started, as its protocol prints it, as far as there is memory for
+/// it and the wire takes it. Nothing is read.
 pub(crate) fn turn_away<W: Source + Sink>(alloc: Global, kind: FrontKind, wire: &mut W)
     ensures turned { IsTurnedAway kind (W.Source.stream wire.old) (W.Source.stream wire.new) }
 {

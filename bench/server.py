@@ -1,9 +1,12 @@
-"""The built program as a server, and its clients; for `serve.py` and `tests/serve`. No wait here is without a deadline."""
+"""The built program as a server, and its clients; for `serve.py`, `serve_http.py`, `tests/serve` and `tests/http`. No wait here is without
+a deadline."""
 import random
+import re
 import select
 import socket
 import subprocess
 import time
+from urllib.parse import quote_plus
 
 from program import Asked
 
@@ -11,6 +14,7 @@ HOST = "127.0.0.1"
 PORTS = range(20_000, 30_000)  # below those that the system gives to connections
 SECONDS = 20
 PAUSE = 0.002
+TAIL = 80  # bytes at the end of a JSON, in which its number stands
 
 
 def free_port():
@@ -75,12 +79,48 @@ class Client(Asked):
         return good
 
 
-def connected(port, room=None, is_over=lambda: False):
-    """A client of the server that listens at a port, or will soon, unless that is over."""
+def request(frame):
+    """The request of HTTP that asks what a frame asks."""
+    head, _, body = frame.partition(b"\n")
+    if head == b"A":
+        return b"POST /apply HTTP/1.1\r\n\r\n"
+    if head.startswith(b"Q"):
+        return b"GET /exec?query=%b HTTP/1.1\r\n\r\n" % quote_plus(body).encode()
+    return b"POST /write HTTP/1.1\r\nContent-Length: %d\r\n\r\n" % len(body) + body
+
+
+class Web(Client):
+    """A connection over HTTP, which is asked as one of frames is: by frames, or by requests that are made of them before."""
+
+    def send(self, frame):
+        super().send(request(frame) if frame[:2] in (b"W ", b"Q ", b"A\n") else frame)
+
+    def reply(self):
+        """The next response: the line of a frame's reply that says as much of its number, and its body."""
+        status, fields = self.source.readline().split()[1], {}
+        while len(field := self.source.readline()) > 2:
+            name, _, value = field.partition(b": ")
+            fields[name] = value
+        body = self.source.read(int(fields.get(b"Content-Length", b"0")))
+        if status == b"204":
+            return b"K " + fields[b"X-Txn"].strip() + b"\n", b""
+        letter, key = (b"A", b"txn") if body.startswith(b'{"txn"') else (b"R", b"txn") if body.startswith(b'{"query"') else (b"E", b"code")
+        return b"%b %b\n" % (letter, re.search(b'"%b":(\\d+)' % key, body[-TAIL:])[1]), body
+
+    def end(self):
+        """Asks for the end, and says whether that was answered and nothing more. What is asked for is nothing that is served."""
+        self.send(b"GET / HTTP/1.1\r\nConnection: close\r\n\r\n")
+        good = self.reply()[0] == b"E 70\n" and self.rest() == b""
+        self.close()
+        return good
+
+
+def connected(port, room=None, is_over=lambda: False, kind=None):
+    """A client of the server that listens at a port, or will soon, unless that is over; over frames, or of another kind."""
     until = time.monotonic() + SECONDS
     while True:
         try:
-            return Client(port, room)
+            return (kind or Client)(port, room)
         except ConnectionRefusedError:
             if is_over() or time.monotonic() > until:
                 raise

@@ -1,9 +1,10 @@
-"""The built program as a server, and its clients; for `serve.py`, `serve_http.py`, `tests/serve` and `tests/http`. No wait here is without
-a deadline."""
+"""The built program as a server, and its clients; for `serve.py`, `serve_http.py`, `pg.py`, `tests/serve`, `tests/http` and `tests/pg`. No
+wait here is without a deadline."""
 import random
 import re
 import select
 import socket
+import struct
 import subprocess
 import time
 from urllib.parse import quote_plus
@@ -111,6 +112,46 @@ class Web(Client):
         """Asks for the end, and says whether that was answered and nothing more. What is asked for is nothing that is served."""
         self.send(b"GET / HTTP/1.1\r\nConnection: close\r\n\r\n")
         good = self.reply()[0] == b"E 70\n" and self.rest() == b""
+        self.close()
+        return good
+
+
+START = struct.pack(">II", 8, 196_608)  # of PostgreSQL's protocol 3.0
+
+
+def message(kind, body=b""):
+    """A message of PostgreSQL's protocol."""
+    return kind + struct.pack(">I", 4 + len(body)) + body
+
+
+class Pg(Client):
+    """A connection over PostgreSQL's protocol, which has started."""
+
+    def __init__(self, port, room=None):
+        super().__init__(port, room)
+        self.send(START)
+        self.started = self.answer()
+
+    def answer(self):
+        """The next messages up to ReadyForQuery: the type and the body of each."""
+        messages = []
+        while True:
+            kind = self.source.read(1)
+            if not kind:
+                raise ConnectionError(f"the connection ends behind {messages[-2:]}")
+            messages.append((kind, self.source.read(struct.unpack(">I", self.source.read(4))[0] - 4)))
+            if kind == b"Z":
+                return messages
+
+    def sql(self, text):
+        """Asks a statement, and gives the messages that answer it."""
+        self.send(message(b"Q", text.encode() + b"\0"))
+        return self.answer()
+
+    def end(self):
+        """Ends the session, and says whether nothing was answered."""
+        self.send(message(b"X"))
+        good = self.rest() == b""
         self.close()
         return good
 

@@ -1,0 +1,5 @@
+-- The definitions that the contracts of this crate cite.
+pub mod Messages
+pub mod Replies
+pub mod Steps
+pub mod Reading

@@ -102,11 +102,26 @@ frames_or_http e =
     let bytes : 102 ≡ 104 = ap (λ x. slice_index_or x 0 0) e in
     absurd (omega (arith, bytes))
 
+frames_or_pg : codes "frames" ≡ codes "pg" → ⊥
+frames_or_pg e =
+    let bytes : 102 ≡ 112 = ap (λ x. slice_index_or x 0 0) e in
+    absurd (omega (arith, bytes))
+
+http_or_pg : codes "http" ≡ codes "pg" → ⊥
+http_or_pg e =
+    let bytes : 104 ≡ 112 = ap (λ x. slice_index_or x 0 0) e in
+    absurd (omega (arith, bytes))
+
 same_front : (f g : Spoken) → word_of f ≡ word_of g → f ≡ g
 same_front spoken.Frames spoken.Frames e = refl
 same_front spoken.Frames spoken.Http e = absurd (frames_or_http e)
 same_front spoken.Http spoken.Frames e = absurd (frames_or_http (sym e))
 same_front spoken.Http spoken.Http e = refl
+same_front spoken.Frames spoken.Pg e = absurd (frames_or_pg e)
+same_front spoken.Pg spoken.Frames e = absurd (frames_or_pg (sym e))
+same_front spoken.Http spoken.Pg e = absurd (http_or_pg e)
+same_front spoken.Pg spoken.Http e = absurd (http_or_pg (sym e))
+same_front spoken.Pg spoken.Pg e = refl
 
 same_count : (n m : ℕ) (t u : List ℕ) → IsCount n t → IsCount m u → t ≡ u → n ≡ m
 same_count n m t u a b e = decimal_injective n m (omega arith) (omega arith) (sym a.2 ∙ e ∙ b.2)

@@ -18,6 +18,7 @@ IsCount n text = (1 ≤ n) × (n ≤ MAX_CONNECTIONS) × (text ≡ decimal n)
 abbrev pub word_of : Spoken → List ℕ
 word_of spoken.Frames = codes "frames"
 word_of spoken.Http = codes "http"
+word_of spoken.Pg = codes "pg"
 
 -- an option with its value, in two words or in one
 abbrev pub IsOption : List ℕ → List ℕ → List (List ℕ) → Type 0

@@ -19,6 +19,8 @@ pub enum Spoken {
     Frames,
     /// HTTP.
     Http,
+    /// PostgreSQL's protocol.
+    Pg,
 }
 
 /// What a command line asks for. Contracts see a folder as its bytes.

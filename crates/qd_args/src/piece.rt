@@ -87,6 +87,7 @@ fn front_of(word: &[u8]) -> Option<Spoken>
     match word {
         b"frames" => Some(Spoken::Frames),
         b"http" => Some(Spoken::Http),
+        b"pg" => Some(Spoken::Pg),
         _ => None,
     }
 }

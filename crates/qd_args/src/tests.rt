@@ -209,3 +209,30 @@ fn words_to_serve_http(rt: HostRuntime) -> Result<(), Fail> {
     }
     Ok(())
 }
+
+/// Whether what was found is to serve connections in PostgreSQL's protocol.
+fn speaks_pg(found: &Option<Command>) -> bool {
+    match found {
+        Some(
+            Command::Serve {
+                front: Spoken::Pg,
+                ..
+            },
+        ) => true,
+        _ => false,
+    }
+}
+
+/// Lines of words that are to serve connections in PostgreSQL's protocol.
+const PG_SPEAKERS: [&[&[u8]]; 2] = [
+    &[b"serve", b"80", b"--dir=d", b"--front", b"pg"],
+    &[b"--front=pg", b"serve", b"80", b"--dir", b"d"],
+];
+
+#[test]
+fn words_to_serve_pg(rt: HostRuntime) -> Result<(), Fail> {
+    for words in PG_SPEAKERS {
+        assert!(rt; speaks_pg(&asked(rt.alloc(), words)?));
+    }
+    Ok(())
+}

@@ -5,6 +5,7 @@ ghost use Rattle.qd_fronts.specs.Fronts.{begun};
 use qd_base::{Front, Memory, Reply, Step, Txt};
 use qd_frames::FrameFront;
 use qd_http::HttpFront;
+use qd_pgwire::PgFront;
 use std::alloc::Global;
 
 /// The protocol that a connection speaks.
@@ -14,6 +15,8 @@ pub enum FrontKind {
     Frames,
     /// HTTP/1.0 and 1.1, and replies as JSON.
     Http,
+    /// PostgreSQL's protocol 3.0, with simple queries.
+    Pg,
 }
 
 /// A front of the protocol that a connection speaks. Each call is that of the front inside, and costs as much.
@@ -23,6 +26,8 @@ pub enum AnyFront {
     Frames(FrameFront),
     /// A front of HTTP.
     Http(HttpFront),
+    /// A front of PostgreSQL's protocol.
+    Pg(PgFront),
 }
 
 impl AnyFront {
@@ -33,6 +38,7 @@ impl AnyFront {
         match kind {
             FrontKind::Frames => AnyFront::Frames(FrameFront::new(alloc)),
             FrontKind::Http => AnyFront::Http(HttpFront::new(alloc)),
+            FrontKind::Pg => AnyFront::Pg(PgFront::new(alloc)),
         }
     }
 }
@@ -46,6 +52,7 @@ impl Front for AnyFront {
         match self {
             AnyFront::Frames(front) => front.feed(alloc, piece),
             AnyFront::Http(front) => front.feed(alloc, piece),
+            AnyFront::Pg(front) => front.feed(alloc, piece),
         }
     }
 
@@ -53,6 +60,7 @@ impl Front for AnyFront {
         match self {
             AnyFront::Frames(front) => front.next_step(alloc),
             AnyFront::Http(front) => front.next_step(alloc),
+            AnyFront::Pg(front) => front.next_step(alloc),
         }
     }
 
@@ -60,6 +68,7 @@ impl Front for AnyFront {
         match self {
             AnyFront::Frames(front) => front.finish(),
             AnyFront::Http(front) => front.finish(),
+            AnyFront::Pg(front) => front.finish(),
         }
     }
 
@@ -67,6 +76,7 @@ impl Front for AnyFront {
         match self {
             AnyFront::Frames(front) => front.reply(alloc, reply),
             AnyFront::Http(front) => front.reply(alloc, reply),
+            AnyFront::Pg(front) => front.reply(alloc, reply),
         }
     }
 
@@ -74,6 +84,7 @@ impl Front for AnyFront {
         match self {
             AnyFront::Frames(front) => front.one_script(),
             AnyFront::Http(front) => front.one_script(),
+            AnyFront::Pg(front) => front.one_script(),
         }
     }
 }

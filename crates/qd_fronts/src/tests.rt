@@ -35,3 +35,18 @@ fn each_protocol(rt: HostRuntime) -> Result<(), Fail> {
         body.as_slice(),
     )
 }
+
+#[test]
+fn protocol_of_postgresql(rt: HostRuntime) -> Result<(), Fail> {
+    let alloc: Global = rt.alloc();
+    let mut front = AnyFront::new(alloc, FrontKind::Pg);
+    front.feed(alloc, b"\0\0\0\x08\0\x03\0\0X\0\0\0\x04")?;
+    let Step::Say(text) = front.next_step(alloc)? else {
+        return Err(Fail::from("nothing was said"));
+    };
+    assert_eq!(rt; text.bytes(), b"R\0\0\0\x08\0\0\0\0Z\0\0\0\x05I".as_slice());
+    let step = front.next_step(alloc)?;
+    assert!(rt; matches!(step, Step::Ask(Request::End)));
+    assert!(rt; matches!(front.finish(), Step::Clean));
+    Ok(())
+}

@@ -397,6 +397,7 @@ outside input output host = record { input = input; output = output; host = host
 abbrev pub kind_of : Spoken → FrontKind
 kind_of spoken.Frames = kind.Frames
 kind_of spoken.Http = kind.Http
+kind_of spoken.Pg = kind.Pg
 
 -- how many connections are served at most, where 0 is no end
 abbrev pub limit_of : Option ℕ → ℕ

@@ -193,6 +193,7 @@ fn front_of(spoken: Spoken) -> FrontKind
     match spoken {
         Spoken::Frames => FrontKind::Frames,
         Spoken::Http => FrontKind::Http,
+        Spoken::Pg => FrontKind::Pg,
     }
 }
 

@@ -27,3 +27,11 @@ returns-in-Http-clause-some c = subst Some (sym c.in-Http.is) c.one_script-in-Ht
 pub returns-in-Http-clause-one : goal.returns-in-Http-clause-one
 unfolding One
 returns-in-Http-clause-one c = subst One (sym c.in-Http.is) c.one_script-in-Http.ensures.one
+
+pub returns-in-Pg-clause-some : goal.returns-in-Pg-clause-some
+unfolding Some
+returns-in-Pg-clause-some c = subst Some (sym c.in-Pg.is) c.one_script-in-Pg.ensures.some
+
+pub returns-in-Pg-clause-one : goal.returns-in-Pg-clause-one
+unfolding One
+returns-in-Pg-clause-one c = subst One (sym c.in-Pg.is) c.one_script-in-Pg.ensures.one

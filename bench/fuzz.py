@@ -11,6 +11,8 @@ The forms, each for its share of the time:
   plain reader of frames and the two readers above give, up to the offset of what is no frame.
 - http: requests with bytes changed, behind ones that aren't. Each has a whole response; a refusal of code 1 is the last one, at the first
   byte of a request, and none of those in front of the changed one.
+- pg: messages of PostgreSQL's protocol with bytes changed, each stream on a connection of its own, some at once. The answer has to be, to
+  the byte, what a plain reader of the messages gives; a query's is what the reader of SQL gives, or that of the same text alone.
 - files: a store of all types with a byte of a file changed to one of five values, or a file of another length, each by its turn in an
   order that is drawn. `run --dir` opens it, asks, applies, writes and asks again: it ends with status 0, where each request has a
   reply that it may have, with 5 and no byte, or with 6 and the place of a damage; and with one of these where it is opened once more.
@@ -37,6 +39,7 @@ import re
 import resource
 import select
 import shutil
+import struct
 import subprocess
 import sys
 import tempfile
@@ -46,7 +49,7 @@ import time
 import plain_lines
 import plain_sql
 from program import batch, parsed, query
-from server import request, served
+from server import START, Pg, connected, message, request, served
 
 MOST = 512  # megabytes
 LONG, LONGEST, GIVEN_UP = 1.0, 3.0, 60.0  # seconds
@@ -606,6 +609,118 @@ def http(program, rng, found, until, place):
                 found.waited(time.monotonic() - began)
 
 
+# -- PostgreSQL's protocol
+
+ENCRYPT, ENCRYPT_BY_GSS, CANCEL, PROTOCOL = 80_877_103, 80_877_104, 80_877_102, 196_608
+NO_ENCRYPTION, WELCOME, READY, EMPTY = b"N", message(b"R", bytes(4)) + message(b"Z", b"I"), message(b"Z", b"I"), message(b"I")
+PG_TEXTS = [b"t", b"t;", b"SELECT v, ts FROM t WHERE v > 1", b"SELECT count() c, sum(v) FROM t", b"u", b"", b" \t\r\n", b"nix;;", b"SELECT",
+            b"DROP TABLE t", b"t LIMIT 9223372036854775808", b"SHOW PARTITIONS FROM u", b"\xff", b"SET a = 'b'", b"BEGIN", b"x" * 65_536]
+PG_STARTS = [struct.pack(">II", 8, ENCRYPT), struct.pack(">II", 8, ENCRYPT_BY_GSS), struct.pack(">II", 8, ENCRYPT) + START,
+             struct.pack(">IIII", 16, CANCEL, 1, 2), struct.pack(">II", 41, PROTOCOL) + b"user\0u\0database\0d\0client_encoding"[:33], b""]
+PG_PIECES = [b"\0", b"\0\0", b"\xff", b"Q", b"P", b"S", b"X", b"H", b"p", b"\0\0\0\3", b"\0\0\0\4", b"\0\1\0\5", b"\0\1\0\6", message(b"S"), message(b"P"),
+             message(b"Q", b"t\0"), START, struct.pack(">II", 8, ENCRYPT), struct.pack(">II", 8, CANCEL), b"a" * 70_000]
+
+
+def error_of(code, place):
+    return message(b"E", b"SERROR\0CXX000\0Mcode %d place %d\0\0" % (code, place))
+
+
+def start_at(stream, at):
+    """The code and the end of the message that a connection begins with; None where it is none, or is cut."""
+    if len(stream) < at + 8:
+        return None
+    size, code = struct.unpack_from(">II", stream, at)
+    if code == CANCEL or size == 8 and code in (ENCRYPT, ENCRYPT_BY_GSS):
+        return code, at + 8
+    return (code, at + size) if code == PROTOCOL and 8 <= size <= min(10_000, len(stream) - at) else None
+
+
+def message_at(stream, at):
+    """The type, the body and the end of the message at an offset; None where it is none, or is cut."""
+    if len(stream) < at + 5:
+        return None
+    kind, size = stream[at:at + 1], struct.unpack_from(">I", stream, at + 1)[0]
+    body = stream[at + 5:at + 1 + size]
+    if kind not in (b"Q", b"X", b"H", b"S", b"P", b"B", b"D", b"E", b"C") or not 4 <= size <= 65_541 or len(body) < size - 4:
+        return None
+    return None if kind == b"Q" and body[-1:] != b"\0" or kind == b"Q" and b"\0" in body[:-1] else (kind, body, at + 1 + size)
+
+
+def answers_to(stream, answer):
+    """What is answered to a stream, where `answer` tells what a query is answered, and its last answer's name."""
+    at, found, has_started, skips, name = 0, [], False, False, "nothing"
+    while at < len(stream):
+        if not has_started:
+            begun = start_at(stream, at)
+            if not begun:
+                return b"".join(found) + error_of(1, at), "code 1"
+            if begun[0] == CANCEL:
+                return b"".join(found), "cancel"
+            has_started, at = begun[0] == PROTOCOL, begun[1]
+            found.append(WELCOME if has_started else NO_ENCRYPTION)
+            continue
+        whole = message_at(stream, at)
+        if not whole:
+            return b"".join(found) + error_of(1, at), "code 1"
+        kind, body, at = whole
+        if kind == b"X":
+            return b"".join(found), "end"
+        if kind == b"S":
+            skips, name = False, "sync"
+            found.append(READY)
+        elif kind != b"H" and not skips:
+            skips, name = kind != b"Q", "query" if kind == b"Q" else "code 80"
+            found.append(error_of(80, 0) if skips else EMPTY + READY if not body[:-1].strip(b" \t\r\n") else answer(body[:-1]))
+    return b"".join(found), name
+
+
+def messages_by_chance(rng):
+    """A start, and messages behind it."""
+    kinds = [lambda: message(b"Q", rng.choice(PG_TEXTS) + b"\0")] * 4 + [lambda: message(rng.choice((b"P", b"B", b"D", b"E", b"C", b"H", b"S")), rng.randbytes(rng.randrange(3)))]
+    stream = (START if rng.random() < 0.8 else rng.choice(PG_STARTS)) + b"".join(rng.choice(kinds)() for _ in range(rng.randrange(5)))
+    stream += message(b"X") if rng.random() < 0.3 else b""
+    stream = mutated(rng, stream, PG_PIECES) if rng.random() < 0.8 else stream
+    return stream[:rng.randrange(len(stream) + 1)] if rng.random() < 0.2 else stream
+
+
+class Alone:
+    """What each text is answered that is asked alone, over tables that stay as they are."""
+
+    def __init__(self, server):
+        self.asked, self.client = {}, connected(server.port, kind=Pg)
+
+    def answer(self, text):
+        if text not in self.asked:
+            refusal = plain_sql.refused(text)
+            self.client.send(message(b"Q", text + b"\0"))
+            answer = b"".join(message(kind, body) for kind, body in self.client.answer())
+            if refusal and answer != error_of(*refusal) + READY:
+                raise Wrong(f"{answer[:200]!r} where {refusal} was wanted, for the text {text[:200]!r}")
+            self.asked[text] = answer
+        return self.asked[text]
+
+
+def pg(program, rng, found, until, place):
+    """Streams of messages, each on a connection of its own, some at once."""
+    while time.monotonic() < until:
+        with Serving(program, place, found, "pg") as server:
+            alone = Alone(server)
+            for text in (b"CREATE TABLE t (v LONG, ts TIMESTAMP) TIMESTAMP(ts)", b"INSERT INTO t (v, ts) VALUES (1, '2024-01-01T00:00:00'), (2, '2024-01-02T00:00:00')",
+                         b"CREATE TABLE u (k SYMBOL, ts TIMESTAMP) TIMESTAMP(ts)"):
+                alone.answer(text)
+            for _ in turns(until):
+                streams = [messages_by_chance(rng) for _ in range(CONNECTIONS)]
+                began = time.monotonic()
+                wanted = [answers_to(stream, alone.answer) for stream in streams]
+                for stream, (answer, name), output in zip(streams, wanted, exchange(server, *streams)):
+                    if output != answer:
+                        raise Wrong(f"{output[-300:]!r} where {answer[-300:]!r} was wanted, for the stream {stream[:2000]!r}")
+                    found.add(name)
+                found.waited(time.monotonic() - began)
+                if time.monotonic() - began > LONG and (took := max(busy_with(server, stream) for stream in streams)) > LONG:
+                    raise Wrong(f"{took:.1f} seconds for one of {streams!r}")
+
+
 # -- stored files
 
 STORE = [*(query(text) for text in TABLES), b"A\n",
@@ -723,7 +838,7 @@ def files(program, rng, found, until, place):
     print(f"files: {found.inputs:,} of {len(changes):,} changes of {len(whole)} files, {sum(map(len, whole.values())):,} bytes")
 
 
-FORMS = [lines, sql, frames, http, files]
+FORMS = [lines, sql, frames, http, pg, files]
 
 
 def main():

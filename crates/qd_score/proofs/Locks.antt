@@ -1,5 +1,5 @@
 -- The lock is taken and given back, and a seat looks at it.
-use Rattle.std.proofs.Common.{◌≡◌, ℕ, ◌<◌, false, List, [], ◌∷◌, length, set, Some, refl, sym, ap, ◌∙◌, subst, inl, inr, ⊎_elim, arith}
+use Rattle.std.proofs.Common.{◌≡◌, ℕ, ◌-◌, ◌<◌, false, List, [], ◌∷◌, length, set, Some, refl, sym, ap, ◌∙◌, subst, inl, inr, ⊎_elim, arith}
 use Rattle.std.specs.Prelude.{◌==◌, slice_index, slice_set, Option, IfSome}
 use mathlib.Core.Option.{some, none}
 use lib.ListN.{get_elem?}
@@ -8,7 +8,8 @@ use Rattle.atomic_table.specs.Table.{Me, step, Allows, Act, keeps, takes, gives,
 use Rattle.qd_score_model.specs.declared.view.Sight.{Sight}
 use Rattle.qd_score_model.specs.declared.view.View.{View}
 use Rattle.qd_score_model.specs.declared.view.Mode.TheVariants.{Sole}
-use Rattle.qd_score_model.specs.Machine.{Book, Board, Take, Give, Share, MayGive, sight, took, gave, shared}
+use Rattle.qd_score_model.specs.Machine.{Book, Board, behind, Take, Give, Share, MayGive, sight, took, gave, shared}
+use Rattle.qd_score_model.proofs.Follows.{all_added}
 use Rattle.qd_score.specs.declared.table.Knows.{Knows}
 use Rattle.qd_score.specs.Rule.{IsFree, IsHeld, Ruled, IsInOrder, with_view, sight_of, ComesFrom}
 use Rattle.qd_score.specs.Plays.{Takes, Gives, Learns, Shares}
@@ -47,6 +48,8 @@ module _ {I S B F : Type 0} (book : B → Book I S) (sound : B → Type 0) (fixe
                 view = refl;
                 comes = subst (λ (o : Option B). IfSome o (λ origin. ComesFrom book sound fixed origin f.inside)) (sym (r.origins id me.0 at spent)) f.comes;
                 finds = subst (IsInOrder blocks) seen (record { rows = r.kept.versions.rows; within = r.kept.history.versions; greatest = r.kept.versions.newest f.holder; present = r.kept.blocks_present f.holder });
+                whole = λ room. subst (λ (o : Option B). IfSome o (λ origin. me.0.view.own ≡ behind (length (book origin).history) (length (book f.inside).history - length (book origin).history))) (sym (r.origins id me.0 at spent))
+                    (let all = all_added blocks r.state r.kept id me.0.view (view_there book sound fixed blocks t r id me.0 at) spent room in all ∙ (ap (λ (n : ℕ). behind n (length r.state.board.history - n)) r.opened ∙ ap (λ (n : ℕ). behind (length (book r.origin).history) (n - length (book r.origin).history)) (sym (ap length f.history))));
                 stands = r'.1;
               };
               missed = λ ne. absurd (ne f.lock);

@@ -14,7 +14,7 @@ use Rattle.qd_score_model.specs.declared.view.View.{View}
 use Rattle.qd_score_model.specs.Machine.{Book, Split, MaySplit, MayOpen, happens, lent, newcomer, joined, gone, opening}
 use Rattle.qd_score_model.specs.Kept.{Kept}
 use Rattle.qd_score_model.proofs.Boards.{test_other}
-use Rattle.qd_score_model.proofs.Runs.{kept_happens}
+use Rattle.qd_score_model.proofs.Runs.{kept_happens, opened_happens}
 use Rattle.qd_score_model.proofs.Seats.{joins, kept_opening}
 use Rattle.qd_score.specs.declared.limits.TheConstants.{VERSIONS_END}
 use Rattle.qd_score.specs.declared.table.Knows.{Knows}
@@ -38,6 +38,7 @@ module _ {I S B F : Type 0} (book : B → Book I S) (sound : B → Type 0) (fixe
     state = happens r.state id k.view (Split mode);
     origin = r.origin;
     kept = kept_happens blocks r.state id k.view (Split mode) r.kept (view_there book sound fixed blocks t r id k at) spent may;
+    opened = opened_happens blocks r.state id k.view (Split mode) ∙ r.opened;
     views = map_push view_in (set t.views id left) right ∙ ap (λ (vs : List (View I S)). vs ++ newcomer k.view mode ∷ []) (map_set view_in t.views id left ∙ ap (λ (vs : List (View I S)). set vs id (lent k.view)) r.views);
     origins = origins;
     words = r.words;
@@ -68,6 +69,7 @@ module _ {I S B F : Type 0} (book : B → Book I S) (sound : B → Type 0) (fixe
     state = record { board = r.state.board; views = set (set r.state.views id (joined k.view w.view)) other gone };
     origin = r.origin;
     kept = joins blocks r.state id k.view other w.view r.kept (view_there book sound fixed blocks t r id k at) spent (record { apart = apart; there = view_there book sound fixed blocks t r other w before; stands = stands; no_lock = loose.no_lock; no_pin = loose.no_pin });
+    opened = r.opened;
     views = map_set view_in (set t.views id both) other nobody ∙ ap (λ (vs : List (View I S)). set vs other gone) (map_set view_in t.views id both ∙ ap (λ (vs : List (View I S)). set vs id (joined k.view w.view)) r.views);
     origins = origins;
     words = r.words;
@@ -104,6 +106,7 @@ module _ {I S B F : Type 0} (book : B → Book I S) (sound : B → Type 0) (fixe
     state = opening (book x);
     origin = x;
     kept = kept;
+    opened = refl;
     views = refl;
     origins = origins;
     words = record {

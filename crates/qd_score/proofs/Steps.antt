@@ -10,7 +10,7 @@ use Rattle.qd_score_model.specs.declared.view.Sight.{Sight}
 use Rattle.qd_score_model.specs.Machine.{Book, Board, State, Event, sight, Needs, board_after, view_after, views_after}
 use Rattle.qd_score_model.specs.Kept.{Kept}
 use Rattle.qd_score_model.proofs.Lists.{at_below}
-use Rattle.qd_score_model.proofs.Runs.{kept_happens}
+use Rattle.qd_score_model.proofs.Runs.{kept_happens, opened_happens}
 use Rattle.qd_score.specs.declared.table.Knows.{Knows}
 use Rattle.qd_score.specs.Rule.{WordsShow, IsFree, IsHeld, Ruled, Stands, view_in, with_view}
 use Rattle.qd_score.proofs.Words.{map_set, word_again, word_else, word_here, lock_words, held_by}
@@ -38,6 +38,7 @@ module _ {I S B F : Type 0} (book : B → Book I S) (sound : B → Type 0) (fixe
       state = after;
       origin = r.origin;
       kept = kept;
+      opened = opened_happens blocks r.state id k.view e ∙ r.opened;
       views = map_set view_in t.views id (with_view k v) ∙ ap (λ (vs : List (View I S)). set vs id v) r.views;
       origins = origins;
       words = show;
@@ -96,6 +97,7 @@ module _ {I S B F : Type 0} (book : B → Book I S) (sound : B → Type 0) (fixe
     state = r.state;
     origin = r.origin;
     kept = r.kept;
+    opened = r.opened;
     views = ap (λ vs. map view_in vs) (set_again t.views id k at) ∙ r.views;
     origins = λ seat j there. r.origins seat j (subst (λ (vs : List (Knows I S B)). get_elem? vs seat ≡ some j) (set_again t.views id k at) there);
     words = lock_words t.words n r.words;

@@ -4,7 +4,7 @@ use Rattle.atomic_table.specs.Table.{Me, Step}
 use Rattle.qd_score_model.specs.declared.view.Sight.{Sight}
 use Rattle.qd_score_model.specs.Machine.{Book, took, gave, shared}
 use Rattle.qd_score.specs.declared.table.Knows.{Knows}
-use Rattle.qd_score.specs.Rule.{sight_of, IsInOrder, Stands, with_view, ComesFrom}
+use Rattle.qd_score.specs.Rule.{sight_of, IsInOrder, Stands, with_view, ComesFrom, HasAddedAll}
 
 module _ {I S B F : Type 0} (book : B → Book I S) (sound : B → Type 0) (fixed : B → F) (blocks : S → List ℕ) where
   -- the lock was taken, and the slot with the book
@@ -14,6 +14,7 @@ module _ {I S B F : Type 0} (book : B → Book I S) (sound : B → Type 0) (fixe
     pub view : now.0 ≡ with_view me.0 (took me.0.view (sight_of (book inside)))
     pub comes : IfSome me.0.origin (λ origin. ComesFrom book sound fixed origin inside)
     pub finds : IsInOrder blocks (sight_of (book inside))
+    pub whole : HasAddedAll book sound fixed me.0 inside
     pub stands : Stands blocks now.0.view
 
   -- the lock is taken where it was free

@@ -1,16 +1,16 @@
 -- The rule of the table: its words, the book in its slot and the views of all seats show a state of the scoreboard that is
 -- kept. Word 0 is the lock, word 1 the current place, and word row + 2 is twice the pins of a row, and one more where the
 -- row is live. The one slot has the book, while nobody holds the lock.
-use Rattle.std.specs.Prelude.{◌≡◌, ℕ, ◌+◌, ◌*◌, ◌/◌, ◌%◌, ◌<◌, ◌⊎◌, Bool, false, if◌then◌else◌, List, [], ◌∷◌, map, length, slice_index, Option, Some, None}
+use Rattle.std.specs.Prelude.{◌≡◌, ℕ, ◌+◌, ◌-◌, ◌*◌, ◌/◌, ◌%◌, ◌<◌, ◌≤◌, ◌⊎◌, Bool, false, if◌then◌else◌, List, [], ◌∷◌, map, length, slice_index, Option, Some, None, IfSome}
 use mathlib.Core.Option.{Option as Found, some, none}
 use lib.ListN.{get_elem?}
 use Rattle.atomic_table.specs.Table.{State as TableState}
-use Rattle.qd_score_model.specs.declared.limits.TheConstants.{ROWS}
+use Rattle.qd_score_model.specs.declared.limits.TheConstants.{MAX_SPLITS, ROWS}
 use Rattle.qd_score_model.specs.declared.view.Place.{Place}
 use Rattle.qd_score_model.specs.declared.view.Version.{Version}
 use Rattle.qd_score_model.specs.declared.view.View.{View}
 use Rattle.qd_score_model.specs.declared.view.Sight.{Sight}
-use Rattle.qd_score_model.specs.Machine.{Book, Board, State, version_at, IsGreatest, AllPresent, first_view, gone}
+use Rattle.qd_score_model.specs.Machine.{Book, Board, State, version_at, IsGreatest, AllPresent, behind, first_view, gone}
 use Rattle.qd_score_model.specs.Kept.{Kept}
 use Rattle.qd_score.specs.declared.limits.TheConstants.{VERSIONS_END}
 use Rattle.qd_score.specs.declared.table.Knows.{Knows}
@@ -81,6 +81,10 @@ module _ {I S B F : Type 0} (book : B → Book I S) (sound : B → Type 0) (fixe
   abbrev pub ComesFrom : B → B → Type 0
   ComesFrom origin x = (sound origin → sound x) × (fixed x ≡ fixed origin)
 
+  -- a seat that each other one went into has added just what a book has behind the one that it came from
+  abbrev pub HasAddedAll : Knows I S B → B → Type 0
+  HasAddedAll k x = MAX_SPLITS ≤ k.view.room → IfSome k.origin (λ origin. k.view.own ≡ behind (length (book origin).history) (length (book x).history - length (book origin).history))
+
   -- the book lies in the slot, as the board shows it
   pub record IsFree (b : Board I S) (origin : B) (words : List ℕ) (homes : List (Found (Option B))) : Type 0 where
     pub holder : b.holder ≡ None
@@ -100,6 +104,7 @@ module _ {I S B F : Type 0} (book : B → Book I S) (sound : B → Type 0) (fixe
       pub state : State I S
       pub origin : B
       pub kept : Kept blocks state
+      pub opened : state.board.opened ≡ length (book origin).history
       pub views : map view_in t.views ≡ state.views
       pub origins : (seat : ℕ) (k : Knows I S B) → get_elem? t.views seat ≡ some k → k.view.spent ≡ false → k.origin ≡ Some origin
       pub words : WordsShow state.board.current state.board.pins state.board.live state.board.versions t.words

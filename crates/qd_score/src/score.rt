@@ -9,7 +9,7 @@ ghost use Rattle.qd_score_model.specs.Machine.{MayOpen, MaySplit, took, gave, le
 ghost use Rattle.std.specs.Borrow.{sem, follows};
 ghost use Rattle.qd_score.specs.Lending.{with_book};
 ghost use Rattle.qd_score.specs.contracts.score.Hold.{the_row};
-ghost use Rattle.qd_score.specs.Rule.{sight_of, IsInOrder, with_view, first_seat};
+ghost use Rattle.qd_score.specs.Rule.{sight_of, IsInOrder, with_view, first_seat, HasAddedAll};
 ghost use Rattle.qd_score.specs.Calls.{MaySit, IsSeatOf, IsLoose, HasSeenBoth, IsOfSeat, MayGiveBack, known_by, view_of};
 
 use crate::booked::Booked;
@@ -127,6 +127,7 @@ impl<B: Booked> Score<B> {
         ensures took { IfSome result (λ h. known_by seat.new ≡ with_view (known_by seat.old) (took (view_of seat.old) (sight_of (B.book h.book)))) }
         ensures finds { IfSome result (λ h. IsInOrder B.blocks (sight_of (B.book h.book))) }
         ensures comes { IfSome result (λ h. IsOfSeat B.book B.sound B.fixed seat.old h.book) }
+        ensures whole { IfSome result (λ h. HasAddedAll B.book B.sound B.fixed (known_by seat.old) h.book) }
         ensures same { IfNone result (known_by seat.new ≡ known_by seat.old) }
     {
         let found = self.table.shared.compare_exchange::<Take>(seat, LOCK, 0, 1);
@@ -137,7 +138,7 @@ impl<B: Booked> Score<B> {
         Some(Hold { book })
     }
 
-    /// Takes the lock, and the book with it; waits while another seat holds it. The seat then sees the book as it is.
+    /// Takes the lock, and the book with it; waits while another seat holds it. The seat then sees the book as it is; where each other seat has gone into it, it has added all that came.
     pub fn take<R: Wait>(&self, rt: &R, seat: &mut Seat<B>) -> Hold<B>
         requires seat { IsSeatOf B.blocks self.now.table.shared.table_id seat.old }
         requires free { (view_of seat.old).hold ≡ None }
@@ -145,6 +146,7 @@ impl<B: Booked> Score<B> {
         ensures took { known_by seat.new ≡ with_view (known_by seat.old) (took (view_of seat.old) (sight_of (B.book result.book))) }
         ensures finds { IsInOrder B.blocks (sight_of (B.book result.book)) }
         ensures comes { IsOfSeat B.book B.sound B.fixed seat.old result.book }
+        ensures whole { HasAddedAll B.book B.sound B.fixed (known_by seat.old) result.book }
     {
         for _ in rt.forever() {
             if let Some(hold) = self.try_take(seat) {

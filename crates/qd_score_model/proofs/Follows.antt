@@ -1,22 +1,22 @@
 -- What follows from the rule.
-use Rattle.std.proofs.Common.{◌≡◌, ◌≢◌, ℕ, ◌+◌, ◌<◌, ◌≤◌, Bool, true, false, cond, List, refl, sym, ap, ◌∙◌, subst, ⊎_elim, arith}
-use Rattle.std.specs.Prelude.{is_some, if◌then◌else◌}
+use Rattle.std.proofs.Common.{◌≡◌, ◌≢◌, ℕ, ◌+◌, ◌-◌, ◌<◌, ◌≤◌, Bool, true, false, cond, List, length, set, refl, sym, ap, ◌∙◌, subst, ⊎_elim, arith}
+use Rattle.std.specs.Prelude.{is_some, if◌then◌else◌, sum_by}
 use mathlib.Core.Option.{some, some-injective}
 use lib.ListN.{get_elem?}
-use Rattle.qd_score_model.specs.declared.limits.TheConstants.{PINS_END}
+use Rattle.qd_score_model.specs.declared.limits.TheConstants.{MAX_SPLITS, PINS_END}
 use Rattle.qd_score_model.specs.declared.view.Place.{Place}
 use Rattle.qd_score_model.specs.declared.view.Mode.TheVariants.{Sole}
 use Rattle.qd_score_model.specs.declared.view.Phase.{Phase}
 use Rattle.qd_score_model.specs.declared.view.Phase.TheVariants.{Idle, Pinned}
 use Rattle.qd_score_model.specs.declared.view.View.{View}
-use Rattle.qd_score_model.specs.Machine.{Book, State, gone}
-use Rattle.qd_score_model.specs.Kept.{counts_on, times, IsLive, PhaseFits, Kept}
-use Rattle.qd_score_model.specs.Laws.{Reached, EveryRunIsKept, PinnedRowsAreLive, PinnedBlocksArePresent, HistoryOnlyGrows, SeatsSeeOneHistory, IsIncludedIn, SeatsOnlyLearn, NothingIsForgotten, PositionsAreOnesOwn, PinsStaySmall, SoleSeatRetires}
-use Rattle.qd_score_model.proofs.Lists.{sum_none, sum_under, sum_two_le, prefix_either}
-use Rattle.qd_score_model.proofs.Numbers.{times_contains}
+use Rattle.qd_score_model.specs.Machine.{Book, State, behind, gone, opening}
+use Rattle.qd_score_model.specs.Kept.{counts_on, own_by, times, IsLive, PhaseFits, Kept}
+use Rattle.qd_score_model.specs.Laws.{Reached, EveryRunIsKept, PinnedRowsAreLive, PinnedBlocksArePresent, HistoryOnlyGrows, SeatsSeeOneHistory, IsIncludedIn, SeatsOnlyLearn, NothingIsForgotten, PositionsAreOnesOwn, LastSeatHasAddedAll, PinsStaySmall, SoleSeatRetires}
+use Rattle.qd_score_model.proofs.Lists.{sum_at, sum_at_le, sum_none, sum_under, sum_two_le, prefix_either}
+use Rattle.qd_score_model.proofs.Numbers.{rises_full, rises_wider, times_contains}
 use Rattle.qd_score_model.proofs.Frame.{once_on, weight}
 use Rattle.qd_score_model.proofs.Boards.{same_or_other}
-use Rattle.qd_score_model.proofs.Runs.{kept_after, grows_run}
+use Rattle.qd_score_model.proofs.Runs.{kept_after, grows_run, opened_run}
 use Rattle.qd_score_model.proofs.Learning.{later_run, known_run}
 
 pub every_run : (I S : Type 0) → EveryRunIsKept I S
@@ -65,6 +65,33 @@ positions_are_ones_own I S blocks book s r seat other n v w at there own theirs 
     let c = sum_two_le (λ (u : View I S). times n u.own) s.views seat other v w gone ne refl at there in
     let d = k.history.once n in absurd (omega arith))
     (same_or_other other seat)
+
+-- a seat that has all the room has added all that came
+pub all_added : {I S : Type 0} (blocks : S → List ℕ) (s : State I S) → Kept blocks s → (seat : ℕ) (v : View I S) → get_elem? s.views seat ≡ some v → v.spent ≡ false → MAX_SPLITS ≤ v.room → v.own ≡ behind s.board.opened (length s.board.history - s.board.opened)
+all_added {I} {S} blocks s k seat v at stands room =
+    let w = k.history.whole in
+    let r = k.pins.rooms in
+    let a = sum_at (λ (u : View I S). own_by u) s.views seat v gone at in
+    let b = sum_at (λ (u : View I S). weight u) s.views seat v gone at in
+    let c : weight v ≡ v.room + 1 = ap (λ t. if t then 0 else v.room + 1) stands in
+    let d : own_by v ≡ length v.own = ap (λ t. if t then 0 else length v.own) stands in
+    let e : weight (gone {I = I} {S = S}) ≡ 0 = refl in
+    let f : own_by (gone {I = I} {S = S}) ≡ 0 = refl in
+    let light : sum_by (λ (u : View I S). weight u) (set s.views seat gone) ≡ 0 = omega arith in
+    let none = sum_none (λ (u : View I S). own_by u) (set s.views seat gone) (λ i u there. let le = sum_at_le (λ (x : View I S). weight x) (set s.views seat gone) i u there in by_weight u u.spent refl (omega (arith, le, light))) in
+    let count : length v.own + s.board.opened ≡ length s.board.history = omega (arith, w, a, d, f, none) in
+    let fit = k.history.seats seat v at in
+    rises_full s.board.opened (length s.board.history - s.board.opened) v.own (rises_wider s.board.opened (length s.board.history) (s.board.opened + (length s.board.history - s.board.opened)) v.own (omega (arith, count)) fit.since) (omega (arith, count))
+  where
+    by_weight : (u : View I S) (b : Bool) → u.spent ≡ b → weight u ≡ 0 → own_by u ≡ 0
+    by_weight u true e z = ap (λ t. if t then 0 else length u.own) e
+    by_weight u false e z = let n : weight u ≡ u.room + 1 = ap (λ t. if t then 0 else u.room + 1) e in absurd (omega (arith, n, z))
+
+pub last_seat_has_added_all : (I S : Type 0) → LastSeatHasAddedAll I S
+last_seat_has_added_all I S blocks book s r seat v at stands room =
+    let all = all_added blocks s (kept_reached blocks book s r) seat v at stands room in
+    let opened : s.board.opened ≡ length book.history = subst (λ (t : State I S). t.board.opened ≡ length book.history) r.reaches (opened_run blocks (opening book) r.steps r.run) in
+    subst (λ (n : ℕ). v.own ≡ behind n (length s.board.history - n)) opened all
 
 pub pins_small : {I S : Type 0} (blocks : S → List ℕ) (s : State I S) → Kept blocks s → (row : ℕ) → s.board.pins row < PINS_END
 pins_small {I} {S} blocks s k row =

@@ -10,7 +10,7 @@ use Rattle.qd_score_model.specs.declared.view.Phase.{Phase}
 use Rattle.qd_score_model.specs.declared.view.Phase.TheVariants.{Idle, Looked, Trying, Pinned}
 use Rattle.qd_score_model.specs.declared.view.View.{View}
 use Rattle.qd_score_model.specs.Machine.{Board, State, hold_of, IsGreatest, AllPresent}
-use Rattle.qd_score_model.specs.Kept.{counts_on, Each, rooms, counted, claimed, PhaseFits, OneHolder, VersionsStand, SeenFits, NotedFits, Kept}
+use Rattle.qd_score_model.specs.Kept.{counts_on, Each, rooms, counted, claimed, added, own_by, PhaseFits, OneHolder, VersionsStand, SeenFits, NotedFits, Kept}
 use Rattle.qd_score_model.proofs.Lists.{each_set, sum_at}
 
 -- a seat counts on the row once, or not
@@ -35,7 +35,7 @@ module _ {I S : Type 0} where
   same_fits b pins holder v h = record {
     gone = h.gone;
     phase = at_phase v.phase h.phase;
-    seen = record { seen = h.seen.seen; met = h.seen.met; own = h.seen.own; known = h.seen.known; faults = h.seen.faults; removed = h.seen.removed };
+    seen = record { seen = h.seen.seen; met = h.seen.met; own = h.seen.own; since = h.seen.since; known = h.seen.known; faults = h.seen.faults; removed = h.seen.removed };
     noted = h.noted;
     keeper = h.keeper;
     sole = h.sole;
@@ -69,16 +69,16 @@ module _ {I S : Type 0} (blocks : S → List ℕ) where
 
   -- the rule, from its parts on the board, on each view, and on all views together
   pub kept_from : (s : State I S) → Stands s.board → OneHolder s → Each s.views (λ seat v. Fits s.board v)
-      → ((row : ℕ) → s.board.pins row ≡ counted row s.views) → rooms s.views ≤ MAX_SPLITS + 1 → ((n : ℕ) → claimed n s.views ≤ 1)
+      → ((row : ℕ) → s.board.pins row ≡ counted row s.views) → rooms s.views ≤ MAX_SPLITS + 1 → ((n : ℕ) → claimed n s.views ≤ 1) → added s.views + s.board.opened ≡ length s.board.history
       → Each s.views (λ seat v. v.mode ≡ Sole → Each s.views (λ other w. other ≢ seat → w.mode ≡ Keeper))
       → Kept blocks s
-  kept_from s stands holds fits pins room once alone = record {
+  kept_from s stands holds fits pins room once whole alone = record {
     one_holder = holds;
     pins = record { pins = pins; rooms = room; gone = λ seat v at. (fits seat v at).gone };
     versions = stands.versions;
     phases = λ seat v at. (fits seat v at).phase;
     blocks_present = stands.present;
-    history = record { seats = λ seat v at. (fits seat v at).seen; once = once; versions = stands.within };
+    history = record { seats = λ seat v at. (fits seat v at).seen; once = once; whole = whole; versions = stands.within };
     sole = λ seat v at m. record { seen = (fits seat v at).sole m; others = alone seat v at m };
     noted = λ seat v at. (fits seat v at).noted;
     keepers = λ seat v at. (fits seat v at).keeper;
@@ -95,6 +95,8 @@ module _ {I S : Type 0} (blocks : S → List ℕ) where
     pub pins : (row : ℕ) → c.pins row + once_on row v.phase ≡ b.pins row + once_on row w.phase
     pub weight : weight w ≡ weight v
     pub once : (n : ℕ) → claimed n (set views seat w) ≤ 1
+    pub grown : own_by w + length b.history ≡ own_by v + length c.history
+    pub opened : c.opened ≡ b.opened
     pub sole : w.mode ≡ Sole → v.mode ≡ Sole
     pub keeper : v.mode ≡ Keeper → w.mode ≡ Keeper
 
@@ -111,6 +113,7 @@ module _ {I S : Type 0} (blocks : S → List ℕ) where
       let s = sum_at (λ (u : View I S). once_on row u.phase) views seat v w at in omega arith)
       (let r = k.pins.rooms in let s = sum_at (λ (u : View I S). weight u) views seat v w at in let e = ch.weight in omega arith)
       ch.once
+      (let h = k.history.whole in let s = sum_at (λ (u : View I S). own_by u) views seat v w at in let g = ch.grown in let o = ch.opened in omega arith)
       (each_set views seat w (λ i u. u.mode ≡ Sole → Each (set views seat w) (λ j x. j ≢ i → x.mode ≡ Keeper))
       (λ i u ne there m.
       each_set views seat w (λ j x. j ≢ i → x.mode ≡ Keeper) (λ j x nj here. (k.sole i u there m).others j x here) (λ nj. ch.keeper ((k.sole i u there m).others seat v at nj)))

@@ -1,7 +1,7 @@
 -- The events under the lock keep the rule: take, give, go live, set current, retire.
 use Rattle.std.proofs.Common.{◌≡◌, ◌≢◌, ◌⊎◌, ℕ, ◌+◌, ◌-◌, ◌*◌, ◌<◌, ◌≤◌, Bool, true, false, List, [], ◌∷◌, ◌++◌, length, set, leb, Some, None, refl, sym, ap, ◌∙◌, subst, ⊎_elim, arith, le_refl, le_trans}
 use Rattle.std.specs.Prelude.{◌==◌, if◌then◌else◌, Option, is_some}
-use Rattle.std.proofs.lemmas.List.{length-set}
+use Rattle.std.proofs.lemmas.List.{length-append, length-set}
 use Rattle.std.proofs.lemmas.Bool.Decides.{eqb_tells, leb_tells}
 use mathlib.Core.Option.{some}
 use lib.ListN.{get_elem?}
@@ -15,7 +15,7 @@ use Rattle.qd_score_model.specs.declared.view.View.{View}
 use Rattle.qd_score_model.specs.Machine.{Book, Board, State, Take, Give, GoLive, SetCurrent, Retire, version_at, sight, hold_of, happens, Needs, put_at, IsGreatest, behind, record_of, retired}
 use Rattle.qd_score_model.specs.Kept.{times, RisesWithin, claimed, IsLive, WasCurrent, PhaseFits, VersionsStand, NotedFits, Kept}
 use Rattle.qd_score_model.proofs.Lists.{at_below, sum_at, sum_at_le, sum_none, prefix_refl, prefix_trans, prefix_length, met_further}
-use Rattle.qd_score_model.proofs.Numbers.{rises_wider, rises_behind, rises_append, times_above, times_below, times_once, times_append, never_falls_wider, never_falls_push}
+use Rattle.qd_score_model.proofs.Numbers.{rises_wider, rises_behind, rises_append, times_above, times_below, times_once, times_append, length_behind, never_falls_wider, never_falls_push}
 use Rattle.qd_score_model.proofs.Frame.{once_on, Fits, same_fits, Stands, stands_of, fits_of, kept_set}
 use Rattle.qd_score_model.proofs.Boards.{hold_none, hold_own, hold_other, version_here, version_else, live_now, live_still, below_rows, put_same, put_other, same_or_other, one_at_same}
 use Rattle.qd_score_model.proofs.Pinning.{same_claims}
@@ -29,7 +29,7 @@ module _ {I S : Type 0} where
   refit b v refused hold h = record {
     gone = h.gone;
     phase = h.phase;
-    seen = record { seen = h.seen.seen; met = h.seen.met; own = h.seen.own; known = h.seen.known; faults = h.seen.faults; removed = h.seen.removed };
+    seen = record { seen = h.seen.seen; met = h.seen.met; own = h.seen.own; since = h.seen.since; known = h.seen.known; faults = h.seen.faults; removed = h.seen.removed };
     noted = h.noted;
     keeper = h.keeper;
     sole = h.sole;
@@ -58,6 +58,8 @@ module _ {I S : Type 0} (blocks : S → List ℕ) where
         others = λ j u ne there h. same_fits b b.pins (Some seat) u h;
         pins = λ row. refl;
         weight = refl;
+        grown = refl;
+        opened = refl;
         once = λ n. same_claims s.views seat v w n at refl (k.history.once n);
         sole = λ m. m;
         keeper = λ m. m;
@@ -85,6 +87,8 @@ module _ {I S : Type 0} (blocks : S → List ℕ) where
         others = λ j u ne there h. moved j u there h;
         pins = λ row. refl;
         weight = refl;
+        grown = refl;
+        opened = refl;
         once = λ n. same_claims s.views seat v w n at refl (k.history.once n);
         sole = λ m. m;
         keeper = λ m. m;
@@ -94,7 +98,7 @@ module _ {I S : Type 0} (blocks : S → List ℕ) where
       moved j u there h = record {
         gone = h.gone;
         phase = phases j u there h.phase;
-        seen = record { seen = h.seen.seen; met = h.seen.met; own = h.seen.own; known = le_trans h.seen.known le; faults = h.seen.faults; removed = h.seen.removed };
+        seen = record { seen = h.seen.seen; met = h.seen.met; own = h.seen.own; since = h.seen.since; known = le_trans h.seen.known le; faults = h.seen.faults; removed = h.seen.removed };
         noted = noted u h.noted;
         keeper = h.keeper;
         sole = h.sole;
@@ -236,6 +240,8 @@ module _ {I S : Type 0} (blocks : S → List ℕ) where
     others = λ j u ne there h. h;
     pins = λ row. refl;
     weight = refl;
+    grown = refl;
+    opened = refl;
     once = λ n. same_claims s.views seat v (with_hold v refusals v.hold) n at refl (k.history.once n);
     sole = λ m. m;
     keeper = λ m. m;
@@ -249,8 +255,8 @@ module _ {I S : Type 0} (blocks : S → List ℕ) where
       found true h = ⊎_elim (λ (t : (true ≡ true) × (s.board.pins row ≡ 0)). retires s seat v row k at need t.1) (λ (t : (true ≡ false) × (s.board.pins row ≢ 0)). absurd (cc)) h
       found false h = refused s seat v (v.refused ++ record { row = row; word = 2 * s.board.pins row + 1 } ∷ []) k at
 
-  pub keeps_give : (s : State I S) (seat : ℕ) (v : View I S) (book : Book I S) → Kept blocks s → get_elem? s.views seat ≡ some v → Needs blocks s seat v (Give book) → Kept blocks (happens s seat v (Give book))
-  keeps_give s seat v book k at need =
+  pub keeps_give : (s : State I S) (seat : ℕ) (v : View I S) (book : Book I S) → Kept blocks s → get_elem? s.views seat ≡ some v → v.spent ≡ false → Needs blocks s seat v (Give book) → Kept blocks (happens s seat v (Give book))
+  keeps_give s seat v book k at alive need =
       kept_set blocks s.board c s.views seat v w k at (record {
         stands = stands;
         there = λ j e. absurd (cc);
@@ -260,6 +266,13 @@ module _ {I S : Type 0} (blocks : S → List ℕ) where
         others = others;
         pins = λ row. refl;
         weight = refl;
+        grown =
+            let a = ap (λ t. if t then 0 else length (v.own ++ added)) alive in
+            let b = ap (λ t. if t then 0 else length v.own) alive in
+            let l = length-append v.own added in
+            let n = length_behind (length s.board.history) (length book.history - length s.board.history) in
+            let g = grown in omega arith;
+        opened = refl;
         once = once;
         sole = λ m. m;
         keeper = λ m. m;
@@ -292,6 +305,7 @@ module _ {I S : Type 0} (blocks : S → List ℕ) where
           seen = prefix_trans u.seen s.board.history book.history h.seen.seen need.history;
           met = h.seen.met;
           own = h.seen.own;
+          since = rises_wider s.board.opened (length s.board.history) (length book.history) u.own grown h.seen.since;
           known = h.seen.known;
           faults = never_falls_wider (λ r. r.faults_found) (λ r. r.faults_left) 0 s.board.faults book.faults u.records need.faults h.seen.faults;
           removed = never_falls_wider (λ r. r.removed_found) (λ r. r.removed_left) 0 s.board.removed book.removed u.records need.removed h.seen.removed;
@@ -309,6 +323,8 @@ module _ {I S : Type 0} (blocks : S → List ℕ) where
           seen = prefix_refl book.history;
           met = met_further v.seen book.history v.met (prefix_trans v.seen s.board.history book.history h.seen.seen need.history) h.seen.met;
           own = rises_append v.own added 0 (length s.board.history) (length book.history) (rises_wider 0 (length v.seen) (length s.board.history) v.own (prefix_length v.seen s.board.history h.seen.seen) h.seen.own)
+              (rises_behind (length s.board.history) (length book.history - length s.board.history) (length book.history) (let g = grown in omega arith));
+          since = rises_append v.own added s.board.opened (length s.board.history) (length book.history) h.seen.since
               (rises_behind (length s.board.history) (length book.history - length s.board.history) (length book.history) (let g = grown in omega arith));
           known = le_refl s.board.current.n;
           faults = never_falls_push (λ r. r.faults_found) (λ r. r.faults_left) 0 s.board.faults book.faults v.records (record_of (sight s.board) book) h.seen.faults (le_refl s.board.faults) need.faults (le_refl book.faults);

@@ -1,5 +1,5 @@
 -- Rising lists of numbers, and numbers that never fall.
-use Rattle.std.proofs.Common.{◌≡◌, ◌≢◌, ◌⊎◌, ℕ, zero, suc, ◌+◌, ◌<◌, ◌≤◌, Bool, true, false, cond, List, [], ◌∷◌, ◌++◌, length, refl, sym, ap, ⊎_elim, arith, zero-le, eqb, leb}
+use Rattle.std.proofs.Common.{◌≡◌, ◌≢◌, ◌⊎◌, ℕ, zero, suc, ◌+◌, ◌<◌, ◌≤◌, Bool, true, false, cond, List, [], ◌∷◌, ◌++◌, length, refl, sym, ap, ap₂, subst, ⊎_elim, arith, zero-le, eqb, leb}
 use Rattle.std.specs.Prelude.{◌==◌, nat_le, if◌then◌else◌, slice_index_or}
 use Rattle.std.proofs.lemmas.Bool.Decides.{eqb_tells, leb_tells}
 use Rattle.std.proofs.lemmas.List.Sums.{sum_by-cons, sum_by-append}
@@ -34,6 +34,21 @@ rises_lower low high less (x ∷ xs) le h = (omega (arith, h.0), h.1)
 pub rises_le : (low high : ℕ) (xs : List ℕ) → RisesWithin low high xs → low ≤ high
 rises_le low high [] h = h
 rises_le low high (x ∷ xs) h = let a = rises_le x high xs h.1 in omega (arith, h.0)
+
+pub rises_length : (low high : ℕ) (xs : List ℕ) → RisesWithin low high xs → length xs + low ≤ high
+rises_length low high [] h = omega (arith, h)
+rises_length low high (x ∷ xs) h = let a = rises_length x high xs h.1 in omega (arith, h.0, a)
+
+-- as many as lie within the bounds are all that do
+pub rises_full : (low count : ℕ) (xs : List ℕ) → RisesWithin low (low + count) xs → length xs ≡ count → xs ≡ behind low count
+rises_full low zero [] h e = refl
+rises_full low (suc count) [] h e = absurd (omega (arith, e))
+rises_full low zero (x ∷ xs) h e = absurd (omega (arith, e))
+rises_full low (suc count) (x ∷ xs) h e =
+    let a = rises_length x (low + suc count) xs h.1 in
+    let next : x ≡ suc low = omega (arith, h.0, a, e) in
+    let high : low + suc count ≡ suc low + count = omega arith in
+    ap₂ (λ (n : ℕ) (l : List ℕ). n ∷ l) next (rises_full (suc low) count xs (subst (λ n. RisesWithin (suc low) n xs) high (rises_lower x (low + suc count) (suc low) xs (omega (arith, next)) h.1)) (omega (arith, e)))
 
 pub rises_behind : (n count high : ℕ) → n + count ≤ high → RisesWithin n high (behind n count)
 rises_behind n zero high le = omega arith
@@ -104,6 +119,22 @@ rises_merged low high (x ∷ xs) ys h k once =
     let rest = rises_merged low high xs ys (rises_lower x high low xs (omega (arith, h.0)) h.1) k fewer in
     let a = times_cons x x xs in let b = once x in let c = one_if_same x x refl in let d = times_merged x xs ys in
     rises_insert x low high (merged xs ys) rest h.0 (rises_le x high xs h.1) (omega arith)
+
+pub length_behind : (n count : ℕ) → length (behind n count) ≡ count
+length_behind n zero = refl
+length_behind n (suc count) = ap suc (length_behind (suc n) count)
+
+length_insert : (x : ℕ) (xs : List ℕ) → length (insert x xs) ≡ suc (length xs)
+length_insert x [] = refl
+length_insert x (y ∷ ys) = choose (length_insert x ys) (nat_le x y)
+  where
+    choose : length (insert x ys) ≡ suc (length ys) → (b : Bool) → length (if b then x ∷ y ∷ ys else y ∷ insert x ys) ≡ suc (suc (length ys))
+    choose h true = refl
+    choose h false = ap suc h
+
+pub length_merged : (xs ys : List ℕ) → length (merged xs ys) ≡ length xs + length ys
+length_merged [] ys = omega arith
+length_merged (x ∷ xs) ys = let a = length_insert x (merged xs ys) in let b = length_merged xs ys in omega arith
 
 pub times_contains : (n : ℕ) (xs : List ℕ) (k : ℕ) → k < length xs → slice_index_or xs k n ≡ n → 0 < times n xs
 times_contains n [] k lt e = absurd (omega arith)

@@ -23,7 +23,7 @@ module _ {I S : Type 0} where
   refit b v p known reads h fits le idle = record {
     gone = h.gone;
     phase = fits;
-    seen = record { seen = h.seen.seen; met = h.seen.met; own = h.seen.own; known = le; faults = h.seen.faults; removed = h.seen.removed };
+    seen = record { seen = h.seen.seen; met = h.seen.met; own = h.seen.own; since = h.seen.since; known = le; faults = h.seen.faults; removed = h.seen.removed };
     noted = h.noted;
     keeper = idle;
     sole = h.sole;
@@ -54,6 +54,8 @@ module _ {I S : Type 0} (blocks : S → List ℕ) where
     others = λ j u ne there h. same_fits s.board pins s.board.holder u h;
     pins = counts;
     weight = refl;
+    grown = refl;
+    opened = refl;
     once = λ n. same_claims s.views seat v (in_phase v p known reads) n at refl (k.history.once n);
     sole = λ m. m;
     keeper = λ m. m;

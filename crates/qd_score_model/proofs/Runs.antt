@@ -1,5 +1,5 @@
 -- Every event keeps the rule, so every run does.
-use Rattle.std.proofs.Common.{◌≡◌, ℕ, Bool, true, false, List, [], ◌∷◌, ◌++◌, sym, subst}
+use Rattle.std.proofs.Common.{◌≡◌, ℕ, Bool, true, false, List, [], ◌∷◌, ◌++◌, ◌∙◌, refl, sym, subst}
 use Rattle.std.specs.Prelude.{◌==◌, if◌then◌else◌}
 use mathlib.Core.Option.{some}
 use mathlib.Core.List.{IsPrefix}
@@ -16,7 +16,7 @@ use Rattle.qd_score_model.proofs.Seats.{keeps_split, keeps_join, keeps_share, ke
 module _ {I S : Type 0} (blocks : S → List ℕ) where
   pub kept_happens : (s : State I S) (seat : ℕ) (v : View I S) (e : Event I S) → Kept blocks s → get_elem? s.views seat ≡ some v → v.spent ≡ false → Needs blocks s seat v e → Kept blocks (happens s seat v e)
   kept_happens s seat v Take k at stands need = keeps_take blocks s seat v k at need
-  kept_happens s seat v (Give book) k at stands need = keeps_give blocks s seat v book k at need
+  kept_happens s seat v (Give book) k at stands need = keeps_give blocks s seat v book k at stands need
   kept_happens s seat v Look k at stands need = keeps_look blocks s seat v k at need
   kept_happens s seat v (Raise place) k at stands need = keeps_raise blocks s seat v place k at need
   kept_happens s seat v (Confirm place) k at stands need = keeps_confirm blocks s seat v place k at need
@@ -61,6 +61,33 @@ module _ {I S : Type 0} (blocks : S → List ℕ) where
   pub grows_run : (s : State I S) (steps : List (Step I S)) → IsRun blocks s steps → IsPrefix s.board.history (after s steps).board.history
   grows_run s [] run = prefix_refl s.board.history
   grows_run s (x ∷ xs) run = prefix_trans s.board.history (next s x).board.history (after (next s x) xs).board.history (grows_next s x run.0) (grows_run (next s x) xs run.1)
+
+  -- how many items there were at the opening stays
+  pub opened_happens : (s : State I S) (seat : ℕ) (v : View I S) (e : Event I S) → (happens s seat v e).board.opened ≡ s.board.opened
+  opened_happens s seat v Take = refl
+  opened_happens s seat v (Give book) = refl
+  opened_happens s seat v Look = refl
+  opened_happens s seat v (Raise place) = refl
+  opened_happens s seat v (Confirm place) = refl
+  opened_happens s seat v (Drop place) = refl
+  opened_happens s seat v HeldRaise = refl
+  opened_happens s seat v (GoLive row x) = refl
+  opened_happens s seat v (SetCurrent place) = refl
+  opened_happens s seat v (Retire row) = either_way (s.board.pins row == 0)
+    where
+      either_way : (b : Bool) → (if b then retired s.board row else s.board).opened ≡ s.board.opened
+      either_way true = refl
+      either_way false = refl
+  opened_happens s seat v (Split mode) = refl
+  opened_happens s seat v (Join other) = refl
+  opened_happens s seat v Share = refl
+
+  opened_next : (s : State I S) (x : Step I S) → MayHappen blocks s x → (next s x).board.opened ≡ s.board.opened
+  opened_next s x may = subst (λ o. (happens_if s x.seat x.event o).board.opened ≡ s.board.opened) (sym may.1) (opened_happens s x.seat may.0 x.event)
+
+  pub opened_run : (s : State I S) (steps : List (Step I S)) → IsRun blocks s steps → (after s steps).board.opened ≡ s.board.opened
+  opened_run s [] run = refl
+  opened_run s (x ∷ xs) run = opened_run (next s x) xs run.1 ∙ opened_next s x run.0
 
   -- one run behind another
   pub run_on : (s : State I S) (xs ys : List (Step I S)) → IsRun blocks s xs → IsRun blocks (after s xs) ys → IsRun blocks s (xs ++ ys)

@@ -16,9 +16,9 @@ use Rattle.qd_score_model.specs.declared.view.Phase.TheVariants.{Idle, Looked}
 use Rattle.qd_score_model.specs.declared.view.Version.{Version}
 use Rattle.qd_score_model.specs.declared.view.View.{View}
 use Rattle.qd_score_model.specs.Machine.{Book, Board, State, Split, Join, Share, version_at, hold_of, happens, Needs, MayJoin, MayOpen, newcomer, joined, gone, join_views, longer, opening, first_view}
-use Rattle.qd_score_model.specs.Kept.{times, Each, Kept}
+use Rattle.qd_score_model.specs.Kept.{own_by, times, Each, Kept}
 use Rattle.qd_score_model.proofs.Lists.{each_set, each_push, set_else, sum_at, prefix_refl, prefix_length, prefix_back, prefix_either, met_further}
-use Rattle.qd_score_model.proofs.Numbers.{rises_wider, rises_merged, times_merged}
+use Rattle.qd_score_model.proofs.Numbers.{rises_le, rises_wider, rises_merged, times_merged, length_merged}
 use Rattle.qd_score_model.proofs.Frame.{once_on, weight, Fits, stands_of, fits_of, kept_set, kept_from}
 use Rattle.qd_score_model.proofs.Boards.{hold_other, hold_none, test_other}
 use Rattle.qd_score_model.proofs.Pinning.{same_claims}
@@ -69,11 +69,14 @@ module _ {I S : Type 0} where
   weight_of : (v : View I S) → v.spent ≡ false → weight v ≡ v.room + 1
   weight_of v e = ap (λ t. if t then 0 else v.room + 1) e
 
+  own_of : (v : View I S) → v.spent ≡ false → own_by v ≡ length v.own
+  own_of v e = ap (λ t. if t then 0 else length v.own) e
+
   fits_newcomer : (b : Board I S) (v : View I S) (mode : Mode) → Fits b v → (mode ≡ Keeper) ⊎ (mode ≡ Writer) → Fits b (newcomer v mode)
   fits_newcomer b v mode h kind = record {
     gone = λ e. absurd (cc);
     phase = tt;
-    seen = record { seen = h.seen.seen; met = All-nil (λ xs. IsPrefix xs v.seen); own = zero-le; known = h.seen.known; faults = zero-le; removed = zero-le };
+    seen = record { seen = h.seen.seen; met = All-nil (λ xs. IsPrefix xs v.seen); own = zero-le; since = rises_le b.opened (length b.history) v.own h.seen.since; known = h.seen.known; faults = zero-le; removed = zero-le };
     noted = h.noted;
     keeper = λ m. refl;
     sole = λ m. absurd (⊎_elim (λ (e : mode ≡ Keeper). cc) (λ (e : mode ≡ Writer). cc) kind);
@@ -83,17 +86,17 @@ module _ {I S : Type 0} where
   fits_room b v room h = record {
     gone = h.gone;
     phase = h.phase;
-    seen = record { seen = h.seen.seen; met = h.seen.met; own = h.seen.own; known = h.seen.known; faults = h.seen.faults; removed = h.seen.removed };
+    seen = record { seen = h.seen.seen; met = h.seen.met; own = h.seen.own; since = h.seen.since; known = h.seen.known; faults = h.seen.faults; removed = h.seen.removed };
     noted = h.noted;
     keeper = h.keeper;
     sole = h.sole;
   }
 
-  fits_gone : (b : Board I S) → Fits b gone
-  fits_gone b = record {
+  fits_gone : (b : Board I S) → b.opened ≤ length b.history → Fits b gone
+  fits_gone b grown = record {
     gone = λ e. refl;
     phase = tt;
-    seen = record { seen = (b.history, refl); met = All-nil (λ xs. IsPrefix xs []); own = zero-le; known = zero-le; faults = zero-le; removed = zero-le };
+    seen = record { seen = (b.history, refl); met = All-nil (λ xs. IsPrefix xs []); own = zero-le; since = grown; known = zero-le; faults = zero-le; removed = zero-le };
     noted = λ row x e. absurd (cc);
     keeper = λ m. refl;
     sole = λ m. absurd (cc);
@@ -117,7 +120,7 @@ module _ {I S : Type 0} (blocks : S → List ℕ) where
         fits = record {
           gone = λ e. absurd (cc);
           phase = h.phase;
-          seen = record { seen = h.seen.seen; met = h.seen.met; own = h.seen.own; known = h.seen.known; faults = h.seen.faults; removed = h.seen.removed };
+          seen = record { seen = h.seen.seen; met = h.seen.met; own = h.seen.own; since = h.seen.since; known = h.seen.known; faults = h.seen.faults; removed = h.seen.removed };
           noted = h.noted;
           keeper = λ m. absurd (cc);
           sole = λ m. absurd (cc);
@@ -125,6 +128,8 @@ module _ {I S : Type 0} (blocks : S → List ℕ) where
         others = λ j u ne there f. f;
         pins = λ row. refl;
         weight = refl;
+        grown = refl;
+        opened = refl;
         once = λ n. same_claims s.views seat v w n at refl (k.history.once n);
         sole = λ m. absurd (cc);
         keeper = λ m. absurd (cc);
@@ -145,6 +150,11 @@ module _ {I S : Type 0} (blocks : S → List ℕ) where
       let d = weight_of w stands in
       let e = need.room in omega arith)
       (λ n. let c = same_claims s.views seat v w n at refl (k.history.once n) in let b = sum_by_push (λ (u : View I S). times n u.own) old new in omega arith)
+      (let h = k.history.whole in
+      let a = sum_at (λ (u : View I S). own_by u) s.views seat v w at in
+      let b = sum_by_push (λ (u : View I S). own_by u) old new in
+      let same : own_by w ≡ own_by v = refl in
+      let none : own_by new ≡ 0 = refl in omega arith)
       (each_push old new (λ i u. u.mode ≡ Sole → Each (old ++ new ∷ []) (λ j x. j ≢ i → x.mode ≡ Keeper))
       (each_set s.views seat w (λ i u. u.mode ≡ Sole → Each (old ++ new ∷ []) (λ j x. j ≢ i → x.mode ≡ Keeper)) (λ i u ne there m. alone i u there m) (λ m. alone seat v at m))
       (λ m. absurd (⊎_elim (λ (e : mode ≡ Keeper). cc) (λ (e : mode ≡ Writer). cc) kind)))
@@ -185,7 +195,7 @@ module _ {I S : Type 0} (blocks : S → List ℕ) where
         holds = both (λ j u. u.hold ≡ hold_of s.board j) (λ j u a b there. k.one_holder.holds j u there) (k.one_holder.holds seat v at) (sym need.no_lock ∙ k.one_holder.holds other w need.there);
         there = λ j e. let h = k.one_holder.there j e in let a = length-set once other gone in let b = length-set s.views seat (joined v w) in omega arith;
       })
-      (both (λ j u. Fits s.board u) (λ j u a b there. fits_of blocks s k j u there) fits (fits_gone s.board))
+      (both (λ j u. Fits s.board u) (λ j u a b there. fits_of blocks s k j u there) fits (fits_gone s.board (let w = k.history.whole in omega (arith, w))))
       (λ row.
       let p = k.pins.pins row in
       let a = sum_at (λ (u : View I S). once_on row u.phase) s.views seat v (joined v w) at in
@@ -202,6 +212,14 @@ module _ {I S : Type 0} (blocks : S → List ℕ) where
       let b = sum_at (λ (u : View I S). times n u.own) once other w gone there in
       let c = times_merged n v.own w.own in
       let d = k.history.once n in omega arith)
+      (let h = k.history.whole in
+      let a = sum_at (λ (u : View I S). own_by u) s.views seat v (joined v w) at in
+      let b = sum_at (λ (u : View I S). own_by u) once other w gone there in
+      let c = length_merged v.own w.own in
+      let d = own_of v stands in
+      let e = own_of w need.stands in
+      let f = own_of (joined v w) stands in
+      let none : own_by (gone {I = I} {S = S}) ≡ 0 = refl in omega arith)
       (both (λ i u. u.mode ≡ Sole → Each (set once other gone) (λ j x. j ≢ i → x.mode ≡ Keeper)) (λ i u a b here m. alone i u here m) (λ m. alone seat v at m) (λ m. absurd (cc)))
     where
       once : List (View I S)
@@ -228,6 +246,7 @@ module _ {I S : Type 0} (blocks : S → List ℕ) where
               seen = longer_prefix v.seen w.seen s.board.history h.seen.seen g.seen.seen;
               met = both_met v.seen w.seen s.board.history v.met h.seen.seen g.seen.seen h.seen.met;
               own = rises_merged 0 (length (longer v.seen w.seen)) v.own w.own (rises_wider 0 (length v.seen) (length (longer v.seen w.seen)) v.own l.0 h.seen.own) (rises_wider 0 (length w.seen) (length (longer v.seen w.seen)) w.own l.1 g.seen.own) apart;
+              since = rises_merged s.board.opened (length s.board.history) v.own w.own h.seen.since g.seen.since apart;
               known = let a = h.seen.known in let b = g.seen.known in omega arith;
               faults = h.seen.faults;
               removed = h.seen.removed;
@@ -267,7 +286,7 @@ module _ {I S : Type 0} (blocks : S → List ℕ) where
       (one (λ j u. Fits (opening book).board u) (record {
         gone = λ e. absurd (cc);
         phase = tt;
-        seen = record { seen = prefix_refl book.history; met = All-nil (λ xs. IsPrefix xs book.history); own = zero-le; known = le_refl book.current.n; faults = zero-le; removed = zero-le };
+        seen = record { seen = prefix_refl book.history; met = All-nil (λ xs. IsPrefix xs book.history); own = zero-le; since = le_refl (length book.history); known = le_refl book.current.n; faults = zero-le; removed = zero-le };
         noted = λ row x e. absurd (cc);
         keeper = λ m. refl;
         sole = λ m. refl;
@@ -275,6 +294,7 @@ module _ {I S : Type 0} (blocks : S → List ℕ) where
       (λ row. refl)
       (le_refl (MAX_SPLITS + 1))
       (λ n. zero-le)
+      (omega arith)
       (one (λ i u. u.mode ≡ Sole → Each (first_view book ∷ []) (λ j x. j ≢ i → x.mode ≡ Keeper)) (λ m. one (λ j x. j ≢ 0 → x.mode ≡ Keeper) (λ ne. absurd (ne refl))))
     where
       one : (P : ℕ → View I S → Type 0) → P 0 (first_view book) → (j : ℕ) (u : View I S) → get_elem? (first_view book ∷ []) j ≡ some u → P j u

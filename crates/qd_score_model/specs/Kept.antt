@@ -51,6 +51,13 @@ module _ {I S : Type 0} where
   abbrev pub claimed : ℕ → List (View I S) → ℕ
   claimed n views = sum_by (λ (v : View I S). times n v.own) views
 
+  -- how many positions all seats say to be their own
+  abbrev pub own_by : View I S → ℕ
+  own_by v = if v.spent then 0 else length v.own
+
+  abbrev pub added : List (View I S) → ℕ
+  added views = sum_by own_by views
+
   -- a version with this place's number is live in its row
   abbrev pub IsLive : Board I S → Place → Type 0
   IsLive b place = (x : Version S) × (version_at b.versions place.row ≡ Some x) × (x.n ≡ place.n)
@@ -87,20 +94,23 @@ module _ {I S : Type 0} where
     pub newer : (row other : ℕ) (x y : Version S) → version_at b.versions row ≡ Some x → version_at b.versions other ≡ Some y → b.current.n < x.n → b.current.n < y.n → row ≡ other
     pub newest : b.holder ≡ None → IsGreatest b.current.n b.versions
 
-  -- what a seat has seen is a beginning of the one history, and what it met is of that; its own positions lie within it
+  -- what a seat has seen is a beginning of the one history, and what it met is of that; its own positions lie within it, behind the
+  -- items that there were at the opening
   pub record SeenFits (b : Board I S) (v : View I S) : Type 0 where
     pub seen : IsPrefix v.seen b.history
     pub met : All (λ xs. IsPrefix xs v.seen) v.met
     pub own : RisesWithin 0 (length v.seen) v.own
+    pub since : RisesWithin b.opened (length b.history) v.own
     pub known : v.known ≤ b.current.n
     pub faults : NeverFalls (λ r. r.faults_found) (λ r. r.faults_left) 0 b.faults v.records
     pub removed : NeverFalls (λ r. r.removed_found) (λ r. r.removed_left) 0 b.removed v.records
 
-  -- One history for all seats: each has seen a beginning of it, and each position is one seat's at most. No version
-  -- stands for more of it than there is.
+  -- One history for all seats: each has seen a beginning of it, and each position is one seat's at most. As many are some
+  -- seat's as items have come since the opening. No version stands for more of it than there is.
   pub record OneHistory (s : State I S) : Type 0 where
     pub seats : Each s.views (λ seat v. SeenFits s.board v)
     pub once : (n : ℕ) → claimed n s.views ≤ 1
+    pub whole : added s.views + s.board.opened ≡ length s.board.history
     pub versions : IsGreatest (length s.board.history) s.board.versions
 
   -- a Sole seat has seen the whole history, and all others are Keepers

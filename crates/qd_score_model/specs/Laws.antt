@@ -1,15 +1,15 @@
 -- What holds after every run, and what follows for a reader, a writer and two seats.
-use Rattle.std.specs.Prelude.{◌≡◌, ℕ, ◌<◌, ◌≤◌, true, false, ◌⊎◌, List, Contains, Some, None}
+use Rattle.std.specs.Prelude.{◌≡◌, ℕ, ◌-◌, ◌<◌, ◌≤◌, true, false, ◌⊎◌, List, length, Contains, Some, None}
 use mathlib.Core.Option.{some}
 use mathlib.Core.List.{IsPrefix}
 use lib.ListN.{get_elem?}
-use Rattle.qd_score_model.specs.declared.limits.TheConstants.{PINS_END}
+use Rattle.qd_score_model.specs.declared.limits.TheConstants.{MAX_SPLITS, PINS_END}
 use Rattle.qd_score_model.specs.declared.view.Mode.TheVariants.{Sole}
 use Rattle.qd_score_model.specs.declared.view.Place.{Place}
 use Rattle.qd_score_model.specs.declared.view.Phase.TheVariants.{Idle, Pinned}
 use Rattle.qd_score_model.specs.declared.view.Version.{Version}
 use Rattle.qd_score_model.specs.declared.view.View.{View}
-use Rattle.qd_score_model.specs.Machine.{Book, State, Step, version_at, opening, after, IsRun, MayOpen}
+use Rattle.qd_score_model.specs.Machine.{Book, State, Step, behind, version_at, opening, after, IsRun, MayOpen}
 use Rattle.qd_score_model.specs.Kept.{times, Kept}
 
 -- After every list of steps that may come where they stand, all nine parts hold.
@@ -61,6 +61,11 @@ NothingIsForgotten I S = (blocks : S → List ℕ) (book : Book I S) (s : State 
 -- A position that a seat added is no other seat's, and the seat has seen it.
 abbrev pub PositionsAreOnesOwn : (I S : Type 0) → Type 0
 PositionsAreOnesOwn I S = (blocks : S → List ℕ) (book : Book I S) (s : State I S) → Reached I S blocks book s → (seat other n : ℕ) (v w : View I S) → get_elem? s.views seat ≡ some v → get_elem? s.views other ≡ some w → Contains v.own n → Contains w.own n → seat ≡ other
+
+-- A seat that has all the room again, since each other one went into it, has added just all that came since the opening.
+abbrev pub LastSeatHasAddedAll : (I S : Type 0) → Type 0
+LastSeatHasAddedAll I S = (blocks : S → List ℕ) (book : Book I S) (s : State I S) → Reached I S blocks book s → (seat : ℕ) (v : View I S) → get_elem? s.views seat ≡ some v → v.spent ≡ false → MAX_SPLITS ≤ v.room
+    → v.own ≡ behind (length book.history) (length s.board.history - length book.history)
 
 -- Pins stay below their limit, so a word has room for twice as many and for the bit that says whether the row is live.
 abbrev pub PinsStaySmall : (I S : Type 0) → Type 0

@@ -28,6 +28,8 @@ pub record Book (I S : Type 0) : Type 0 where
 
 -- What all seats share.
 pub record Board (I S : Type 0) : Type 0 where
+  -- how many items there were when it was opened
+  pub opened : ℕ
   pub history : List I
   pub current : Place
   -- how often each row is pinned, and whether it is live
@@ -334,6 +336,6 @@ module _ {I S : Type 0} where
 
   abbrev pub opening : Book I S → State I S
   opening book = record {
-    board = record { history = book.history; current = book.current; pins = λ row. 0; live = λ row. row == 0; versions = book.versions; present = book.present; faults = book.faults; removed = book.removed; holder = None };
+    board = record { opened = length book.history; history = book.history; current = book.current; pins = λ row. 0; live = λ row. row == 0; versions = book.versions; present = book.present; faults = book.faults; removed = book.removed; holder = None };
     views = first_view book ∷ [];
   }

@@ -1,5 +1,5 @@
 //! What every run of the scoreboard keeps. Each function takes and returns nothing: its contract is the law.
-ghost use Rattle.qd_score_model.specs.Laws.{EveryRunIsKept, PinnedRowsAreLive, PinnedBlocksArePresent, HistoryOnlyGrows, SeatsSeeOneHistory, SeatsOnlyLearn, NothingIsForgotten, PositionsAreOnesOwn, PinsStaySmall, SoleSeatRetires};
+ghost use Rattle.qd_score_model.specs.Laws.{EveryRunIsKept, PinnedRowsAreLive, PinnedBlocksArePresent, HistoryOnlyGrows, SeatsSeeOneHistory, SeatsOnlyLearn, NothingIsForgotten, PositionsAreOnesOwn, LastSeatHasAddedAll, PinsStaySmall, SoleSeatRetires};
 ghost use Rattle.qd_score_model.specs.Examples.{WorkedExamples};
 
 /// After every list of steps, in whatever order seats take them, all nine parts of the rule hold.
@@ -41,6 +41,11 @@ pub fn nothing_is_forgotten<I, S>()
 /// A position of the history that a seat added is no other seat's.
 pub fn positions_are_ones_own<I, S>()
     ensures law { PositionsAreOnesOwn I S }
+{}
+
+/// A seat that each other one went into has added all that came since the opening, and nothing else is there.
+pub fn last_seat_has_added_all<I, S>()
+    ensures law { LastSeatHasAddedAll I S }
 {}
 
 /// A row has fewer than [`PINS_END`](crate::PINS_END) pins, so twice as many fit a word beside its live bit.

@@ -1,5 +1,5 @@
 -- The last hold of an apply.
-use Rattle.std.proofs.Common.{◌≢◌, ◌⊎◌, true, false, [], ◌≡◌, ◌∙◌, inl, inr, ℕ, ◌≤◌, List, length, Result, Ok, Err, sym, ap, subst, arith}
+use Rattle.std.proofs.Common.{◌≢◌, ◌⊎◌, true, false, [], ◌≡◌, ◌∙◌, inl, inr, ℕ, ◌≤◌, List, length, Result, Ok, Err, refl, sym, ap, subst, arith}
 use mathlib.Core.List.{IsPrefix}
 use Rattle.std.proofs.Math.Dec.{eqb}
 use Rattle.std.proofs.lemmas.Bool.Decides.{eqb_tells}
@@ -47,6 +47,14 @@ answered_wide least more (Err fault.Vol) p q new le g risen = risen_wide (faults
 answered_wide least more (Err (fault.Damaged file at)) p q new le g is = is
 answered_wide least more (Err fault.NoRow) p q new le g is = is
 answered_wide least more (Err fault.Memory) p q new le g is = is
+
+-- where enough are shown, or it has failed
+pub answered_enough : (least : ℕ) (r : Result ℕ RoundFault) (p q new : Pass) → ((n : ℕ) → r ≡ Ok n → least ≤ n) → Passes p q → IsAnswered 0 r q new → IsAnswered least r p new
+answered_enough least (Ok n) p q new enough g (any, shown, within) = (enough n refl, shown, within)
+answered_enough least (Err fault.Vol) p q new enough g risen = risen_wide (faults_of p) (faults_of q) (faults_of new) (faults_of new) g.faults (omega arith) risen
+answered_enough least (Err (fault.Damaged file at)) p q new enough g is = is
+answered_enough least (Err fault.NoRow) p q new enough g is = is
+answered_enough least (Err fault.Memory) p q new enough g is = is
 
 -- a draft that failed, as the answer of an apply
 pub answered_draft : (f : RoundFault) (least : ℕ) (p q : Pass) (found left : Desk) → Holds p q found left → history_of q ≡ found.history → IsDraftFault f found left → IsAnswered least (Err f) p q

@@ -1,12 +1,14 @@
 -- The store is shared, and taken back.
-use Rattle.std.proofs.Common.{◌≡◌, ◌∙◌, ◌≤◌, Bool, true, false, List, length, Option, Some, None, is_some, IfSome, sym, ap, subst, arith}
+use Rattle.std.proofs.Common.{◌≡◌, ◌∙◌, ℕ, ◌-◌, ◌≤◌, Bool, true, false, List, length, Option, Some, None, is_some, IfSome, sym, ap, subst, arith}
 use mathlib.Core.List.{IsPrefix}
 use Rattle.atomic_table.specs.Seated.{TableId}
 use Rattle.qd_base.specs.declared.op.Entry.{Entry}
 use Rattle.qd_manifest.specs.Spelling.{blocks_of}
 use Rattle.qd_score.specs.Rule.{Stands, first_seat}
+use Rattle.qd_score_model.specs.declared.limits.TheConstants.{MAX_SPLITS}
 use Rattle.qd_score_model.specs.declared.view.Mode.TheVariants.{Sole}
 use Rattle.qd_score_model.specs.Kept.{RisesWithin}
+use Rattle.qd_score_model.specs.Machine.{behind}
 use Rattle.qd_score_model.proofs.Lists.{prefix_length}
 use Rattle.qd_store.specs.Owned.{Store}
 use Rattle.qd_store_backend.specs.Backs.{IsTold, current, n_in}
@@ -52,6 +54,15 @@ within seen d pre desk = by d.history (counted_of d desk).count where
   by None count = tt
   by (Some h) count = let le = prefix_length seen (items_in d) pre in let all = items_count d.owned.store.sequence.refs d.history in omega (arith, le, all, count)
 
+-- as many items as a desk has are transactions of its history
+whole : (origin : Option Desk) (own : List ℕ) (d : Desk) → IsDesk d → IfSome origin (λ o. own ≡ behind (length (items_in o)) (length (items_in d) - length (items_in o))) → IfSome origin (λ o. IfSome d.history (λ h. own ≡ behind (length (items_in o)) (length h - length (items_in o))))
+whole None own d desk all = tt
+whole (Some o) own d desk all = by d.history (counted_of d desk).count
+  where
+    by : (history : Option (List Entry)) → IfSome history (λ h. length d.owned.store.sequence.refs ≡ length h) → IfSome history (λ h. own ≡ behind (length (items_in o)) (length h - length (items_in o)))
+    by None count = tt
+    by (Some h) count = all ∙ ap (λ (n : ℕ). behind (length (items_in o)) (n - length (items_in o))) (items_count d.owned.store.sequence.refs d.history ∙ count)
+
 -- the positions of a view's own items rise
 own_rises : (k : Knowing) → Stands blocks_of k.view → RisesWithin 0 (length k.view.seen) k.view.own
 own_rises k stands = (stands.2.history.seats stands.1 k.view stands.3).own
@@ -68,6 +79,7 @@ closed p table k found book owned is has stands b same store kept =
       known = subst (λ (q : Pass). (view_of q).known ≤ n_in (current owned.store)) is (subst (λ (o : Store). k.view.known ≤ n_in (current o.store)) (sym mine) b.known);
       own = subst (λ (q : Pass). RisesWithin 0 (length (view_of q).seen) (view_of q).own) is (own_rises k stands);
       within = subst (λ (q : Pass). IfSome found.history (λ h. length (view_of q).seen ≤ length h)) is (within k.view.seen found b.seen here);
+      whole = subst (λ (q : Pass). MAX_SPLITS ≤ (view_of q).room → IfSome q.knows.origin (λ o. IfSome found.history (λ h. (view_of q).own ≡ behind (length (items_in o)) (length h - length (items_in o))))) is (λ room. whole k.origin k.view.own found here (b.whole room));
     }
 
 -- the first pass over a desk
@@ -79,4 +91,9 @@ started p owned history d is desk first =
       desk = ap (λ (k : Knowing). k.origin) knows;
       view = ap (λ (k : Knowing). k.view) knows;
       told = ap (λ (k : Knowing). history_by (is_told k.origin) k.view.seen) knows ∙ history_is (record { owned = owned; history = history; removed = 0 }) (counted_of (record { owned = owned; history = history; removed = 0 }) here);
+      count = all_seen history (counted_of (record { owned = owned; history = history; removed = 0 }) here).count (ap (λ (k : Knowing). length k.view.seen) knows ∙ items_count owned.store.sequence.refs history);
     }
+  where
+    all_seen : (told : Option (List Entry)) → IfSome told (λ h. length owned.store.sequence.refs ≡ length h) → length (view_of p).seen ≡ length owned.store.sequence.refs → IfSome told (λ h. length (view_of p).seen ≡ length h)
+    all_seen None count seen = tt
+    all_seen (Some h) count seen = seen ∙ count

@@ -3,7 +3,7 @@ use Rattle.std.proofs.Common.{◌≡◌, ℕ, ◌-◌, List, [], ◌∷◌, ◌+
 use Rattle.atomic_table.specs.Seated.{TableId}
 use Rattle.qd_manifest.specs.declared.shape.TableParts.{TableParts}
 use Rattle.qd_manifest.specs.Spelling.{blocks_of}
-use Rattle.qd_score.specs.Rule.{ComesFrom, IsInOrder, Stands, sight_of, with_view}
+use Rattle.qd_score.specs.Rule.{ComesFrom, IsInOrder, Stands, sight_of, with_view, HasAddedAll}
 use Rattle.qd_score_model.specs.declared.view.Place.{Place}
 use Rattle.qd_score_model.specs.declared.view.Record.{Record}
 use Rattle.qd_score_model.specs.declared.view.Sight.{Sight}
@@ -35,10 +35,10 @@ module _ (k now : Knowing) (found : Desk) (is : now ≡ with_view k (took k.view
   abbrev seen : Knowing
   seen = with_view k (took k.view (sight_of (book_of found)))
 
-  pub begins : Stands blocks_of now.view → Comes k found → Begins k found
-  begins stands comes =
+  pub begins : Stands blocks_of now.view → Comes k found → HasAddedAll book_of (λ (x : Desk). Unit {0}) fixed_of k found → Begins k found
+  begins stands comes whole =
       let m = meets blocks_of seen.view (sight_of (book_of found)) (subst (λ (x : Knowing). Stands blocks_of x.view) is stands) refl in
-      record { comes = comes; seen = m.seen; sole = m.sole; known = m.known; faults = m.faults }
+      record { comes = comes; seen = m.seen; sole = m.sole; known = m.known; faults = m.faults; whole = whole }
 
   pub finds : Stands blocks_of now.view → Finds k found
   finds stands =

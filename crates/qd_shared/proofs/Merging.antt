@@ -126,12 +126,12 @@ next_here found d m next shown history is x at base = subst (λ (o : Option (Lis
 -- ---- a pass knows a merge
 
 -- of what it has drafted
-pub round_of : (p : Pass) (found left : Desk) (draft : Drafted) (m : Merging) (next : ℕ) → (view_of p).noted ≡ versions_in left → (view_of p).seen ≡ items_in left → history_of p ≡ found.history → OnlyCalls found left
-    → IsDraftOf found (length (items_in found)) draft → next ≡ found.owned.store.versions.versions.next_block → n_in (current found.owned.store) < length (items_in found) → Merges draft m → IfSome (history_of p) (λ h. length (view_of p).seen ≡ length h) → IsRound p m next
-round_of p found left draft m next noted seen history calls d is more merges count =
+pub round_of : (p : Pass) (found left : Desk) (draft : Drafted) (m : Merging) (next upto : ℕ) → (view_of p).noted ≡ versions_in left → (view_of p).seen ≡ items_in left → history_of p ≡ found.history → OnlyCalls found left
+    → IsDraftOf found upto draft → next ≡ found.owned.store.versions.versions.next_block → n_in (current found.owned.store) < upto → upto ≤ length (items_in found) → Merges draft m → IfSome (history_of p) (λ h. length (view_of p).seen ≡ length h) → IsRound p m next
+round_of p found left draft m next upto noted seen history calls d is more few merges count =
     let s = found.owned.store in
     let over = merged_over s.versions.versions draft m d.over merges in
-    let number : m.upto ≡ length (items_in found) = merged_upto s.versions.versions draft m (length (items_in found)) d.over merges d.number in
+    let number : m.upto ≡ upto = merged_upto s.versions.versions draft m upto d.over merges d.number in
     let x = over.0 in
     let at : current s ≡ Some x = over.1 in
     let base : m.base ≡ x.n = over.2.3.base in
@@ -144,26 +144,22 @@ round_of p found left draft m next noted seen history calls d is more merges cou
         told = subst (λ (o : Option (List Entry)). IfSome o (λ h. (contents : ℕ → Block) × IsMerged next x (between h x.n m.upto) contents (first h x.n) m)) (sym history) (by found.history x at number d.told);
       };
       count = count;
-      within = (let all : length (view_of p).seen ≡ length (items_in found) = ap length (seen ∙ calls_items found left calls) in omega (arith, all, number));
+      within = (let all : length (view_of p).seen ≡ length (items_in found) = ap length (seen ∙ calls_items found left calls) in omega (arith, all, number, few));
       more = (let shown : n_in (current s) ≡ x.n = ap n_in at in omega (arith, base, shown, more, number));
     }
   where
     one : (o : Option catalog.Version) (x y : catalog.Version) → o ≡ Some x → o ≡ Some y → y ≡ x
     one o x y a b = let e : Some y ≡ Some x = sym b ∙ a in cc
 
-    by : (o : Option (List Entry)) (x : catalog.Version) → current found.owned.store ≡ Some x → m.upto ≡ length (items_in found) → IfSome o (λ h. IsDraftedFrom (Ok draft) found.owned.store h (length (items_in found)))
+    by : (o : Option (List Entry)) (x : catalog.Version) → current found.owned.store ≡ Some x → m.upto ≡ upto → IfSome o (λ h. IsDraftedFrom (Ok draft) found.owned.store h upto)
         → IfSome o (λ h. (contents : ℕ → Block) × IsMerged next x (between h x.n m.upto) contents (first h x.n) m)
     by None x at number told = tt
     by (Some h) x at number (y, contents, there, drafted) = (
       contents,
       subst (λ (v : catalog.Version). IsMerged next v (between h v.n m.upto) contents (first h v.n) m) (one (current found.owned.store) x y at there)
           (subst (λ (k : ℕ). IsMerged next y (between h y.n k) contents (first h y.n) m) (sym number)
-          (subst (λ (b : ℕ). IsMerged b y (between h y.n (length (items_in found))) contents (first h y.n) m) (sym is) (merges found.owned.store.versions.versions.next_block y (between h y.n (length (items_in found))) contents (first h y.n) drafted))),
+          (subst (λ (b : ℕ). IsMerged b y (between h y.n upto) contents (first h y.n) m) (sym is) (merges found.owned.store.versions.versions.next_block y (between h y.n upto) contents (first h y.n) drafted))),
     )
-
--- it is of as many transactions as were there
-pub round_number : (found : Desk) (upto : ℕ) (draft : Drafted) (m : Merging) → IsDraftOf found upto draft → Merges draft m → m.upto ≡ upto
-round_number found upto draft m d merges = merged_upto found.owned.store.versions.versions draft m upto d.over merges d.number
 
 -- ---- it holds it still when it takes the lock again
 

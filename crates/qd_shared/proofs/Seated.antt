@@ -84,7 +84,7 @@ abbrev pub pinned_k : Knowing → Place → Knowing
 pinned_k k place = record k { view = record k.view { phase = Pinned place } }
 
 pub begins_pinned : (k : Knowing) (found : Desk) (place : Place) → Begins k found → Begins (pinned_k k place) found
-begins_pinned k found place b = record { comes = b.comes; seen = b.seen; sole = b.sole; known = b.known; faults = b.faults }
+begins_pinned k found place b = record { comes = b.comes; seen = b.seen; sole = b.sole; known = b.known; faults = b.faults; whole = b.whole }
 
 module _ (k now then : Knowing) (found : Desk) (place : Place) (is : then ≡ with_view now (pinned_held now.view place)) where
   abbrev seen : Knowing

@@ -1,16 +1,17 @@
 -- A hold of the lock under way. No public clause cites this module.
-use Rattle.std.specs.Prelude.{◌≡◌, ℕ, ◌≤◌, List, Some, IfSome}
+use Rattle.std.specs.Prelude.{◌≡◌, ℕ, ◌-◌, ◌≤◌, List, length, Some, IfSome}
 use mathlib.Core.List.{IsPrefix}
 use Rattle.qd_manifest.specs.declared.shape.TableParts.{TableParts}
 use Rattle.qd_manifest.specs.Spelling.{blocks_of}
 use Rattle.qd_score.specs.Calls.{MayGiveBack}
 use Rattle.qd_score.specs.Rule.{ComesFrom, with_view}
+use Rattle.qd_score_model.specs.declared.limits.TheConstants.{MAX_SPLITS}
 use Rattle.qd_score_model.specs.declared.view.Mode.TheVariants.{Sole}
 use Rattle.qd_score_model.specs.declared.view.Phase.TheVariants.{Idle, Pinned}
 use Rattle.qd_score_model.specs.declared.view.Place.{Place}
 use Rattle.qd_score_model.specs.declared.view.Sight.{Sight}
 use Rattle.qd_score_model.specs.declared.view.Version.{Version}
-use Rattle.qd_score_model.specs.Machine.{gave, version_at}
+use Rattle.qd_score_model.specs.Machine.{behind, gave, version_at}
 use Rattle.qd_store_backend.specs.Backs.{current, n_in}
 use Rattle.qd_shared.specs.declared.item.Item.{Item}
 use Rattle.qd_shared.specs.Desks.{Desk, book_of, fixed_of, items_in, versions_in}
@@ -28,6 +29,8 @@ pub record Begins (k : Knowing) (found : Desk) : Type 0 where
   pub sole : k.view.mode ≡ Sole → items_in found ≡ k.view.seen
   pub known : k.view.known ≤ n_in (current found.owned.store)
   pub faults : faults_in 0 k.view.records ≤ found.owned.storage.faults
+  -- one that each other pass has gone into has added just what has come since the store was shared
+  pub whole : MAX_SPLITS ≤ k.view.room → IfSome k.origin (λ o. k.view.own ≡ behind (length (items_in o)) (length (items_in found) - length (items_in o)))
 
 -- The version that the pass has pinned is live in its row there, and a version that it has noted has its tables still.
 pub record Finds (k : Knowing) (found : Desk) : Type 0 where

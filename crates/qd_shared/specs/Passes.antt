@@ -1,5 +1,5 @@
 -- What a pass knows, and what it learns in one hold of the lock.
-use Rattle.std.specs.Prelude.{◌≡◌, ℕ, ◌-◌, ◌≤◌, Bool, true, false, List, [], ◌∷◌, ◌++◌, length, Option, Some, None, IfSome}
+use Rattle.std.specs.Prelude.{◌≡◌, ℕ, ◌+◌, ◌-◌, ◌≤◌, Bool, true, false, List, [], ◌∷◌, ◌++◌, length, Option, Some, None, IfSome}
 use mathlib.Core.List.{IsPrefix}
 use Rattle.atomic_table.specs.Seated.{TableId}
 use Rattle.qd_base.specs.declared.op.Entry.{Entry}
@@ -7,9 +7,11 @@ use Rattle.qd_manifest.specs.declared.shape.TableParts.{TableParts}
 use Rattle.qd_manifest.specs.Spelling.{blocks_of}
 use Rattle.qd_score.specs.declared.table.Knows.{Knows}
 use Rattle.qd_score.specs.Rule.{Stands}
+use Rattle.qd_score_model.specs.declared.limits.TheConstants.{MAX_SPLITS}
 use Rattle.qd_score_model.specs.declared.view.Record.{Record}
 use Rattle.qd_score_model.specs.declared.view.View.{View}
-use Rattle.qd_score_model.specs.declared.view.Mode.TheVariants.{Sole, Writer}
+use Rattle.qd_score_model.specs.declared.view.Mode.{Mode}
+use Rattle.qd_score_model.specs.declared.view.Mode.TheVariants.{Sole}
 use Rattle.qd_score_model.specs.Kept.{RisesWithin}
 use Rattle.qd_score_model.specs.Machine.{behind, first_view, joined, newcomer}
 use Rattle.qd_store.specs.Owned.{Store}
@@ -97,12 +99,13 @@ pub record Starts (p : Pass) (owned : Store) (history : Option (List Entry)) : T
   pub desk : p.knows.origin ≡ Some (record { owned = owned; history = history; removed = 0 })
   pub view : view_of p ≡ first_view (book_of (record { owned = owned; history = history; removed = 0 }))
   pub told : history_of p ≡ history
+  pub count : IfSome history (λ h. length (view_of p).seen ≡ length h)
 
--- a pass that is split off: it has seen what the other has, and nothing is its own
-pub record IsPart (p part : Pass) : Type 0 where
+-- a pass of some kind that is split off: it has seen what the other has, and nothing is its own
+pub record IsPart (kind : Mode) (p part : Pass) : Type 0 where
   pub table : part.table ≡ p.table
   pub origin : part.knows.origin ≡ p.knows.origin
-  pub view : view_of part ≡ newcomer (view_of p) Writer
+  pub view : view_of part ≡ newcomer (view_of p) kind
 
 -- a pass that has taken in another
 pub record IsJoined (p other now : Pass) : Type 0 where
@@ -131,3 +134,5 @@ pub record Closes (p : Pass) (owned : Store) : Type 0 where
   -- the positions of its own transactions rise, and lie within what it had seen of that history
   pub own : RisesWithin 0 (length (view_of p).seen) (view_of p).own
   pub within : IfSome history (λ h. length (view_of p).seen ≤ length h)
+  -- where each other pass has gone into it, they are just what has come since the store was shared
+  pub whole : MAX_SPLITS ≤ (view_of p).room → IfSome p.knows.origin (λ o. IfSome history (λ h. (view_of p).own ≡ behind (length (items_in o)) (length h - length (items_in o))))

@@ -62,7 +62,7 @@ pub record Passes (old new : Pass) : Type 0 where
   pub faults : faults_of old ≤ faults_of new
   pub count : IfSome (history_of new) (λ h. length (view_of new).seen ≡ length h)
 
--- A pass applies, in one hold or two. No transaction comes by that, and no fewer are shown. As many are shown in the end as there
+-- A pass applies, in some holds. No transaction comes by that, and no fewer are shown. As many are shown in the end as there
 -- were in the first of the holds, or more.
 pub record Applies (result : Result ℕ RoundFault) (old new : Pass) : Type 0 where
   -- what the first hold found
@@ -73,10 +73,11 @@ pub record Applies (result : Result ℕ RoundFault) (old new : Pass) : Type 0 wh
 
 -- ---- the first hold of an apply
 
--- What it begins with: all are shown; or those that aren't are drafted; or a fault.
+-- What it begins with: all are shown; or some of those that aren't are drafted; or a fault.
 abbrev pub IsBegun : Result Begun RoundFault → (found left : Desk) → Type 0
 IsBegun (Ok (begun.Shown n)) found left = (n ≡ length (items_in found)) × (n_in (current found.owned.store) ≡ n)
-IsBegun (Ok (begun.Drafted draft next)) found left = IsDraftOf found (length (items_in found)) draft × (next ≡ found.owned.store.versions.versions.next_block) × (n_in (current found.owned.store) < length (items_in found))
+IsBegun (Ok (begun.Drafted draft next)) found left =
+    IsDraftOf found draft.plan.upto draft × (next ≡ found.owned.store.versions.versions.next_block) × (n_in (current found.owned.store) < draft.plan.upto) × (draft.plan.upto ≤ length (items_in found))
 IsBegun (Err f) found left = IsDraftFault f found left
 
 pub record BeginsRound (result : Result Begun RoundFault) (old new : Pass) : Type 0 where

@@ -21,6 +21,7 @@ use std::sync::Wait;
 impl<V: Volume + Drop> Shared<V> {
     /// Commits the transaction of a batch, in one hold of the lock, as [`Store::accept_lines`](qd_store::Store::accept_lines) does. It is
     /// made ready before, over the schemas that the pass found last; where they have changed since, it is made ready in the hold.
+    /// Behind an `Ok` the bell is rung.
     pub fn commit_lines<R: Wait>(
         &self,
         rt: &R,
@@ -40,11 +41,14 @@ impl<V: Volume + Drop> Shared<V> {
             .book()
             .commit_lines(alloc, batch, now, &mut pass.schemas, ahead);
         self.give(&mut pass.seat, hold);
+        if done.is_ok() {
+            self.bell.ring(rt);
+        }
         done
     }
 
     /// Commits the transaction of a statement that writes, in one hold of the lock, as
-    /// [`Store::accept_sql`](qd_store::Store::accept_sql) does.
+    /// [`Store::accept_sql`](qd_store::Store::accept_sql) does. Behind an `Ok` the bell is rung.
     pub fn commit_sql<R: Wait>(
         &self,
         rt: &R,
@@ -61,6 +65,9 @@ impl<V: Volume + Drop> Shared<V> {
         let mut hold = self.take(rt, &mut pass.seat);
         let done = hold.book().commit_sql(alloc, stmt);
         self.give(&mut pass.seat, hold);
+        if done.is_ok() {
+            self.bell.ring(rt);
+        }
         done
     }
 }

@@ -31,7 +31,7 @@ use crate::known::learn;
 use crate::rounds::{Begun, RoundFault};
 use crate::snap::Snap;
 use qd_apply::{merging_stands, schemas_of};
-use qd_base::{Memory, Schemas};
+use qd_base::{Memory, Schemas, WalRef};
 use qd_block::Block;
 use qd_durable::LogFault;
 use qd_ghost::{Telling, Turning};
@@ -42,12 +42,14 @@ use qd_prepare::Prepared;
 use qd_score::Booked;
 use qd_sql_ast::Stmt;
 use qd_store::{CommitFault, Committed, Draft, Merged, PublishFault, Store};
-use qd_store_backend::next_of;
 use qd_symbols::SymbolMap;
 use qd_volume::Volume;
 use qd_wal::one_entry_is_read;
 use std::alloc::Global;
 use std::marker::{Model, PhantomData};
+
+/// How many bytes of transactions a round reads, where the first one has no more.
+const ROUND_BYTES: u64 = 16 << 20;
 
 /// A store with the history that is told of it, as it lies under the lock of a scoreboard.
 ///
@@ -285,9 +287,9 @@ impl<V: Volume + Drop> Desk<V> {
         self.shown_n() == merged.base() && self.next_block() == next_block
     }
 
-    /// Drafts the first `upto` transactions, which are all, as [`Store::draft`] does.
+    /// Drafts the first `upto` transactions, as [`Store::draft`] does.
     pub(crate) fn draft(&mut self, alloc: Global, upto: u64) -> Result<Draft, RoundFault>
-        requires all { upto ≡ length self.old.owned.store.sequence.refs }
+        requires few { upto ≤ length self.old.owned.store.sequence.refs }
         requires more { n_in (current self.old.owned.store) < upto }
         ensures over { IfOk result (λ d. IsDraftOver self.old.owned.store.versions.versions d) }
         ensures number { IfOk result (λ d. d.plan.upto ≡ upto) }
@@ -305,7 +307,17 @@ impl<V: Volume + Drop> Desk<V> {
         }
     }
 
-    /// Begins a round: drafts all transactions, or says how many the current version shows where those are all.
+    /// Up to which transaction a round goes that isn't the last one: so far that its bytes are few, but no less than one further.
+    fn round_end(&self) -> u64
+        requires more { n_in (current self.now.owned.store) < length self.now.owned.store.sequence.refs }
+        ensures more { n_in (current self.now.owned.store) < result }
+        ensures few { result ≤ length self.now.owned.store.sequence.refs }
+    {
+        let shown = self.shown_n();
+        shown + fitting(&self.store.refs()[shown as usize..], ROUND_BYTES) as u64
+    }
+
+    /// Begins a round: drafts transactions behind the current version, or says how many that shows where those are all.
     pub(crate) fn begin_round(&mut self, alloc: Global) -> Result<Begun, RoundFault>
         ensures store { self.new.owned.store ≡ self.old.owned.store }
         ensures history { self.new.history ≡ self.old.history }
@@ -313,36 +325,17 @@ impl<V: Volume + Drop> Desk<V> {
         ensures faults { self.old.owned.storage.faults ≤ self.new.owned.storage.faults }
         ensures begun { IsBegun result self.old self.new }
     {
-        let upto = self.hist_len();
-        if self.shown_n() == upto {
-            return Ok(Begun::Shown { n: upto });
+        let all = self.hist_len();
+        if self.shown_n() == all {
+            return Ok(Begun::Shown { n: all });
         }
+        let upto = self.round_end();
         let next_block = self.next_block();
         let draft = match self.draft(alloc, upto) {
             Ok(draft) => draft,
             Err(fault) => return Err(fault),
         };
         Ok(Begun::Drafted { draft, next_block })
-    }
-
-    /// Merges the first `upto` transactions, which are all, into the current version.
-    pub(crate) fn merge_next(&mut self, alloc: Global, upto: u64) -> Result<Merged, RoundFault>
-        requires all { upto ≡ length self.old.owned.store.sequence.refs }
-        requires more { n_in (current self.old.owned.store) < upto }
-        ensures over { IfOk result (λ m. IsMergedOver self.new.owned.store.versions.versions m) }
-        ensures number { IfOk result (λ m. m.upto ≡ upto) }
-        ensures told { IfOk result (λ m. IfSome self.new.history (λ h. IsNextOf self.new.owned.store h m)) }
-        ensures store { self.new.owned.store ≡ self.old.owned.store }
-        ensures history { self.new.history ≡ self.old.history }
-        ensures removed { self.new.removed ≡ self.old.removed }
-        ensures faults { self.old.owned.storage.faults ≤ self.new.owned.storage.faults }
-        ensures fault { IfErr result (λ f. IsDraftFault f self.old self.new) }
-    {
-        self.store.keeps_its_law();
-        match next_of(&mut self.store, alloc, upto) {
-            Ok(merged) => Ok(merged),
-            Err(cause) => Err(of_log(cause)),
-        }
     }
 
     /// Shows a merge into the current version by a version that takes its place, and gives its row.
@@ -395,6 +388,21 @@ impl<V: Volume + Drop> Desk<V> {
             Err(fault) => Err(fault),
         }
     }
+}
+
+/// How many of the first transactions have together no more than so many bytes: one at least.
+fn fitting(refs: &[WalRef], most: u64) -> usize
+    ensures some { 0 < length refs.now → 0 < result }
+    ensures few { result ≤ length refs.now }
+{
+    let mut bytes: u64 = 0;
+    for (i, at) in refs.iter().enumerate() {
+        bytes = bytes.saturating_add(at.len);
+        if bytes > most && i > 0 {
+            return i;
+        }
+    }
+    refs.len()
 }
 
 /// The fault of a draft, as that of a round.

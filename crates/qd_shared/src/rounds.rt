@@ -1,5 +1,5 @@
-//! Applies, each in one hold of the lock.
-ghost use Rattle.std.specs.Prelude.{◌≡◌, ◌≢◌, ◌<◌, ◌≤◌, ℕ, Err, length};
+//! Applies, in rounds.
+ghost use Rattle.std.specs.Prelude.{◌≡◌, ◌≢◌, ◌<◌, ◌≤◌, ℕ, Err, IfSome, length};
 ghost use Rattle.qd_catalog.specs.Versions.{version_at};
 ghost use Rattle.qd_manifest.specs.Spelling.{blocks_of};
 ghost use Rattle.qd_score.specs.Calls.{IsSeatOf, known_by};
@@ -8,7 +8,7 @@ ghost use Rattle.qd_shared.specs.Desks.{items_in};
 ghost use Rattle.qd_score_model.specs.declared.view.Mode.TheVariants.{Sole};
 ghost use Rattle.qd_score_model.specs.declared.view.Phase.TheVariants.{Idle};
 ghost use Rattle.qd_shared.specs.Holding.{IsLonely, MayEnd, SeesAll, Steps};
-ghost use Rattle.qd_shared.specs.Passes.{view_of};
+ghost use Rattle.qd_shared.specs.Passes.{history_of, view_of, Looks};
 ghost use Rattle.qd_shared.specs.declared.rounds.RoundFault.TheVariants as fault;
 ghost use Rattle.qd_shared.specs.Publishing.{IsNext, IsNextAt, IsRound};
 ghost use Rattle.qd_shared.specs.Rounds.{current_row, Applies, BeginsRound, IsAnswered, IsApplied, IsThin, Passes, Purges};
@@ -46,7 +46,7 @@ pub enum RoundFault {
 pub(crate) enum Begun {
     /// All transactions that are there are shown: so many.
     Shown { n: u64 },
-    /// Some aren't: they are drafted. The next new block gets this number.
+    /// Some aren't: the first ones of them are drafted. The next new block gets this number.
     Drafted { draft: Draft, next_block: u64 },
 }
 
@@ -138,39 +138,8 @@ impl<V: Volume + Drop> Shared<V> {
         }
     }
 
-    /// Shows all transactions by a version that takes the place of the current one, where that doesn't show them already.
-    fn show_all(
-        &self,
-        alloc: Global,
-        seat: &mut Seat<Desk<V>>,
-        hold: Hold<Desk<V>>,
-    ) -> (Hold<Desk<V>>, Result<u64, RoundFault>)
-        requires seat { IsSeatOf blocks_of self.now seat.old }
-        requires may { MayEnd (known_by seat.old) hold.book }
-        requires thin { (row : ℕ) → row < 64 → IsThin hold.book (known_by seat.old).view.refused row }
-        requires sees { SeesAll (known_by seat.old) hold.book }
-        ensures seat { IsSeatOf blocks_of self.now seat.new }
-        ensures may { MayEnd (known_by seat.new) result.0.book }
-        ensures steps { Steps (known_by seat.old) (known_by seat.new) hold.book result.0.book }
-        ensures items { items_in result.0.book ≡ items_in hold.book }
-        ensures history { result.0.book.history ≡ hold.book.history }
-        ensures shown { n_in (current hold.book.owned.store) ≤ n_in (current result.0.book.owned.store) }
-        ensures applied { IsApplied (length (items_in hold.book)) result.1 hold.book result.0.book (known_by seat.new).view.refused }
-        ensures refused { (known_by seat.new).view.refused ≡ (known_by seat.old).view.refused }
-    {
-        let mut hold = hold;
-        let upto = hold.book().hist_len();
-        if hold.book().shown_n() == upto {
-            return (hold, Ok(upto));
-        }
-        match hold.book().merge_next(alloc, upto) {
-            Ok(merged) => self.show_merged(alloc, seat, hold, &merged),
-            Err(fault) => (hold, Err(fault)),
-        }
-    }
-
-    /// Shows a merge where it is still one into the current version; else, where another pass has shown more meanwhile, all
-    /// transactions.
+    /// Shows a merge where it is still one into the current version; else another pass has shown more meanwhile, and nothing is done. It
+    /// gives how many transactions are shown then.
     fn show(
         &self,
         alloc: Global,
@@ -192,17 +161,18 @@ impl<V: Volume + Drop> Shared<V> {
         ensures items { items_in result.0.book ≡ items_in hold.book }
         ensures history { result.0.book.history ≡ hold.book.history }
         ensures shown { n_in (current hold.book.owned.store) ≤ n_in (current result.0.book.owned.store) }
-        ensures applied { IsApplied merged.now.upto result.1 hold.book result.0.book (known_by seat.new).view.refused }
+        ensures applied { IsApplied 0 result.1 hold.book result.0.book (known_by seat.new).view.refused }
         ensures refused { (known_by seat.new).view.refused ≡ (known_by seat.old).view.refused }
     {
         let mut hold = hold;
         if hold.book().fits(merged, next_block) {
             return self.show_merged(alloc, seat, hold, merged);
         }
-        self.show_all(alloc, seat, hold)
+        let n = hold.book().shown_n();
+        (hold, Ok(n))
     }
 
-    /// Drafts the transactions that the current version lacks, in one hold of the lock, or says how many it shows where it lacks none.
+    /// Drafts transactions that the current version lacks, in one hold of the lock, or says how many it shows where it lacks none.
     fn begin_round<R: Wait>(
         &self,
         rt: &R,
@@ -218,7 +188,8 @@ impl<V: Volume + Drop> Shared<V> {
         begun
     }
 
-    /// Shows what was merged without the lock, in one hold of it.
+    /// Shows what was merged without the lock, in one hold of it, where no other pass has shown more meanwhile. It gives how many
+    /// transactions are shown then.
     fn end_round<R: Wait>(
         &self,
         rt: &R,
@@ -230,7 +201,7 @@ impl<V: Volume + Drop> Shared<V> {
         requires pass { pass.old.table ≡ self.now }
         requires round { IsRound pass.old merged.now next_block }
         ensures passes { Passes pass.old pass.new }
-        ensures answered { IsAnswered merged.now.upto result pass.old pass.new }
+        ensures answered { IsAnswered 0 result pass.old pass.new }
         ensures alone { (view_of pass.old).mode ≡ Sole → (view_of pass.old).phase ≡ Idle → result ≢ Err fault.NoRow }
     {
         let hold = self.take(rt, &mut pass.seat);
@@ -240,21 +211,16 @@ impl<V: Volume + Drop> Shared<V> {
         done
     }
 
-    /// Makes the transactions that are there the current version, and gives how many that shows. They are read and planned in one
-    /// hold of the lock, merged without it, and shown in another one; where another pass has shown more meanwhile, that hold begins
-    /// anew with what is left. Each version that isn't the current one and that nobody has pinned is let go.
-    ///
-    /// It costs what [`Store::draft`](qd_store::Store::draft), the merge and [`Store::publish`](qd_store::Store::publish) cost. After
-    /// an `Err` no fewer are shown than before. `NoRow` comes only where each row but the current one was found pinned, and never to a
-    /// Sole pass without a pin; all may be asked again.
-    pub fn catch_up<R: Wait>(
+    /// Makes one round, and gives how many transactions are shown behind it.
+    fn make_round<R: Wait>(
         &self,
         rt: &R,
         alloc: Global,
         pass: &mut Pass<V>,
     ) -> Result<u64, RoundFault>
         requires pass { pass.old.table ≡ self.now }
-        ensures applies { Applies result pass.old pass.new }
+        ensures passes { Passes pass.old pass.new }
+        ensures answered { IsAnswered 0 result pass.old pass.new }
         ensures alone { (view_of pass.old).mode ≡ Sole → (view_of pass.old).phase ≡ Idle → result ≢ Err fault.NoRow }
     {
         match self.begin_round(rt, alloc, pass) {
@@ -265,6 +231,66 @@ impl<V: Volume + Drop> Shared<V> {
             },
             Err(fault) => Err(fault),
         }
+    }
+
+    /// Makes rounds until so many transactions are shown.
+    fn make_rounds<R: Wait>(
+        &self,
+        rt: &R,
+        alloc: Global,
+        pass: &mut Pass<V>,
+        least: u64,
+    ) -> Result<u64, RoundFault>
+        requires pass { pass.old.table ≡ self.now }
+        requires counted { IfSome (history_of pass.old) (λ h. length (view_of pass.old).seen ≡ length h) }
+        ensures passes { Passes pass.old pass.new }
+        ensures answered { IsAnswered least result pass.old pass.new }
+        ensures alone { (view_of pass.old).mode ≡ Sole → (view_of pass.old).phase ≡ Idle → result ≢ Err fault.NoRow }
+    {
+        'rounds: for _ in rt.forever() {
+            match self.make_round(rt, alloc, pass) {
+                Ok(n) => {
+                    if n >= least {
+                        return Ok(n);
+                    }
+                }
+                Err(fault) => return Err(fault),
+            }
+        }
+        unreachable!()
+    }
+
+    /// How many transactions there are, as one hold of the lock finds it.
+    fn count<R: Wait>(&self, rt: &R, pass: &mut Pass<V>) -> u64
+        requires pass { pass.old.table ≡ self.now }
+        ensures looks { Looks pass.old pass.new }
+        ensures count { result ≡ length (view_of pass.new).seen }
+    {
+        let mut hold = self.take(rt, &mut pass.seat);
+        let count = hold.book().hist_len();
+        self.give(&mut pass.seat, hold);
+        count
+    }
+
+    /// Makes the transactions that are there the current version, and gives how many that shows. It goes on in rounds of some of them: they
+    /// are read and planned in one hold of the lock, merged without it, and shown in another one; where another pass has shown more
+    /// meanwhile, the next round begins with what is left. Each version that isn't the current one and that nobody has pinned is let go.
+    ///
+    /// A round takes [`Store::draft`](qd_store::Store::draft), the merge and [`Store::publish`](qd_store::Store::publish), over transactions
+    /// of 16 MiB or one that is larger. After an `Err` no fewer are shown than before. `NoRow` comes only where each row but the current
+    /// one was found pinned, and never to a Sole pass without a pin; all may be asked again.
+    pub fn catch_up<R: Wait>(
+        &self,
+        rt: &R,
+        alloc: Global,
+        pass: &mut Pass<V>,
+    ) -> Result<u64, RoundFault>
+        requires pass { pass.old.table ≡ self.now }
+        ensures applies { Applies result pass.old pass.new }
+        ensures alone { (view_of pass.old).mode ≡ Sole → (view_of pass.old).phase ≡ Idle → result ≢ Err fault.NoRow }
+    {
+        let least = self.count(rt, pass);
+        self.make_rounds(rt, alloc, pass, least)
     }
 
     /// Lets each version go that isn't the current one and that nobody has pinned, and removes the blocks that no version lists any

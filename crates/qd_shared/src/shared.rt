@@ -4,7 +4,7 @@ ghost use Rattle.qd_manifest.specs.Spelling.{blocks_of};
 ghost use Rattle.qd_score.specs.Calls as seats;
 ghost use Rattle.qd_score.specs.Calls.{IsSeatOf, known_by};
 ghost use Rattle.qd_score.specs.Rule.{first_seat, with_view};
-ghost use Rattle.qd_score_model.specs.declared.view.Mode.TheVariants.{Sole, Writer};
+ghost use Rattle.qd_score_model.specs.declared.view.Mode.TheVariants.{Keeper, Sole, Writer};
 ghost use Rattle.qd_score_model.specs.declared.view.Phase.TheVariants.{Idle};
 ghost use Rattle.qd_score_model.specs.Machine as machine;
 ghost use Rattle.qd_score_model.specs.Machine.{MaySplit, lent, newcomer};
@@ -14,6 +14,7 @@ ghost use Rattle.qd_shared.specs.Passes.{view_of, Closes, IsJoined, IsPart, Look
 ghost use Rattle.qd_store.specs.Opening.{HasFirstRow};
 ghost use Rattle.qd_store_backend.specs.Backs.{AreUsual, BeginsWith};
 
+use crate::bell::Bell;
 use crate::desk::Desk;
 use crate::pass::Pass;
 use qd_ghost::Telling;
@@ -31,6 +32,7 @@ use std::sync::Wait;
 #[derive(Drop)]
 pub struct Shared<V: Volume + Drop> {
     pub(crate) score: Score<Desk<V>>,
+    pub(crate) bell: Bell,
 }
 
 impl<V: Volume + Drop> Model for Shared<V> {
@@ -59,7 +61,10 @@ impl<V: Volume + Drop> Shared<V> {
         store.keeps_its_law();
         match Score::start(alloc, Desk::of(store, told)) {
             Ok((score, seat)) => Ok((
-                Shared { score },
+                Shared {
+                    score,
+                    bell: Bell::new(),
+                },
                 Pass {
                     seat,
                     schemas: None,
@@ -87,7 +92,7 @@ impl<V: Volume + Drop> Shared<V> {
         ensures table { pass.new.table ≡ pass.old.table }
         ensures origin { pass.new.knows.origin ≡ pass.old.knows.origin }
         ensures lent { view_of pass.new ≡ lent (view_of pass.old) }
-        ensures part { IsPart pass.old result }
+        ensures part { IsPart Writer pass.old result }
     {
         match self.score.split(alloc, &mut pass.seat, Mode::Writer) {
             Ok(seat) => Pass {
@@ -96,6 +101,29 @@ impl<V: Volume + Drop> Shared<V> {
             },
             Err(_) => unreachable!(),
         }
+    }
+
+    /// Splits a Keeper off: a pass that applies and purges, and neither writes nor pins. It has seen what this one has.
+    pub fn split_keeper(&self, alloc: Global, pass: &mut Pass<V>) -> Pass<V>
+        requires pass { pass.old.table ≡ self.now }
+        requires may { MaySplit (view_of pass.old) Keeper }
+        ensures table { pass.new.table ≡ pass.old.table }
+        ensures origin { pass.new.knows.origin ≡ pass.old.knows.origin }
+        ensures lent { view_of pass.new ≡ lent (view_of pass.old) }
+        ensures part { IsPart Keeper pass.old result }
+    {
+        match self.score.split(alloc, &mut pass.seat, Mode::Keeper) {
+            Ok(seat) => Pass {
+                seat,
+                schemas: None,
+            },
+            Err(_) => unreachable!(),
+        }
+    }
+
+    /// The bell that each commit rings, for a worker that applies.
+    pub fn bell(&self) -> &Bell {
+        &self.bell
     }
 
     /// Takes in another pass, which has no pin: what that one has seen and knows.

@@ -1,28 +1,36 @@
-use Rattle.std.proofs.Common.{◌≡◌, ◌≢◌, ◌∙◌, ◌<◌, ℕ, length, refl, sym, subst, arith}
+use Rattle.std.proofs.Common.{◌≡◌, ◌≢◌, ◌∙◌, ◌<◌, ℕ, length, IfSome, Ok, refl, sym, subst, arith}
+use Rattle.qd_store.specs.Drafts.{IsDraftedFrom}
 use Rattle.qd_store_backend.specs.Backs.{current, n_in}
-use Rattle.qd_shared.specs.Desks.{items_in}
-use Rattle.qd_shared.specs.Publishing.{IsDraftOf}
 use Rattle.qd_shared.proofs.Items.{items_count}
 use Rattle.qd_shared.proofs.Showing.{more_of}
 use Rattle.qd_shared.proofs.desk.Desk.begin_round.Goals as goal
 
-pub returns-then-shown_n-upto-clause-begun : goal.returns-then-shown_n-upto-clause-begun
-returns-then-shown_n-upto-clause-begun g c =
+pub returns-then-shown_n-all-clause-begun : goal.returns-then-shown_n-all-clause-begun
+returns-then-shown_n-all-clause-begun g c =
     let d = c.args.self.now in
     let all = items_count d.owned.store.sequence.refs d.history in
-    let count : c.hist_len-upto.result ≡ length d.owned.store.sequence.refs = c.hist_len-upto.ensures in
-    let same : c.shown_n.result ≡ c.hist_len-upto.result = search in
+    let count : c.hist_len-all.result ≡ length d.owned.store.sequence.refs = c.hist_len-all.ensures in
+    let same : c.shown_n.result ≡ c.hist_len-all.result = search in
     (count ∙ sym all, sym c.shown_n.ensures.shown ∙ same)
+
+pub round_end-upto-requires : goal.round_end-upto-requires
+round_end-upto-requires g c =
+    let d = c.args.self.now in
+    let count : c.hist_len-all.result ≡ length d.owned.store.sequence.refs = c.hist_len-all.ensures in
+    let apart : c.shown_n.result ≢ c.hist_len-all.result = search in
+    let more : n_in (current d.owned.store) < c.hist_len-all.result = more_of d d c.shown_n.result c.hist_len-all.result refl c.shown_n.ensures.shown c.shown_n.ensures.within c.hist_len-all.ensures apart in
+    record { more = omega (arith, more, count) }
 
 pub returns-clause-begun : goal.returns-clause-begun
 returns-clause-begun g c =
     let d = c.args.self.now in
     let all = items_count d.owned.store.sequence.refs d.history in
-    let count : c.hist_len-upto.result ≡ length (items_in d) = c.hist_len-upto.ensures ∙ sym all in
     let e = c.in-Ok.ensures in
-    let apart : c.shown_n.result ≢ c.hist_len-upto.result = search in
-    let more : n_in (current d.owned.store) < c.hist_len-upto.result = more_of d d c.shown_n.result c.hist_len-upto.result refl c.shown_n.ensures.shown c.shown_n.ensures.within c.hist_len-upto.ensures apart in (
-      subst (λ (n : ℕ). IsDraftOf d n c.in-Ok.draft) count (record { over = e.over; number = e.number; told = e.told }),
+    let upto : c.in-Ok.draft.plan.upto ≡ c.round_end-upto.result = e.number in
+    let more = c.round_end-upto.ensures.more in
+    let few = c.round_end-upto.ensures.few in (
+      record { over = e.over; number = refl; told = subst (λ (n : ℕ). IfSome d.history (λ h. IsDraftedFrom (Ok c.in-Ok.draft) d.owned.store h n)) (sym upto) e.told },
       c.next_block-next_block.ensures,
-      omega (arith, more, count),
+      omega (arith, upto, more),
+      omega (arith, upto, few, all),
     )

@@ -1,31 +1,24 @@
-use Rattle.std.proofs.Common.{◌≡◌, ◌∙◌, Ok, length, subst, arith}
-use Rattle.qd_shared.specs.declared.rounds.Begun.TheVariants as begun
+use Rattle.std.proofs.Common.{◌≡◌, ◌∙◌, length, refl, ap, sym, arith, le_refl}
 use Rattle.qd_shared.specs.Desks.{items_in}
-use Rattle.qd_shared.specs.Rounds.{IsBegun}
+use Rattle.qd_shared.specs.Passes.{view_of}
 use Rattle.qd_shared.proofs.Applying.{answered_wide}
-use Rattle.qd_shared.proofs.Merging.{round_number, round_of}
-use Rattle.qd_shared.proofs.Passing.{passes_both}
+use Rattle.qd_shared.proofs.Passing.{looked_passes, passes_both}
 use Rattle.qd_shared.proofs.shared.Shared.catch_up.Goals as goal
 
-pub end_round-requires-clause-round : goal.end_round-requires-clause-round
-end_round-requires-clause-round g c =
-    let b = c.in-Ok-Drafted.ensures.begins in
-    let is : c.in-Ok-Drafted.field-0 ≡ begun.Drafted c.in-Ok-Drafted.draft c.in-Ok-Drafted.next_block = search in
-    let d = subst (λ x. IsBegun (Ok x) b.found b.left) is b.begun in
-    round_of c.begin_round.new.pass b.found b.left c.in-Ok-Drafted.draft c.in-Ok.merged c.in-Ok-Drafted.next_block b.holds.noted b.holds.seen b.history b.calls d.0 d.1 d.2 c.in-Ok.ensures.merged b.passes.count
+pub make_rounds-requires-clause-counted : goal.make_rounds-requires-clause-counted
+make_rounds-requires-clause-counted g c = (looked_passes c.args.pass.now c.count-least.new.pass c.count-least.ensures.looks).count
 
-pub returns-in-Ok : goal.returns-in-Ok
-returns-in-Ok g c =
-    let b = c.in-Ok-Drafted.ensures.begins in
-    let is : c.in-Ok-Drafted.field-0 ≡ begun.Drafted c.in-Ok-Drafted.draft c.in-Ok-Drafted.next_block = search in
-    let d = subst (λ x. IsBegun (Ok x) b.found b.left) is b.begun in
-    let number = round_number b.found (length (items_in b.found)) c.in-Ok-Drafted.draft c.in-Ok.merged d.0 c.in-Ok.ensures.merged in
+pub returns : goal.returns
+returns g c =
+    let l = c.count-least.ensures.looks in
+    let p = looked_passes c.args.pass.now c.count-least.new.pass l in
+    let least : length (items_in l.desk) ≡ c.count-least.result = sym (ap length l.holds.seen) ∙ sym c.count-least.ensures.count in
     record {
       applies = record {
-        found = b.found;
-        before = b.holds.seen_before;
-        passes = passes_both c.args.pass.now c.begin_round.new.pass c.end_round.new.pass b.passes c.end_round.ensures.passes;
-        answered = answered_wide (length (items_in b.found)) c.in-Ok.merged.upto c.end_round.result c.args.pass.now c.begin_round.new.pass c.end_round.new.pass (omega (arith, number)) b.passes c.end_round.ensures.answered;
+        found = l.desk;
+        before = l.holds.seen_before;
+        passes = passes_both c.args.pass.now c.count-least.new.pass c.make_rounds.new.pass p c.make_rounds.ensures.passes;
+        answered = answered_wide (length (items_in l.desk)) c.count-least.result c.make_rounds.result c.args.pass.now c.count-least.new.pass c.make_rounds.new.pass (omega (arith, least)) p c.make_rounds.ensures.answered;
       };
-      alone = λ sole idle. c.end_round.ensures.alone (b.passes.mode ∙ sole) (b.passes.phase ∙ idle);
+      alone = λ sole idle. c.make_rounds.ensures.alone (p.mode ∙ sole) (p.phase ∙ idle);
     }

@@ -41,7 +41,7 @@ returns g c =
     let s = c.show-hold.ensures in
     let both = applies c.args.pass.now c.pass.inside.seat.table_id c.give.new.seat.table_id (known_by c.pass.inside.seat) (known_by c.take-hold.new.seat) (known_by c.retire_rows-hold.new.seat) (known_by c.show-hold.new.seat) (known_by c.give.new.seat)
     c.pass.view_is c.pass.invariant.2 c.take-hold.result.book c.retire_rows-hold.result.book c.show-hold.result.0.book t.begins t.along same r.steps s.steps s.may c.give.ensures.gave c.give.ensures.counted
-    c.args.merged.now.upto c.show-hold.result.1 r.items s.items r.history s.history r.shown s.shown s.applied in
+    0 c.show-hold.result.1 r.items s.items r.history s.history r.shown s.shown s.applied in
     let new = at_table c.give.new.seat.table_id (known_by c.give.new.seat) in
     record {
       passes = both.0;
@@ -49,5 +49,5 @@ returns g c =
       alone = λ sole idle.
           let mode = t.along.mode ∙ (ap (λ (p : Pass). (view_of p).mode) c.pass.view_is ∙ sole) in
           let phase = t.along.phase ∙ (ap (λ (p : Pass). (view_of p).phase) c.pass.view_is ∙ idle) in
-          never_crowded c.args.merged.now.upto c.show-hold.result.1 c.args.pass.now new both.1 (refused_kept (known_by c.show-hold.new.seat) (known_by c.give.new.seat) c.show-hold.result.0.book c.give.ensures.gave ∙ (s.refused ∙ (r.alone mode phase ∙ t.fresh)));
+          never_crowded 0 c.show-hold.result.1 c.args.pass.now new both.1 (refused_kept (known_by c.show-hold.new.seat) (known_by c.give.new.seat) c.show-hold.result.0.book c.give.ensures.gave ∙ (s.refused ∙ (r.alone mode phase ∙ t.fresh)));
     }

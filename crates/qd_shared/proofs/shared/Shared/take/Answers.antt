@@ -7,7 +7,7 @@ use Rattle.qd_shared.proofs.shared.Shared.take.Goals as goal
 
 pub returns-clause-begins : goal.returns-clause-begins
 returns-clause-begins g c =
-    subst (λ (d : Desk). Begins (known_by c.args.seat.now) d) (sym c.book.ensures.value) (begins (known_by c.args.seat.now) (known_by c.take-hold.new.seat) c.take-hold.result.book c.take-hold.ensures.took c.take-hold.ensures.seat.stands c.take-hold.ensures.comes)
+    subst (λ (d : Desk). Begins (known_by c.args.seat.now) d) (sym c.book.ensures.value) (begins (known_by c.args.seat.now) (known_by c.take-hold.new.seat) c.take-hold.result.book c.take-hold.ensures.took c.take-hold.ensures.seat.stands c.take-hold.ensures.comes c.take-hold.ensures.whole)
 
 pub returns-clause-finds : goal.returns-clause-finds
 returns-clause-finds g c =

@@ -1,16 +1,20 @@
 -- Output rows, one value and one row after another, and the length of their lines.
-use Rattle.std.proofs.Common.{◌≡◌, ℕ, ◌+◌, ◌<◌, ◌≤◌, min, List, [], ◌∷◌, ◌++◌, All, Some, length, map, get_or, take, refl, sym, ap, ap₂, subst, ◌∙◌, arith, sum_by}
+use Rattle.std.proofs.Common.{lit<, ◌≡◌, ℕ, ◌+◌, ◌<◌, ◌≤◌, min, true, ltb, List, [], ◌∷◌, ◌++◌, All, Some, length, flat_map, map, get_or, take, refl, sym, ap, ap₂, subst, ◌∙◌, arith, sum_by}
 use Rattle.std.specs.Prelude.{slice_get}
 use Rattle.std.specs.List.{zip}
-use Rattle.std.proofs.lemmas.List.{get_or-map, length-map, take_all, take_more}
-use Rattle.std.proofs.lemmas.List.Sums.{sum_by_more}
+use Rattle.std.proofs.lemmas.Bool.{lt-ltb, ltb-true, ltb_from_iff}
+use Rattle.std.proofs.lemmas.List.{get_or-map, length-append, length-map, take_all, take_more}
+use Rattle.std.proofs.lemmas.List.Concat.{length-flat_map}
+use Rattle.std.proofs.lemmas.List.Sums.{sum_by-take-le, sum_by_more}
 use Rattle.std.proofs.lemmas.Option.{get_or_from_slice_get, slice_get_within}
+use Rattle.qd_base.specs.declared.limits.TheConstants.{MAX_RESULT_BYTES}
 use Rattle.qd_base.specs.declared.cell.Cell.{Cell}
 use Rattle.qd_base.specs.declared.cell.Cell.TheVariants as cell
 use Rattle.qd_base.specs.declared.schema.Col.{Col}
 use Rattle.qd_base.specs.Rows.{Row, cell_at}
 use Rattle.qd_value.specs.declared.bound.Bound.{Bound}
 use Rattle.qd_print.specs.Printed.{csv_cell, csv_line}
+use Rattle.qd_print.proofs.LengthLemmas.{csv_total}
 use Rattle.qd_meaning.specs.declared.parts.AskPlan.{AskPlan}
 use Rattle.qd_meaning.specs.Answer.{output_row}
 use Rattle.qd_meaning.specs.Grouped.{key_of}
@@ -86,3 +90,21 @@ list_row p rows i row low is = ap (output_row p.picks p.out) is ∙ sym (get_or-
 -- all of a list
 pub all_taken : {X : Type 0} (xs made : List X) (n : ℕ) → length xs ≤ n → made ≡ take n xs → made ≡ xs
 all_taken xs made n high is = is ∙ take_all n xs high
+
+-- ---- more bytes than a result may have
+
+module _ {X : Type 0} (header : List ℕ) (f : X → List ℕ) (rows : List X) (k counted : ℕ) (is : counted ≡ min (length header + sum_by (λ row. length (f row)) (take k rows)) 18446744073709551615) where
+  -- a header and some rows have more, and so all have
+  pub large_so_far : ltb MAX_RESULT_BYTES counted ≡ true → ltb MAX_RESULT_BYTES (length (header ++ flat_map f rows)) ≡ true
+  large_so_far more =
+      let high = ltb-true MAX_RESULT_BYTES counted more in
+      lt-ltb MAX_RESULT_BYTES (length (header ++ flat_map f rows)) (omega (arith, is, high, sum_by-take-le (λ row. length (f row)) rows k, length-append header (flat_map f rows), length-flat_map f rows))
+
+  -- all are counted
+  pub large_at_end : length rows ≤ k → ltb MAX_RESULT_BYTES counted ≡ ltb MAX_RESULT_BYTES (length (header ++ flat_map f rows))
+  large_at_end whole =
+      let all = csv_total header f rows k counted whole is in
+      ltb_from_iff ((λ more. (let high = ltb-true MAX_RESULT_BYTES counted more in omega (arith, all, high))), (λ high. lt-ltb MAX_RESULT_BYTES counted (omega (arith, all, high, least))))
+    where
+      least : MAX_RESULT_BYTES < 18446744073709551615
+      least = lit< tt

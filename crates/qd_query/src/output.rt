@@ -1,5 +1,5 @@
 //! The output rows of a query, counted as CSV, and made once.
-ghost use Rattle.std.specs.Prelude.{◌≡◌, ◌<◌, [], All, IfOk, length, map, min, slice_index_or};
+ghost use Rattle.std.specs.Prelude.{◌≡◌, ◌<◌, [], All, IfOk, length, map, min, nat_lt, slice_index_or};
 ghost use Rattle.qd_meaning.specs.Answer.{output_row};
 ghost use Rattle.qd_meaning.specs.Grouped.{key_of};
 ghost use Rattle.qd_order.specs.Cuts.{shown_rows};
@@ -8,7 +8,7 @@ ghost use Rattle.qd_query.specs.Answers.{table_at};
 ghost use Rattle.qd_rows.specs.Sets.{row_of_place, rows_in, IsPlaced};
 
 use crate::lengths::value_len;
-use qd_base::{Dictionary, Memory, Row, RowList};
+use qd_base::{Dictionary, MAX_RESULT_BYTES, Memory, Row, RowList};
 use qd_expr::Joined;
 use qd_meaning::AskPlan;
 use qd_order::{Places, output_of_place, output_of_row, output_width};
@@ -17,35 +17,51 @@ use qd_rows::RowSet;
 use qd_value::Bound;
 use std::alloc::Global;
 
-/// The length of the output rows of some positions of a set as CSV, with the line of the columns' names. It costs the time
-/// of an expression a row for each column.
-pub(crate) fn set_len<D: Dictionary>(
+/// Whether the output rows of some positions of a set have more bytes as CSV, with the line of the columns' names, than a result may
+/// have. It costs the time of an expression a row for each column, up to the row by which they have more.
+pub(crate) fn is_set_too_large<D: Dictionary>(
     plan: &AskPlan,
     exprs: &[Bound],
     rows: &RowSet<D>,
     places: &Places,
-) -> usize
+) -> bool
     requires { All (λ i. i < length rows.now.places) places.now }
-    ensures length { result ≡ min (length (csv (table_at plan.now (map (key_of exprs.now) (rows_in rows.now)) places.now))) usize.MAX }
+    ensures { result ≡ nat_lt MAX_RESULT_BYTES (length (csv (table_at plan.now (map (key_of exprs.now) (rows_in rows.now)) places.now))) }
 {
     let mut len = header_len(plan.out.as_slice());
     for k in 0..places.len() {
         let place = rows.places(places.get(k));
         len = len.saturating_add(line_of_place(plan, exprs, rows, place));
+        if is_too_large(len) {
+            return true;
+        }
     }
-    len
+    let large = is_too_large(len);
+    large
 }
 
-/// The length of the output rows of some positions of rows as CSV, with the line of the columns' names.
-pub(crate) fn rows_len(plan: &AskPlan, rows: &[Row], places: &Places) -> usize
+/// Whether the output rows of some positions of rows have more bytes as CSV, with the line of the columns' names, than a result may have.
+/// It costs a row's values, up to the row by which they have more.
+pub(crate) fn are_rows_too_large(plan: &AskPlan, rows: &[Row], places: &Places) -> bool
     requires { All (λ i. i < length rows.now) places.now }
-    ensures length { result ≡ min (length (csv (table_at plan.now rows.now places.now))) usize.MAX }
+    ensures { result ≡ nat_lt MAX_RESULT_BYTES (length (csv (table_at plan.now rows.now places.now))) }
 {
     let mut len = header_len(plan.out.as_slice());
     for k in 0..places.len() {
         len = len.saturating_add(line_of_row(plan, &rows[places.get(k)]));
+        if is_too_large(len) {
+            return true;
+        }
     }
-    len
+    let large = is_too_large(len);
+    large
+}
+
+/// Whether so many bytes are more than a result may have.
+fn is_too_large(bytes: usize) -> bool
+    ensures { result ≡ nat_lt MAX_RESULT_BYTES bytes }
+{
+    MAX_RESULT_BYTES < bytes as u64
 }
 
 /// The output rows of some positions of a set.

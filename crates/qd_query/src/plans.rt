@@ -1,5 +1,5 @@
 //! What a plan gives over a source of parts.
-ghost use Rattle.std.specs.Prelude.{◌≡◌, ◌<◌, Some, IfErr, IfOk, IfSome, length, map, nat_lt};
+ghost use Rattle.std.specs.Prelude.{◌≡◌, ◌<◌, Some, IfErr, IfOk, IfSome, length, map};
 ghost use Rattle.qd_meaning.specs.declared.parts.Work.TheVariants as work;
 ghost use Rattle.qd_meaning.specs.Answer.{finished, kept_rows, latest_rows, worked as made_of};
 ghost use Rattle.qd_meaning.specs.Grouped.{key_of};
@@ -12,9 +12,9 @@ ghost use Rattle.qd_scan.specs.Asked.{AskedOnly};
 ghost use Rattle.qd_scan.specs.Sources.{HasCause, Stays};
 
 use crate::answer::Answer;
-use crate::output::{rows_len, rows_of_rows, rows_of_set, set_len};
+use crate::output::{are_rows_too_large, is_set_too_large, rows_of_rows, rows_of_set};
 use crate::sources::source_rows;
-use qd_base::{Dictionary, MAX_RESULT_BYTES, Memory, Row, RowList, Table};
+use qd_base::{Dictionary, Memory, Row, RowList, Table};
 use qd_expr::filter;
 use qd_group::group;
 use qd_latest::latest;
@@ -144,7 +144,7 @@ fn answer_of_set<D: Dictionary>(
     ensures { IfOk result (λ a. a ≡ sized (finished plan.now (map (key_of exprs.now) (rows_in rows.now)))) }
 {
     let places = order_of_set(alloc, plan, exprs, rows)?;
-    if is_too_large(set_len(plan, exprs, rows, &places)) {
+    if is_set_too_large(plan, exprs, rows, &places) {
         return Ok(Answer::too_large());
     }
     answered(plan, rows_of_set(alloc, plan, exprs, rows, &places)?)
@@ -155,17 +155,10 @@ fn answer_of_rows(alloc: Global, plan: &AskPlan, rows: &[Row]) -> Result<Answer,
     ensures { IfOk result (λ a. a ≡ sized (finished plan.now rows.now)) }
 {
     let places = order_of_rows(alloc, plan, rows)?;
-    if is_too_large(rows_len(plan, rows, &places)) {
+    if are_rows_too_large(plan, rows, &places) {
         return Ok(Answer::too_large());
     }
     answered(plan, rows_of_rows(alloc, plan, rows, &places)?)
-}
-
-/// Whether so many bytes are more than a result may have.
-fn is_too_large(bytes: usize) -> bool
-    ensures { result ≡ nat_lt MAX_RESULT_BYTES bytes }
-{
-    MAX_RESULT_BYTES < bytes as u64
 }
 
 /// Rows under a query's output columns as its answer.

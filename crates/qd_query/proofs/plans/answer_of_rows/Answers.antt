@@ -3,11 +3,11 @@ use Rattle.qd_query.specs.declared.answer.Answer.{Answer}
 use Rattle.qd_query.proofs.Whole.{refused_answer, rows_answer}
 use Rattle.qd_query.proofs.plans.answer_of_rows.Goals as goal
 
-pub returns-then-is_too_large : goal.returns-then-is_too_large
-returns-then-is_too_large c =
-    refused_answer c.args.plan.now c.args.rows.now c.in_ok-places.places c.in_ok-places.ensures.rows c.rows_len.result c.rows_len.ensures.length c.too_large.result c.too_large.ensures.refused (sym c.if-is_too_large.ensures)
+pub returns-then-are_rows_too_large : goal.returns-then-are_rows_too_large
+returns-then-are_rows_too_large c =
+    refused_answer c.args.plan.now c.args.rows.now c.in_ok-places.places c.in_ok-places.ensures.rows c.too_large.result c.too_large.ensures.refused (sym c.if-are_rows_too_large.ensures)
 
 pub returns : goal.returns
 returns c =
     subst (λ (x : Answer). IfOk c.answered.result (λ a. a ≡ x))
-    (rows_answer c.args.plan.now c.args.rows.now c.in_ok-places.places c.in_ok-places.ensures.rows c.rows_len.result c.rows_len.ensures.length c.in_ok-rows_of_rows.field-0 c.in_ok-rows_of_rows.ensures.rows (sym c.if-is_too_large.ensures)) c.answered.ensures
+    (rows_answer c.args.plan.now c.args.rows.now c.in_ok-places.places c.in_ok-places.ensures.rows c.in_ok-rows_of_rows.field-0 c.in_ok-rows_of_rows.ensures.rows (sym c.if-are_rows_too_large.ensures)) c.answered.ensures

@@ -5,7 +5,7 @@ use Rattle.qd_meaning.specs.Grouped.{key_of}
 use Rattle.qd_order.specs.Cuts.{shown_rows}
 use Rattle.qd_rows.specs.Sets.{rows_in}
 use Rattle.qd_query.proofs.Lines.{line_bytes}
-use Rattle.qd_query.proofs.output.set_len.Given as goal
+use Rattle.qd_query.proofs.output.is_set_too_large.Given as goal
 
 -- the header and the rows so far are counted
 abbrev pub invariant-loop-k : goal.invariant-loop-k

@@ -3,7 +3,7 @@ use Rattle.qd_base.specs.declared.schema.Col.{Col}
 use Rattle.qd_print.specs.Printed.{csv_line, csv_text}
 use Rattle.qd_order.specs.Cuts.{shown_rows}
 use Rattle.qd_query.proofs.Lines.{line_bytes}
-use Rattle.qd_query.proofs.output.rows_len.Given as goal
+use Rattle.qd_query.proofs.output.are_rows_too_large.Given as goal
 
 -- the header and the rows so far are counted
 abbrev pub invariant-loop-k : goal.invariant-loop-k

@@ -35,17 +35,20 @@ lent_begins lender l began now table first main name same shared is = record {
 }
 
 module _ {W : Type 0} (stream : W → Stream) (kind : FrontKind) where
-  pub counted_begins : (began now : Supply) (main : Pass) (starved : Bool) → now ≡ began → starved ≡ false → (view_of main).own ≡ [] → IsMain main 0 MOST → IsCounted stream kind began now main starved no_works
+  pub counted_begins : (began now : Supply) (main : Pass) (starved : Bool) → now ≡ began → starved ≡ false → (view_of main).own ≡ [] → IsMain main 0 MOST → IsCounted stream kind (view_of main).room began now main starved no_works
   counted_begins began now main starved same fed none is = record {
     account = subst (λ (x : Supply). IsAccount kind main x.returned now.returned starved [] [] 0) same
         (subst (λ (b : Bool). IsAccount kind main now.returned now.returned b [] [] 0) (sym fed) (account_begins kind main now.returned none));
-    main_is = is;
+    main_is = record { mode = is.mode; idle = is.idle; room = omega arith };
+    enough = (let room = is.room in omega (arith, room));
   }
 
   pub works_begin : (lender l : GName) (began now : Supply) (table : TableId) (first main : Pass) (starved : Bool) → l ≡ lender → now ≡ began → table ≡ first.table → main ≡ first → starved ≡ false → (view_of main).own ≡ [] → IsMain main 0 MOST
-      → IsLent lender l began now table first main × IsCounted stream kind began now main starved no_works
-  works_begin lender l began now table first main starved name same shared is fed none main_is =
-      (lent_begins lender l began now table first main name same shared is, counted_begins began now main starved same fed none main_is)
+      → IsLent lender l began now table first main × IsCounted stream kind (view_of first).room began now main starved no_works
+  works_begin lender l began now table first main starved name same shared is fed none main_is = (
+    lent_begins lender l began now table first main name same shared is,
+    subst (λ (p : Pass). IsCounted stream kind (view_of p).room began now main starved no_works) is (counted_begins began now main starved same fed none main_is),
+  )
 
   -- how many starts were refused is told to the host
   counts_once : (count n : ℕ) → counts_together count (counts_together 0 n) ≡ counts_together count n
@@ -63,7 +66,7 @@ module _ {W : Type 0} (stream : W → Stream) (kind : FrontKind) where
       ∙ ap₂ (λ (r : Option (List Stream)) (n : ℕ). record began { clock_times = now.clock_times; clock_faults = now.clock_faults; returned = r; starts_failed = n }) wires starts
 
   pub serves_all : (lender l : GName) (began mid now : Supply) (table : TableId) (old new : Arrivals W) (first main : Pass) (starved : Bool) (most : ℕ) (ended : Result ℕ IoFault) (wires : List W) (t : Works W Visit) (failed failed' : ℕ)
-      → Takes wires old.ahead new.ahead → Ends wires most old.ahead new.ahead new.closed ended → IsWithin wires most → IsLent lender l began mid table first main → IsCounted stream kind began mid main starved t → t.out ≡ []
+      → Takes wires old.ahead new.ahead → Ends wires most old.ahead new.ahead new.closed ended → IsWithin wires most → IsLent lender l began mid table first main → IsCounted stream kind (view_of first).room began mid main starved t → t.out ≡ []
       → failed ≡ 0 → Serves wires no_works t failed failed' → now ≡ after_starts failed' mid → ServesAll stream kind began now old new first main starved most ended
   serves_all lender l began mid now table old new first main starved most ended wires t failed failed' takes ends within lent counted none zero serves told = record {
     wires = wires;
@@ -81,4 +84,6 @@ module _ {W : Type 0} (stream : W → Stream) (kind : FrontKind) where
     rest = all_told began mid now failed' lent.rest told;
     table = lent.of;
     grows = lent.grows;
+    origin = lent.origin;
+    room = (let r = counted.main_is.room in let z : length t.out ≡ 0 = ap length none in omega (arith, r, z));
   }

@@ -1,5 +1,5 @@
 pub mod Counting
-mod Making
+pub mod Making
 mod Turned
 mod Visiting
 mod Accepted

@@ -17,6 +17,7 @@ use Rattle.qd_io.specs.Clocks.{Timeline, Times}
 use Rattle.qd_io.specs.Ends.{Stream}
 use Rattle.qd_manifest.specs.declared.shape.TableParts.{TableParts}
 use Rattle.qd_score_model.specs.declared.view.View.{View}
+use Rattle.qd_score_model.specs.declared.view.Mode.TheVariants.{Writer}
 use Rattle.qd_score_model.specs.Machine.{lent, merged}
 use Rattle.qd_score_model.proofs.Merging.{merged_permutes}
 use Rattle.qd_server.specs.declared.maker.TheConstants.{MOST}
@@ -117,9 +118,9 @@ taken_out xs i x is = IsPermutation-remove xs i x (slice_get_within xs i x is) (
 pub all_at : {X : Type 0} (P : X → Type 0) (xs : List X) (i : ℕ) (x : X) → slice_get xs i ≡ Some x → All P xs → P x
 all_at P xs i x is h = All-head P x (remove xs i) (All-permutation P xs (x ∷ remove xs i) (taken_out xs i x is) h)
 
-module _ {W : Type 0} (stream : W → Stream) (kind : FrontKind) (began now : Supply) where
+module _ {W : Type 0} (stream : W → Stream) (kind : FrontKind) (spare : ℕ) (began now : Supply) where
   abbrev Counted : Supply → Pass → Bool → Works W Visit → Type 0
-  Counted supply main starved s = IsCounted stream kind began supply main starved s
+  Counted supply main starved s = IsCounted stream kind spare began supply main starved s
 
   -- a wire more is taken
   one_taken : (s : Works W Visit) (wire : W) → map stream (s.taken ++ wire ∷ []) ≡ map stream s.taken ++ stream wire ∷ []
@@ -139,8 +140,9 @@ module _ {W : Type 0} (stream : W → Stream) (kind : FrontKind) (began now : Su
         main_is = record {
           mode = ap (λ (x : View Item (List TableParts)). x.mode) view ∙ k.main_is.mode;
           idle = ap (λ (x : View Item (List TableParts)). x.phase) view ∙ k.main_is.idle;
-          room = omega (arith, room, count, enough, few);
+          room = (let most = k.enough in omega (arith, room, count, enough, few, most));
         };
+        enough = k.enough;
       }
 
   pub counted_given_up : (then : Supply) (main : Pass) (starved : Bool) (s : Works W Visit) (wire : W) → Returns now.returned then.returned (stream wire)
@@ -149,10 +151,11 @@ module _ {W : Type 0} (stream : W → Stream) (kind : FrontKind) (began now : Su
     account = subst (λ (l : List Stream). IsAccount kind main began.returned then.returned true l s.out (length s.unstarted)) (sym (one_taken s wire))
         (account_given_up kind main began.returned now.returned then.returned starved (map stream s.taken) s.out (length s.unstarted) (stream wire) back k.account);
     main_is = k.main_is;
+    enough = k.enough;
   }
 
   -- the main pass takes another in, whose work was out
-  main_joined : (main other later : Pass) (out rest : List Visit) (v : Visit) → IsJoined main other later → IsPermutation out (v ∷ rest) → IsMain main (length out) MOST → IsMain later (length rest) MOST
+  main_joined : (main other later : Pass) (out rest : List Visit) (v : Visit) → IsJoined main other later → IsPermutation out (v ∷ rest) → IsMain main (length out) spare → IsMain later (length rest) spare
   main_joined main other later out rest v j here k =
       let room : (view_of later).room ≡ (view_of main).room + (view_of other).room + 1 = ap (λ (x : View Item (List TableParts)). x.room) j.view in
       let count : length (v ∷ rest) ≡ length out = length_permutation out (v ∷ rest) here in
@@ -175,6 +178,7 @@ module _ {W : Type 0} (stream : W → Stream) (kind : FrontKind) (began now : Su
         (account_over kind main later began.returned now.returned then.returned starved (map stream s.taken) s.out t.out (length s.unstarted) (length t.unstarted) v after fate (joined_on main other later j)
         (subst (λ (ns : List ℕ). IsPermutation ((view_of main).own ++ ns) (view_of later).own) own (own_joined main other later j)) has fed count here back k.account);
     main_is = main_joined main other later s.out t.out v j here k.main_is;
+    enough = k.enough;
   }
 
 -- ---- one call
@@ -183,7 +187,7 @@ pub main_stays : (main : Pass) → GoesOnAs main main
 main_stays main = record { table = refl; origin = refl; history = still_seen (is_told main.knows.origin) (view_of main).seen }
 
 -- a visit by a pass that was split off
-pub visit_of_main : (kind : FrontKind) → (main later part : Pass) (v : Visit) (wire : Stream) (clock : Timeline) → v ≡ record { front = kind; wire = wire; clock = clock; pass = part } → IsPart main part
+pub visit_of_main : (kind : FrontKind) → (main later part : Pass) (v : Visit) (wire : Stream) (clock : Timeline) → v ≡ record { front = kind; wire = wire; clock = clock; pass = part } → IsPart Writer main part
     → later.table ≡ main.table → later.knows.origin ≡ main.knows.origin → IsOfMain kind later v
 visit_of_main kind main later part v wire clock is p table origin = record {
   front = ap (λ (x : Visit). x.front) is;

@@ -1,5 +1,5 @@
 -- What the maker of the works of connections keeps.
-use Rattle.std.specs.Prelude.{◌≡◌, Bool, length, map}
+use Rattle.std.specs.Prelude.{◌≡◌, ℕ, ◌≤◌, Bool, length, map}
 use Rattle.std.specs.Borrow.{GName}
 use Rattle.atomic_table.specs.Seated.{TableId}
 use Rattle.qd_fronts.specs.declared.front.FrontKind.{FrontKind}
@@ -26,7 +26,8 @@ pub record IsLent (lender lender' : GName) (began now : Supply) (table : TableId
   pub grows : Extends (history_of first) (history_of main)
 
 module _ {W : Type 0} (stream : W → Stream) where
-  -- an account of works is one of connections
-  pub record IsCounted (kind : FrontKind) (began now : Supply) (main : Pass) (starved : Bool) (s : Works W Visit) : Type 0 where
+  -- An account of works is one of connections. The main pass may be split so often as it could at first, but for those that are out.
+  pub record IsCounted (kind : FrontKind) (spare : ℕ) (began now : Supply) (main : Pass) (starved : Bool) (s : Works W Visit) : Type 0 where
     pub account : IsAccount kind main began.returned now.returned starved (map stream s.taken) s.out (length s.unstarted)
-    pub main_is : IsMain main (length s.out) MOST
+    pub main_is : IsMain main (length s.out) spare
+    pub enough : MOST ≤ spare

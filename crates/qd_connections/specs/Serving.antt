@@ -1,5 +1,5 @@
 -- What serving all connections of a listener does.
-use Rattle.std.specs.Prelude.{◌≡◌, ℕ, Bool, List, [], map, Result}
+use Rattle.std.specs.Prelude.{◌≡◌, ℕ, ◌≤◌, Bool, List, [], map, Result}
 use Rattle.qd_fronts.specs.declared.front.FrontKind.{FrontKind}
 use Rattle.qd_host.specs.Hosts.{Supply}
 use Rattle.qd_io.specs.declared.fault.IoFault.{IoFault}
@@ -7,7 +7,7 @@ use Rattle.qd_io.specs.Ends.{Stream, counts_together}
 use Rattle.qd_net.specs.Arrivals.{Arrivals}
 use Rattle.qd_server.specs.Accepting.{Ends, IsWithin, Takes}
 use Rattle.qd_session.specs.Looks.{Extends}
-use Rattle.qd_shared.specs.Passes.{Pass, history_of}
+use Rattle.qd_shared.specs.Passes.{Pass, history_of, view_of}
 use Rattle.qd_connections.specs.Accounts.{IsAccount}
 use Rattle.qd_connections.specs.Making.{after_serving}
 
@@ -29,3 +29,6 @@ module _ {W : Type 0} (stream : W → Stream) where
     pub rest : now ≡ after_all now began
     pub table : main.table ≡ first.table
     pub grows : Extends (history_of first) (history_of main)
+    pub origin : main.knows.origin ≡ first.knows.origin
+    -- it may be split as often as the first one could, so all that were split off it have gone into it
+    pub room : (view_of first).room ≤ (view_of main).room

@@ -65,9 +65,10 @@ impl<'a, H: Host> Maker<<H::Lst as Listener>::Wire> for Connections<'a, H> {
     type Fixed = (Seen<&'a mut H>, Seen<Pass<H::Vol>>, FrontKind);
 
     ghost use Rattle.std.specs.Arc.{arc_value};
+    ghost use Rattle.qd_shared.specs.Passes.{view_of};
     ghost use Rattle.qd_connections.specs.Making.{IsLent, IsCounted};
 
-    ghost works = { λ m s. IsLent m.began.was.ghost_name m.host.ghost_name (H.supply m.began.was.now) (H.supply m.host.now) (arc_value m.shared) m.first.was m.main × IsCounted H.Lst.Wire.stream m.kind (H.supply m.began.was.now) (H.supply m.host.now) m.main m.starved s };
+    ghost works = { λ m s. IsLent m.began.was.ghost_name m.host.ghost_name (H.supply m.began.was.now) (H.supply m.host.now) (arc_value m.shared) m.first.was m.main × IsCounted H.Lst.Wire.stream m.kind (view_of m.first.was).room (H.supply m.began.was.now) (H.supply m.host.now) m.main m.starved s };
 
     ghost fixed = { λ m. (m.began, m.first, m.kind) };
 

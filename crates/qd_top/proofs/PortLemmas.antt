@@ -1,15 +1,17 @@
 -- Connections of a port, from what the store, its passes and the listener say.
-use Rattle.std.proofs.Common.{◌≡◌, ◌≢◌, ◌∙◌, ◌⊎◌, ℕ, ◌≤◌, ◌<◌, inl, inr, Bool, true, false, List, [], length, map, ◌++◌, Option, Some, None, IfSome, Result, Ok, Err, refl, sym, ap, subst, arith, append-nil}
+use Rattle.std.proofs.Common.{◌≡◌, ◌≢◌, ◌∙◌, ◌⊎◌, ℕ, zero, suc, ◌+◌, ◌-◌, ◌≤◌, ◌<◌, inl, inr, Bool, true, false, List, [], ◌∷◌, length, map, ◌++◌, Option, Some, None, IfSome, Result, Ok, Err, refl, sym, ap, ap₂, subst, arith, append-nil, le_refl}
+use Rattle.std.specs.List.{range_with_len}
 use Rattle.std.specs.List.Sorted.{IsPermutation}
 use Rattle.std.proofs.lemmas.List.{length-map, map-append}
 use Rattle.std.proofs.lemmas.List.Elements.{All-nil}
-use Rattle.std.proofs.lemmas.List.Sorted.{IsPermutation-refl}
+use Rattle.std.proofs.lemmas.List.Sorted.{IsPermutation-refl, IsPermutation-trans, length_permutation}
 use Rattle.qd_base.specs.declared.op.Entry.{Entry}
 use Rattle.qd_base.specs.declared.request.Reply.TheVariants as reply
-use Rattle.qd_connections.specs.Accounts.{CameBack}
+use Rattle.qd_connections.specs.Accounts.{CameBack, IsMain}
 use Rattle.qd_connections.specs.Connections.{Connection, IsFated, IsTaken, refusals_in}
 use Rattle.qd_connections.specs.Serving.{ServesAll}
 use Rattle.qd_connections.proofs.Counting.{fates_last}
+use Rattle.qd_connections.proofs.Making.{more_seen}
 use Rattle.qd_fronts.specs.declared.front.FrontKind.{FrontKind}
 use Rattle.qd_host.specs.Hosts as hosts
 use Rattle.qd_host.specs.Hosts.{ConnectionsStay, Supply, after_listener, after_volume, shown, with_listeners_of}
@@ -19,14 +21,16 @@ use Rattle.qd_io.specs.Ends.{Counts, HasRisen, Stream, counts_together}
 use Rattle.qd_manifest.specs.declared.shape.TableParts.{TableParts}
 use Rattle.qd_net.specs.Arrivals.{Arrivals}
 use Rattle.qd_print.specs.Printed.{reply_bytes}
+use Rattle.qd_score_model.specs.declared.limits.TheConstants.{MAX_SPLITS}
 use Rattle.qd_score_model.specs.declared.view.View.{View}
-use Rattle.qd_score_model.specs.Machine.{shared}
+use Rattle.qd_score_model.specs.Machine.{behind, shared}
 use Rattle.qd_server.specs.Accepting.{Ends, IsEmptied, Takes}
+use Rattle.qd_server.specs.declared.maker.TheConstants.{MOST}
 use Rattle.qd_session.specs.Looks.{Extends}
 use Rattle.qd_session.proofs.RunLemmas.{extends-on}
 use Rattle.qd_shared.specs.declared.item.Item.{Item}
-use Rattle.qd_shared.specs.Desks.{Desk}
-use Rattle.qd_shared.specs.Passes.{Closes, GoesOnTo, Pass, history_by, history_of, is_told, view_of}
+use Rattle.qd_shared.specs.Desks.{Desk, items_in}
+use Rattle.qd_shared.specs.Passes.{Closes, GoesOnTo, Pass, Starts, history_by, history_of, is_told, view_of}
 use Rattle.qd_store.specs.declared.fault.OpenFault.{OpenFault}
 use Rattle.qd_store.specs.declared.fault.OpenFault.TheVariants as opening
 use Rattle.qd_store.specs.Laws.{StoresAreWhole}
@@ -40,9 +44,10 @@ use Rattle.qd_versions.specs.Stores as versions
 use Rattle.qd_volume.specs.Calls.{Storage}
 use Rattle.qd_volume.specs.Disk.{Disk}
 use Rattle.qd_wal.specs.Laws.{OneEntryIsRead}
+use Rattle.qd_worker.specs.Worker.{StaysMain, kept_by}
 use Rattle.qd_top.specs.declared.status.Status.{Status}
 use Rattle.qd_top.specs.declared.status.Status.TheVariants as status
-use Rattle.qd_top.specs.Ports.{EndsServing, Listens, ServedBy, listener_status, serving_status}
+use Rattle.qd_top.specs.Ports.{EndsServing, IsFirst, Listens, ServedBy, listener_status, serving_status}
 use Rattle.qd_top.specs.Run.{AreEnough, AreFirst, AsksFor, CountsWrites, KeepsSome, OverPort, ServedAll, ServedPort, Traffic, fresh, traffic}
 use Rattle.qd_top.specs.Stores.{HasNoStore, IsServable, Refuses, SaysDamage, SaysFault, begun_of}
 use Rattle.qd_top.proofs.HostLemmas.{asks-failed, asks-memory, asks-ok, counts_none, damaged, put-nothing, unopened}
@@ -78,6 +83,40 @@ pub history_shared : (first main : Pass) (history : Option (List Entry)) → mai
 history_shared first main history origin view is =
     ap (λ (o : Option Desk). history_by (is_told o) (view_of main).seen) origin ∙ ap (λ (v : View Item (List TableParts)). history_by (is_told first.knows.origin) v.seen) view ∙ is
 
+pub first_shared : (first main : Pass) (owned : Owned) (history : Option (List Entry)) → Starts first owned history → main.knows.origin ≡ first.knows.origin → view_of main ≡ shared (view_of first) → IsFirst main
+first_shared first main owned history s origin view = record {
+  desk = desk;
+  origin = origin ∙ s.desk;
+  count = subst (λ (o : Option (List Entry)). IfSome o (λ h. length (items_in desk) ≡ length h)) (sym (history_shared first main history origin view s.told)) (by history s.count);
+}
+  where
+    desk : Desk
+    desk = record { owned = owned; history = history; removed = 0 }
+
+    by : (o : Option (List Entry)) → IfSome o (λ h. length (view_of first).seen ≡ length h) → IfSome o (λ h. length (items_in desk) ≡ length h)
+    by None count = tt
+    by (Some h) count = sym (ap (λ (v : View Item (List TableParts)). length v.seen) s.view) ∙ count
+
+-- a worker keeps one pass at most
+pub kept_few : (w : Option Pass) → kept_by w ≤ 1
+kept_few None = omega arith
+kept_few (Some p) = omega arith
+
+-- the main pass that is left while a worker has one of its passes
+pub main_left : (old new : Pass) (w : Option Pass) → StaysMain old new → (view_of old).room ≤ (view_of new).room + kept_by w → IsMain old 0 MAX_SPLITS → IsMain new 0 MOST
+main_left old new w stays room is = record {
+  mode = stays.mode ∙ is.mode;
+  idle = stays.phase ∙ is.idle;
+  room = (let one = kept_few w in let all = is.room in omega (arith, room, one, all));
+}
+
+pub none_own : (old new : Pass) → StaysMain old new → (view_of old).own ≡ [] → (view_of new).own ≡ []
+none_own old new stays none = no_elements (view_of new).own (let l : length (view_of new).own ≡ length (view_of old).own = length_permutation (view_of old).own (view_of new).own stays.own in l ∙ ap length none)
+  where
+    no_elements : (ns : List ℕ) → length ns ≡ 0 → ns ≡ []
+    no_elements [] e = refl
+    no_elements (n ∷ ns) e = absurd (omega (arith, e))
+
 -- no connection was taken
 pub nobody_by : (kind : FrontKind) → (main : Pass) (host host' : Supply) (most : ℕ) (s : Status) → (view_of main).own ≡ [] → host'.returned ≡ host.returned → host'.starts_failed ≡ host.starts_failed → (s ≡ status.Finished → ⊥) → ServedBy kind main main host host' most s
 nobody_by kind main host host' most s none returned starts other = record {
@@ -93,6 +132,8 @@ nobody_by kind main host host' most s none returned starts other = record {
   fed = λ e. All-nil (λ (c : Connection). IsTaken c.fate);
   enough = λ e. absurd (other e);
   grows = extends_same (history_of main) (history_of main) refl;
+  origin = refl;
+  room = le_refl (view_of main).room;
 }
 
 first_taken : {W : Type 0} (stream : W → Stream) (wires : List W) (ahead now : Option (List W)) (told : Option (List Stream)) → shown stream ahead ≡ told → Takes wires ahead now → AreFirst (map stream wires) told
@@ -159,6 +200,8 @@ module _ {W : Type 0} (stream : W → Stream) (kind : FrontKind) (h0 h1 h2 h3 : 
             let (count, well) = finished_by starved ended (sym is ∙ e) in
             enough_by stream all.wires most old.ahead new.ahead h0.wires told all.takes (subst (λ (r : Result ℕ IoFault). Ends all.wires most old.ahead new.ahead new.closed r) well all.ends).1;
         grows = all.grows;
+        origin = all.origin;
+        room = all.room;
       }
 
   pub listened : {T : Type 0} (port : ℕ) (listener : T) → hosts.Names {T = T} h0.ports h1.ports (Some port) (Ok listener) → h1.listener_faults ≡ h0.listener_faults → old.faults ≡ 0 → Counts old.faults new.faults ended
@@ -179,8 +222,8 @@ module _ {W : Type 0} (stream : W → Stream) (kind : FrontKind) (h0 h1 h2 h3 : 
       }
     where
       positive : (a b : ℕ) → a ≡ 0 → HasRisen a b → 0 < b
-      positive a b zero (inl less) = omega (arith, less)
-      positive a b zero (inr last) = omega (arith, last)
+      positive a b none (inl less) = omega (arith, less)
+      positive a b none (inr last) = omega (arith, last)
 
 -- that there was none is no good end
 pub no_listener_ends : (why : IoFault) (s : Status) → s ≡ listener_status why → s ≡ status.Finished → ⊥
@@ -198,15 +241,54 @@ listened_not T h0 h1 port fault.Memory s rest named counted is =
 pub listened_never : (host : Supply) (port : ℕ) → Listens host host port status.NoMemory
 listened_never host port = record { ports = inr (refl, refl); failed = λ e. absurd (cc (e)); ends = tt; folders = refl }
 
+-- ---- a worker beside the connections
+
+main_on : (old new : Pass) → StaysMain old new → Extends (history_of old) (history_of new)
+main_on old new t =
+    subst (λ (o : Option Desk). Extends (history_of old) (history_by (is_told o) (view_of new).seen)) (sym t.origin) (more_seen (is_told old.knows.origin) (view_of old).seen (view_of new).seen t.seen)
+
+-- the main pass lent one to a worker before, and took it back then
+pub served_beside : (kind : FrontKind) → (first main then last : Pass) (host host' : Supply) (most : ℕ) (s : Status) → StaysMain first main → StaysMain then last → (one : ℕ) → (view_of first).room ≤ (view_of main).room + one → (view_of then).room + one ≤ (view_of last).room
+    → ServedBy kind main then host host' most s → ServedBy kind first last host host' most s
+served_beside kind first main then last host host' most s lent back one less more by = record {
+  taken = by.taken;
+  over = by.over;
+  ahead = by.ahead;
+  within = by.within;
+  once = by.once;
+  back = by.back;
+  each = fates_last kind (history_of then) (history_of last) (main_on then last back) by.over by.each;
+  own = IsPermutation-trans _ _ _ by.own back.own;
+  turned = by.turned;
+  fed = by.fed;
+  enough = by.enough;
+  grows = extends-on (history_of first) (history_of main) (history_of last) (main_on first main lent) (extends-on (history_of main) (history_of then) (history_of last) by.grows (main_on then last back));
+  origin = back.origin ∙ by.origin ∙ lent.origin;
+  room = (let r = by.room in omega (arith, less, more, r));
+}
+
 -- ---- the store is taken back
 
 pub listens_on : (host host' host'' : Supply) (storage : Storage) (port : ℕ) (s : Status) → Listens host host' port s → host'' ≡ after_volume storage host' → Listens host host'' port s
 listens_on host host' host'' storage port s l back =
     subst (λ (h : Supply). Listens host h port s) (sym back) (record { ports = l.ports; failed = l.failed; ends = l.ends; folders = l.folders })
 
-pub closed : (kind : FrontKind) → (first last : Pass) (host host' host'' : Supply) (most : ℕ) (s : Status) (owned : Owned) → ServedBy kind first last host host' most s → Closes last owned
+-- the numbers behind one, as a range
+behind_is : (n count : ℕ) → behind n count ≡ range_with_len (n + 1) count
+behind_is n zero = refl
+behind_is n (suc count) =
+    let one : suc n ≡ n + 1 = omega arith in
+    ap₂ (λ (m : ℕ) (ms : List ℕ). m ∷ ms) one (behind_is (suc n) count ∙ ap (λ (m : ℕ). range_with_len (m + 1) count) one)
+
+-- the numbers that were added are those behind the ones that were found
+no_more : (found history : Option (List Entry)) (desk : Desk) (own : List ℕ) → IfSome found (λ h. length (items_in desk) ≡ length h) → IfSome history (λ h. own ≡ behind (length (items_in desk)) (length h - length (items_in desk))) → IfSome found (λ before. IfSome history (λ h. own ≡ range_with_len (length before + 1) (length h - length before)))
+no_more None history desk own a b = tt
+no_more (Some f) None desk own a b = tt
+no_more (Some f) (Some h) desk own a b = b ∙ (ap (λ (n : ℕ). behind n (length h - n)) a ∙ behind_is (length f) (length h - length f))
+
+pub closed : (kind : FrontKind) → (first last : Pass) (host host' host'' : Supply) (most : ℕ) (s : Status) (owned : Owned) → IsFirst first → MAX_SPLITS ≤ (view_of first).room → ServedBy kind first last host host' most s → Closes last owned
     → ((history : Option (List Entry)) → IfSome history (IsTold owned) → IfSome history (KeepsSome owned.storage.disk)) → host'' ≡ after_volume owned.storage host' → ServedAll kind (history_of first) host host'' most s
-closed kind first last host host' host'' most s owned p c kept back =
+closed kind first last host host' host'' most s owned is spare p c kept back =
     let on = goes_on (history_of last) c.history c.seen in
     subst (λ (h : Supply). ServedAll kind (history_of first) host h most s) (sym back)
     (record {
@@ -225,6 +307,8 @@ closed kind first last host host' host'' most s owned p c kept back =
       count = length (view_of last).seen;
       apart = c.own;
       counted_in = c.within;
+      nothing_else = no_more (history_of first) c.history is.desk (view_of last).own is.count
+          (subst (λ (o : Option Desk). IfSome o (λ d. IfSome c.history (λ h. (view_of last).own ≡ behind (length (items_in d)) (length h - length (items_in d))))) (p.origin ∙ is.origin) (c.whole (let r = p.room in omega (arith, r, spare))));
       turned = p.turned;
       fed = p.fed;
       enough = p.enough;
@@ -251,6 +335,7 @@ unshared kind found host host' most s owned told kept back other =
       count = 0;
       apart = omega arith;
       counted_in = none_counted found;
+      nothing_else = none_else found;
       turned = counts_none host.starts_failed;
       fed = λ e. All-nil (λ (c : Connection). IsTaken c.fate);
       enough = λ e. absurd (other e);
@@ -259,6 +344,10 @@ unshared kind found host host' most s owned told kept back other =
     none_counted : (history : Option (List Entry)) → IfSome history (λ h. 0 ≤ length h)
     none_counted None = tt
     none_counted (Some h) = omega arith
+
+    none_else : (history : Option (List Entry)) → IfSome history (λ before. IfSome history (λ h. [] ≡ range_with_len (length before + 1) (length h - length before)))
+    none_else None = tt
+    none_else (Some h) = let none : length h - length h ≡ 0 = omega arith in sym (ap (range_with_len (length h + 1)) none)
 
 -- ---- a host whose volume was opened
 
@@ -296,6 +385,7 @@ module _ (kind : FrontKind) (found : Option (List Entry)) (given host host' : Su
     count = a.count;
     apart = a.apart;
     counted_in = a.counted_in;
+    nothing_else = a.nothing_else;
     turned = a.turned ∙ ap (λ (n : ℕ). counts_together n (refusals_in a.over)) still.starts_failed;
     fed = a.fed;
     enough = λ e. subst (λ (o : Option (List Stream)). AreEnough most a.taken o) still.wires (a.enough e);

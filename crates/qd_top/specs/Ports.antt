@@ -1,5 +1,5 @@
 -- What serving a port does, in its steps.
-use Rattle.std.specs.Prelude.{◌≡◌, ◌≢◌, ◌⊎◌, ℕ, ◌≤◌, Bool, true, false, List, length, map, All, Some, Result, Ok, Err}
+use Rattle.std.specs.Prelude.{◌≡◌, ◌≢◌, ◌⊎◌, ℕ, ◌≤◌, Bool, true, false, List, length, map, All, Some, IfSome, Result, Ok, Err}
 use Rattle.std.specs.List.{flat_map}
 use Rattle.std.specs.List.Sorted.{IsPermutation}
 use Rattle.qd_connections.specs.Accounts.{CameBack}
@@ -10,6 +10,7 @@ use Rattle.qd_io.specs.Ends.{HasRisen, Stream, counts_together}
 use Rattle.qd_io.specs.declared.fault.IoFault.{IoFault}
 use Rattle.qd_io.specs.declared.fault.IoFault.TheVariants as fault
 use Rattle.qd_session.specs.Looks.{Extends}
+use Rattle.qd_shared.specs.Desks.{Desk, items_in}
 use Rattle.qd_shared.specs.Passes.{Pass, history_of, view_of}
 use Rattle.qd_top.specs.declared.status.Status.{Status}
 use Rattle.qd_top.specs.declared.status.Status.TheVariants as status
@@ -55,3 +56,12 @@ pub record ServedBy (kind : FrontKind) (first last : Pass) (host host' : Supply)
   pub fed : (s ≡ status.NoMemory → ⊥) → All (λ c. IsTaken c.fate) over
   pub enough : s ≡ status.Finished → AreEnough most taken host.wires
   pub grows : Extends (history_of first) (history_of last)
+  -- all passes that were split off have gone into the last one
+  pub origin : last.knows.origin ≡ first.knows.origin
+  pub room : (view_of first).room ≤ (view_of last).room
+
+-- the pass that a store was shared with first: it has seen as many transactions as there were, where they are told
+pub record IsFirst (first : Pass) : Type 0 where
+  pub desk : Desk
+  pub origin : first.knows.origin ≡ Some desk
+  pub count : IfSome (history_of first) (λ h. length (items_in desk) ≡ length h)

@@ -354,6 +354,8 @@ pub record ServedAll (kind : FrontKind) (found : Option (List Entry)) (host host
   pub count : ℕ
   pub apart : RisesWithin 0 count numbers
   pub counted_in : IfSome history (λ h. count ≤ length h)
+  -- they are just those of the transactions behind the ones that were found
+  pub nothing_else : IfSome found (λ before. IfSome history (λ h. numbers ≡ range_with_len (length before + 1) (length h - length before)))
   -- as many connections were turned away as starts of threads were refused
   pub turned : host'.starts_failed ≡ counts_together host.starts_failed (refusals_in over)
   -- none was given back as it came, but where no memory was found

@@ -5,12 +5,13 @@ ghost use Rattle.qd_base.specs.declared.op.Entry.{Entry};
 ghost use Rattle.qd_connections.specs.Accounts.{IsMain};
 ghost use Rattle.qd_host.specs.Hosts.{after_volume};
 ghost use Rattle.qd_io.specs.Ends.{Stream};
+ghost use Rattle.qd_score_model.specs.declared.limits.TheConstants.{MAX_SPLITS};
 ghost use Rattle.qd_server.specs.declared.maker.TheConstants.{MOST};
 ghost use Rattle.qd_shared.specs.Passes.{history_of, view_of};
 ghost use Rattle.qd_store.specs.Opening.{HasFirstRow};
 ghost use Rattle.qd_store_backend.specs.Backs.{AreUsual, BeginsWith, IsTold};
 ghost use Rattle.qd_store_backend.specs.Volumes.{MayFind};
-ghost use Rattle.qd_top.specs.Ports.{Listens, ServedBy, listener_status, serving_status};
+ghost use Rattle.qd_top.specs.Ports.{listener_status, serving_status, IsFirst, Listens, ServedBy};
 ghost use Rattle.qd_top.specs.Run.{CountsWrites, KeepsSome, ServedAll, ServedPort, traffic};
 ghost use Rattle.qd_top.specs.Stores.{Names};
 
@@ -24,6 +25,7 @@ use qd_io::{IoFault, Sink};
 use qd_shared::{Pass, Shared};
 use qd_store::{Store, stores_are_whole};
 use qd_wal::one_entry_is_read;
+use qd_worker::Worker;
 use std::alloc::Global;
 use std::sync::{Arc, Wait};
 use std::thread;
@@ -99,14 +101,15 @@ fn serve_passes<R: thread::Threads + Wait + Clock + Copy + Send + Drop + 'static
     host: &mut H,
 ) -> Status
     requires pass { main.table ≡ shared }
-    requires main { IsMain main 0 MOST }
+    requires first { IsFirst main }
+    requires main { IsMain main 0 MAX_SPLITS }
     requires new { (view_of main).own ≡ [] }
     ensures served { ServedAll kind (history_of main) (H.supply host.old) (H.supply host.new) most result }
     ensures listens { Listens (H.supply host.old) (H.supply host.new) port result }
 {
     match Arc::new(alloc, shared) {
         Ok(shared) => {
-            let (status, shared, main) = serve_listener(
+            let (status, shared, main) = serve_beside_worker(
                 rt, alloc, kind, shared, main, port, most, host,
             );
             put_back(shared.close(rt, main), host);
@@ -117,6 +120,34 @@ fn serve_passes<R: thread::Threads + Wait + Clock + Copy + Send + Drop + 'static
             Status::NoMemory
         }
     }
+}
+
+/// Serves the connections of a port over a shared store, while a worker applies what they commit. Where no thread can be started for the
+/// worker, each session applies where it is asked to.
+fn serve_beside_worker<R: thread::Threads + Wait + Clock + Copy + Send + Drop + 'static, H: Host>(
+    rt: &R,
+    alloc: Global,
+    kind: FrontKind,
+    shared: Arc<Shared<H::Vol>>,
+    main: Pass<H::Vol>,
+    port: u16,
+    most: u64,
+    host: &mut H,
+) -> (Status, Arc<Shared<H::Vol>>, Pass<H::Vol>)
+    requires pass { main.table ≡ arc_value shared }
+    requires main { IsMain main 0 MAX_SPLITS }
+    requires new { (view_of main).own ≡ [] }
+    ensures shared { arc_value result.1 ≡ arc_value shared }
+    ensures table { result.2.table ≡ main.table }
+    ensures served { ServedBy kind main result.2 (H.supply host.old) (H.supply host.new) most result.0 }
+    ensures listens { Listens (H.supply host.old) (H.supply host.new) port result.0 }
+{
+    let mut main = main;
+    let worker = Worker::start(rt, alloc, host.refuses_starts(), &shared, &mut main);
+    let (status, shared, main) = serve_listener(rt, alloc, kind, shared, main, port, most, host);
+    let mut main = main;
+    worker.stop(rt, &shared, &mut main);
+    (status, shared, main)
 }
 
 /// Serves the connections of a port over a shared store.

@@ -5,8 +5,11 @@ use Rattle.qd_store_backend.specs.Backs.{BeginsWith}
 use Rattle.qd_store_backend.proofs.Begun.{told_over}
 use Rattle.qd_top.specs.declared.status.Status.TheVariants as status
 use Rattle.qd_top.specs.Run.{ServedAll}
-use Rattle.qd_top.proofs.PortLemmas.{history_shared, unshared}
+use Rattle.qd_top.proofs.PortLemmas.{first_shared, history_shared, unshared}
 use Rattle.qd_top.proofs.ports.serve_shared.Goals as goal
+
+pub serve_passes-requires-clause-first : goal.serve_passes-requires-clause-first
+serve_passes-requires-clause-first g c ls within = first_shared c.in-Ok.pass c.share.new.pass c.args.store c.args.told.now.history c.in-Ok.ensures.starts c.share.ensures.origin c.share.ensures.view
 
 pub returns-in-Ok-clause-served : goal.returns-in-Ok-clause-served
 returns-in-Ok-clause-served g c =

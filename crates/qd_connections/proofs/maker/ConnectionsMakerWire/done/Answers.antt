@@ -24,7 +24,7 @@ returns-clause-done g c s place work here got gives =
     let mine = all_at (IsOfMain m.kind m.main) s.out place work got here.1.account.of_main in (
       lent_on m.began.was.ghost_name m.host.ghost_name m.host.ghost_name began old new (arc_value m.shared) (arc_value m.shared) m.first.was m.main later refl
           (serving_on old mid new (clock_returned faults old mid c.clock_back.ensures) (wire_returned mid new c.give_back.ensures.rest)) refl (joined_on m.main other later c.join.ensures.joined) here.0,
-      counted_over g.H.Lst.Wire.Ends.stream m.kind began old new m.main other later m.starved s (without s place) work after (served (view_of other).own) refl (taken_out s.out place work got) refl c.join.ensures.joined
+      counted_over g.H.Lst.Wire.Ends.stream m.kind (view_of m.first.was).room began old new m.main other later m.starved s (without s place) work after (served (view_of other).own) refl (taken_out s.out place work got) refl c.join.ensures.joined
           refl (session_of m.kind m.main later other work c.args.out after (sym (ap (λ (o : Visited). o.pass) c.out.view_is)) (sym (ap (λ (o : Visited). o.wire) c.out.view_is)) mine gives c.join.ensures.joined) tt
           (subst (λ (r : Option (List Stream)). Returns r new.returned after) (ap (λ (x : Supply). x.returned) c.clock_back.ensures) c.give_back.ensures.returned) here.1,
     )

@@ -24,7 +24,7 @@ returns-clause-back g c s rest here last =
     let out = last_out (IsOfMain m.kind m.main) s.out rest c.args.work last here.1.account.of_main in (
       lent_on m.began.was.ghost_name m.host.ghost_name m.host.ghost_name began old new (arc_value m.shared) (arc_value m.shared) m.first.was m.main later refl
           (serving_on old mid new (clock_returned faults old mid c.clock_back.ensures) (wire_returned mid new c.give_back.ensures.rest)) refl (joined_on m.main other later c.join.ensures.joined) here.0,
-      counted_over g.H.Lst.Wire.Ends.stream m.kind began old new m.main other later m.starved s (back s rest c.args.work) c.args.work after turned_away refl out.1 (one_more_refused s.unstarted c.args.work) c.join.ensures.joined
+      counted_over g.H.Lst.Wire.Ends.stream m.kind (view_of m.first.was).room began old new m.main other later m.starved s (back s rest c.args.work) c.args.work after turned_away refl out.1 (one_more_refused s.unstarted c.args.work) c.join.ensures.joined
           (ap (λ (p : Pass). (view_of p).own) parts.ensures.pass ∙ out.0.new) (subst (λ (w : Stream). IsTurnedAway m.kind w after) parts.ensures.wire c.turn_away.ensures.turned) tt
           (subst (λ (r : Option (List Stream)). Returns r new.returned after) (ap (λ (x : Supply). x.returned) c.clock_back.ensures) c.give_back.ensures.returned) here.1,
     )

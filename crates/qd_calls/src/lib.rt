@@ -8,6 +8,8 @@
 #[cfg(test)]
 mod exprs;
 #[cfg(test)]
+mod faults;
+#[cfg(test)]
 mod ports;
 #[cfg(test)]
 mod readers;
@@ -21,3 +23,5 @@ mod shareds;
 mod stores;
 #[cfg(test)]
 mod tops;
+#[cfg(test)]
+mod workers;

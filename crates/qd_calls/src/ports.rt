@@ -75,11 +75,11 @@ fn a_connection_is_a_session(rt: HostRuntime) -> Result<(), Fail> {
     connect(
         alloc,
         &mut host,
-        &[b"W 11\nt v=1i 9000W 11\nt v=2i 3000Q 1\ntA\nQ 1\ntX\n"],
+        &[b"W 11\nt v=1i 9000W 11\nt v=2i 3000A\nQ 1\ntX\n"],
         &[],
     )?;
     assert_eq!(rt; served(&rt, alloc, &mut host)?, 0);
-    let answer = b"K 1\nK 2\nF 0 32 0\nA 2\nR 2 72\nv,timestamp\n\
+    let answer = b"K 1\nK 2\nA 2\nR 2 72\nv,timestamp\n\
 2,1970-01-01T00:00:00.000003Z\n\
 1,1970-01-01T00:00:00.000009Z\nX\n";
     assert_eq!(rt; written(&host, 0), answer.as_slice());

@@ -6,3 +6,4 @@ pub mod SweepLemmas
 pub mod UnlistLemmas
 pub mod LoopLemmas
 pub mod CatalogLemmas
+pub mod CoverLemmas

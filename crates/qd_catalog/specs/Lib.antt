@@ -1,3 +1,4 @@
 pub mod Versions
+pub mod Laws
 pub mod Tracked
 pub mod Inside

@@ -6,10 +6,12 @@
 
 mod blocks;
 mod catalog;
+mod laws;
 mod rows;
 mod tables;
 mod version;
 
 pub use catalog::{Catalog, ROWS};
+pub use laws::catalogs_are_covered;
 pub use qd_manifest::{ManifestFault as CatFault, manifest_of};
 pub use version::Version;

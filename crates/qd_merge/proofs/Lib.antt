@@ -19,3 +19,6 @@ pub mod Batched
 pub mod Plans
 pub mod Outdating
 pub mod Among
+pub mod OwnerLemmas
+pub mod Walks
+pub mod OwnLaws

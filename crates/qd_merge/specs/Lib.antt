@@ -5,5 +5,8 @@ pub mod Merged
 pub mod Replaced
 pub mod Laws
 pub mod Acts
+pub mod Owners
+pub mod Shares
 pub mod Outdated
 pub mod Equals
+pub mod Examples

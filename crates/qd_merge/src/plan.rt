@@ -116,7 +116,7 @@ pub fn plan_times(
 }
 
 /// Where a part's rows of a batch end.
-fn end_of_part(parts: &[Part], number: usize, unit: PartUnit) -> u64
+pub(crate) fn end_of_part(parts: &[Part], number: usize, unit: PartUnit) -> u64
     requires there { number < length parts.now }
     requires parts { All (λ p. p.lo ≤ greatest) parts.now }
     ensures end { result ≡ part_end (unit_of unit) (slice_index_or parts.now number (record { block = 0; rows = 0; cols = 0; lo = 0; hi = 0 })) (drop (number + 1) parts.now) }
@@ -130,7 +130,7 @@ fn end_of_part(parts: &[Part], number: usize, unit: PartUnit) -> u64
 }
 
 /// The first moment behind a partition.
-fn end_of_partition(time: u64, unit: PartUnit) -> u64
+pub(crate) fn end_of_partition(time: u64, unit: PartUnit) -> u64
     requires { time ≤ greatest }
     ensures end { result ≡ partition_end (unit_of unit) time }
 {
@@ -185,7 +185,7 @@ fn push_new_parts(
 }
 
 /// How many times are before a moment. It takes logarithmic time.
-fn count_before(times: &[u64], moment: u64) -> usize
+pub(crate) fn count_before(times: &[u64], moment: u64) -> usize
     requires { IsNonDecreasing times.now }
     ensures count { result ≡ before moment times.now }
     ensures within { result ≤ length times.now }

@@ -9,7 +9,7 @@ use Rattle.qd_volume.proofs.Sound.{IsSound, image_of_reads, sound_file}
 use Rattle.qd_durable.specs.Moments.{ComesFrom, Moves, SameOutside, Told, Touches}
 use Rattle.qd_durable.specs.Writing.{Overwrites}
 use Rattle.qd_durable.proofs.Moved.{leaves_weaker}
-use Rattle.qd_column_files.specs.Calls.{IsPut, PutsFile, SameBelow}
+use Rattle.qd_column_files.specs.Calls.{PutsFile, SameBelow}
 
 -- bytes of a file that a crash may leave, where it may leave others that are shorter and agree with them, and the file reads
 -- as long as they are

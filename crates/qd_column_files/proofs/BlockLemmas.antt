@@ -1,20 +1,17 @@
 -- What is read of the files of a block.
-use Rattle.std.proofs.Common.{◌≡◌, ℕ, ◌<◌, List, [], ◌∷◌, ◌++◌, length, get_or, Option, None, Some, IfSome, Result, Ok, Err, refl, sym, ◌∙◌, ap, subst, arith}
+use Rattle.std.proofs.Common.{◌≡◌, ℕ, ◌<◌, List, [], ◌∷◌, ◌++◌, length, get_or, Option, None, Some, IfSome, Result, Ok, Err, subst, arith}
 use Rattle.qd_base.specs.declared.part.Part.{Part}
 use Rattle.qd_base.specs.declared.schema.ColType.TheVariants as kind
 use Rattle.qd_base.specs.declared.schema.Schema.{Schema}
 use Rattle.qd_base.specs.Lawful.{IsSchema}
-use Rattle.qd_block.specs.Blocks.{Block, block_of, column_in}
+use Rattle.qd_block.specs.Blocks.{block_of, column_in}
 use Rattle.qd_column.specs.Cells.{CellsOf, no_cells}
 use Rattle.qd_durable.specs.declared.fault.LogFault.{LogFault}
 use Rattle.qd_durable.specs.declared.fault.LogFault.TheVariants as fault
 use Rattle.qd_manifest.specs.Spelling.{IsPart}
-use Rattle.qd_scan.specs.Sources.{IsBlockOf}
 use Rattle.qd_volume.specs.Disk.{Disk, Image, reads_of}
-use Rattle.qd_column_files.specs.Calls.{HoldsColumn}
-use Rattle.qd_column_files.specs.Damage.{HoldsNone, IsBlockDamaged}
-use Rattle.qd_column_files.specs.Files.{HoldsBlock, column_file}
-use Rattle.qd_column_files.specs.Reading.{AreColumnsOf, HoldsColumns, IsBlockRead, IsColumnLost, IsColumnRead, IsFitColumn}
+use Rattle.qd_column_files.specs.Files.{column_file}
+use Rattle.qd_column_files.specs.Reading.{AreColumnsOf, HoldsColumns, IsBlockRead, IsColumnLost, IsColumnRead}
 use Rattle.qd_column_files.proofs.ColumnLemmas.{block_column}
 use Rattle.qd_column_files.proofs.MadeLemmas.{made_held, made_is, more_held}
 
@@ -37,7 +34,7 @@ module _ (s : Schema) (p : Part) (part : IsPart s p) (col : ℕ) (shown : col < 
       in_file = is.in_file;
       damaged = is.damaged;
     },
-    λ b holds_b of_b whole. is.none (column_in b col) (block_column s p b col of_b whole shown part) (holds_b.each col (omega (arith, of_b.columns, shown))),
+    λ b holds_b of_b whole. is.none (column_in b col) (block_column s p b col of_b shown whole part) (holds_b.each col (omega (arith, of_b.columns, shown))),
   )
 
   failed : (image : Image) (e : LogFault) → HoldsColumns p.block columns image → read_of s p col image (Err e) → IsBlockRead (Err e) s p image

@@ -1,5 +1,5 @@
 -- Which files columns and blocks have.
-use Rattle.std.proofs.Common.{◌≡◌, ◌≢◌, ℕ, ◌+◌, ◌*◌, ◌^◌, ◌<◌, ◌≤◌, nat_eq, nat_le, nat_lt, Bool, true, false, ◌&&◌, refl, arith}
+use Rattle.std.proofs.Common.{◌≡◌, ◌≢◌, ℕ, ◌+◌, ◌<◌, ◌≤◌, nat_eq, nat_le, nat_lt, Bool, true, false, ◌&&◌, refl, arith}
 use Rattle.std.proofs.lemmas.Bool.Decides.{nat_tests}
 use Rattle.qd_column_files.specs.Calls.{is_column_file}
 use Rattle.qd_column_files.specs.Files.{column_file, is_file_of}
@@ -48,6 +48,9 @@ neither_file block col half file low out = not_same (column_file block col half)
 -- the two differ
 pub halves_differ : (block col : ℕ) → nat_eq (column_file block col 1) (column_file block col 0) ≡ false
 halves_differ block col = not_same (column_file block col 1) (column_file block col 0) (λ e. omega (arith, e))
+
+pub halves_apart : (block col : ℕ) → nat_eq (column_file block col 0) (column_file block col 1) ≡ false
+halves_apart block col = not_same (column_file block col 0) (column_file block col 1) (λ e. omega (arith, e))
 
 pub own_files : BlocksHaveFilesOfTheirOwn
 own_files = record {

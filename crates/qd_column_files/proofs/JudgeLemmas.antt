@@ -1,16 +1,10 @@
 -- What is read of the bytes of a column.
-use Rattle.std.proofs.Common.{◌≡◌, ◌⊎◌, inl, inr, ℕ, ◌+◌, ◌*◌, ◌^◌, ◌<◌, ◌≤◌, Bool, true, List, length, get_or, refl, sym, ◌∙◌, ap, subst, arith, length-append}
-use Rattle.std.proofs.lemmas.Bool.{eqb-true}
-use Rattle.qd_base.specs.declared.cell.Cell.TheVariants as cell
+use Rattle.std.proofs.Common.{◌≡◌, inl, inr, ℕ, ◌*◌, List, length, refl, sym, ◌∙◌, subst}
 use Rattle.qd_base.specs.declared.part.Part.{Part}
-use Rattle.qd_base.specs.declared.schema.ColType.{ColType}
-use Rattle.qd_base.specs.declared.schema.ColType.TheVariants as kind
 use Rattle.qd_base.specs.declared.schema.Schema.{Schema}
-use Rattle.qd_base.specs.Lawful.{IsSchema}
 use Rattle.qd_column.specs.Cells.{CellsOf}
 use Rattle.qd_column_format.specs.Damage.{IsDamage}
-use Rattle.qd_column_format.specs.Fields.{field_size}
-use Rattle.qd_column_format.specs.Spelling.{SpellsColumn, main_of}
+use Rattle.qd_column_format.specs.Spelling.{SpellsColumn}
 use Rattle.qd_column_format.specs.Laws.{OneColumnIsSpelled}
 use Rattle.qd_column_files.specs.Columns.{AreTimely, HasEnds, IsColumnOf, is_designated, kind_of}
 use Rattle.qd_column_files.specs.Damage.{IsMistimedAt}

@@ -1,6 +1,6 @@
 -- One block is held, and calls elsewhere leave it.
-use Rattle.std.proofs.Common.{◌≡◌, ℕ, zero, suc, ◌+◌, ◌<◌, ◌≤◌, Bool, true, false, List, [], ◌∷◌, length, map, take, get_or, min, refl, sym, ◌∙◌, ap, subst, arith, All}
-use Rattle.std.proofs.lemmas.List.{ext_get_or, get_or-map, length-map, length-take, get_or-take}
+use Rattle.std.proofs.Common.{◌≡◌, ℕ, suc, ◌<◌, List, [], ◌∷◌, length, take, get_or, refl, sym, ◌∙◌, ap, subst, arith}
+use Rattle.std.proofs.lemmas.List.{ext_get_or, get_or-map, length-map, length-take, take-map}
 use Rattle.qd_base.specs.declared.cell.Cell.{Cell}
 use Rattle.qd_base.specs.declared.cell.Cell.TheVariants as cell
 use Rattle.qd_base.specs.declared.part.Part.{Part}
@@ -13,14 +13,15 @@ use Rattle.qd_base.specs.Rows.{Row, cell_at}
 use Rattle.qd_block.specs.Blocks.{Block, column_in, kinds_in}
 use Rattle.qd_column.specs.Cells.{CellsOf}
 use Rattle.qd_durable.proofs.Moved.{moments_have, now_has}
-use Rattle.qd_durable.specs.Moments.{EachNow, LeavesOnly, Moves, SameBut}
+use Rattle.qd_durable.specs.Moments.{SameBut}
 use Rattle.qd_scan.specs.Sources.{IsBlockOf}
 use Rattle.qd_column_format.specs.Spelling.{SpellsColumn}
-use Rattle.qd_column_format.specs.Laws.{OneColumnIsSpelled}
-use Rattle.qd_volume.specs.Disk.{Disk, Image}
+use Rattle.qd_column_format.specs.Added.{first_rows}
+use Rattle.qd_column_format.specs.Laws.{FirstRowsAreSpelled, OneColumnIsSpelled}
+use Rattle.qd_volume.specs.Disk.{Image}
 use Rattle.qd_column_files.proofs.FileLemmas.{own_files}
-use Rattle.qd_column_files.specs.Files.{HoldsBlock, column_file, is_file_of}
-use Rattle.qd_column_files.specs.Laws.{OneBlockIsHeld, OtherFilesLeaveBlocks}
+use Rattle.qd_column_files.specs.Files.{HoldsBlock, column_file, front_of}
+use Rattle.qd_column_files.specs.Laws.{FirstRowsAreHeld, OneBlockIsHeld, OtherFilesLeaveBlocks}
 
 pub row_length : (cols : List Col) (row : Row) → HasKinds cols row → length row ≡ length cols
 row_length [] [] h = refl
@@ -81,3 +82,13 @@ blocks_stay touched block b before after moves apart few had =
           (subst (λ (l : List ℕ). SpellsColumn (earlier (column_file block col 0)) l (column_in b col)) (sym (same (column_file block col 1) (apart (column_file block col 1) (own_files.among block col 1 (omega arith) (omega arith))))) (holds.each col low));
     } in
     (moments_have (SameBut touched) P P before after moves had keeps, now_has (SameBut touched) P P before after moves had keeps)
+
+-- the first rows of a block
+pub first_rows_held : FirstRowsAreSpelled → FirstRowsAreHeld
+first_rows_held spelled block n b image held = record {
+  each = λ col lt.
+      let main = image (column_file block col 0) in
+      let aux = image (column_file block col 1) in
+      let front : first_rows n (column_in b col) ≡ column_in (front_of n b) col = ap (λ (cs : List Cell). record { kind = get_or b.kinds col kind.Time; cells = cs }) (take-map (λ (r : Row). cell_at r col) n b.rows) in
+      subst (SpellsColumn main aux) front (spelled main aux n (column_in b col) (held.each col lt));
+}

@@ -1,12 +1,12 @@
 -- What the putting of files leaves.
-use Rattle.std.proofs.Common.{◌≡◌, ◌≢◌, ◌⊎◌, inl, inr, ℕ, zero, suc, ◌+◌, ◌<◌, ◌≤◌, nat_eq, Bool, true, false, List, [], ◌∷◌, ◌++◌, length, take, drop, Option, None, Some, Result, Ok, Err, IfSome, refl, sym, ◌∙◌, ap, subst, arith}
+use Rattle.std.proofs.Common.{◌≡◌, ◌≢◌, ◌⊎◌, inl, inr, ℕ, ◌+◌, ◌<◌, ◌≤◌, List, [], ◌++◌, length, drop, Option, None, Some, Result, Ok, Err, IfSome, refl, sym, ◌∙◌, ap, subst, arith}
 use Rattle.std.proofs.lemmas.Bool.{cases_lt}
 use Rattle.std.proofs.lemmas.List.{take-append-drop}
 use Rattle.qd_base.specs.declared.schema.ColType.{ColType}
 use Rattle.qd_base.specs.declared.schema.ColType.TheVariants as kind
 use Rattle.qd_block.specs.Blocks.{Block, column_in}
 use Rattle.qd_column.specs.Cells.{CellsOf}
-use Rattle.qd_durable.proofs.Moved.{but_both, but_same, moments_have, moves_both, moves_still, moves_weaker, now_has}
+use Rattle.qd_durable.proofs.Moved.{but_both, but_same, moves_both, moves_still, moves_weaker, now_has}
 use Rattle.qd_durable.proofs.Writes.{told_both, told_map, told_still}
 use Rattle.qd_durable.specs.Moments.{EachNow, Moves, SameBut, Told}
 use Rattle.qd_durable.specs.Places.{StandsAt}
@@ -14,8 +14,8 @@ use Rattle.qd_column_format.specs.Added.{SpellsItself, first_rows}
 use Rattle.qd_column_format.specs.Spelling.{BeginsWith, SpellsColumn, aux_of, main_of}
 use Rattle.qd_volume.specs.Disk.{Disk, Image, reads_of}
 use Rattle.qd_column_files.proofs.Below.{reads_left}
-use Rattle.qd_column_files.proofs.FileLemmas.{column_has, halves_differ, neither_file, no_column_of, other_column}
-use Rattle.qd_column_files.specs.Calls.{HoldsColumn, IsPut, PutsBlock, PutsColumn, PutsFile, SameBelow, is_column_file}
+use Rattle.qd_column_files.proofs.FileLemmas.{halves_differ, neither_file, no_column_of, other_column}
+use Rattle.qd_column_files.specs.Calls.{HoldsColumn, PutsBlock, PutsColumn, PutsFile, SameBelow, is_column_file}
 use Rattle.qd_column_files.specs.Files.{HoldsBlock, column_file, is_file_of}
 
 -- nothing is reached past

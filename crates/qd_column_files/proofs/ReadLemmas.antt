@@ -5,7 +5,7 @@ use Rattle.std.proofs.lemmas.Nat.{row_fits}
 use Rattle.qd_base.specs.declared.schema.ColType.{ColType}
 use Rattle.qd_base.specs.declared.schema.ColType.TheVariants as kind
 use Rattle.qd_column.specs.Cells.{CellsOf}
-use Rattle.qd_column_format.specs.Damage.{IsAuxDamage, IsAuxDamageBy, IsDamage, IsMainDamage}
+use Rattle.qd_column_format.specs.Damage.{IsAuxDamageBy, IsDamage, IsMainDamage}
 use Rattle.qd_column_format.specs.Fields.{Follows, bytes_of_fields, field_size, fields_of}
 use Rattle.qd_column_format.specs.Spelling.{BeginsWith, SpellsColumn, aux_of, main_of}
 use Rattle.qd_column_files.proofs.StoredLemmas.{length-fields, length-words}
@@ -23,10 +23,10 @@ use Rattle.qd_durable.specs.declared.fault.LogFault.TheVariants as fault
 use Rattle.qd_io.specs.declared.fault.IoFault.{IoFault}
 use Rattle.qd_column_format.specs.Spelling.{aux_of_kind}
 use Rattle.qd_volume.specs.Disk.{Disk, reads_of}
-use Rattle.qd_column_files.specs.Columns.{IsColumnOf, kind_of}
-use Rattle.qd_column_files.specs.Damage.{IsColumnDamage, IsTimeDamage}
+use Rattle.qd_column_files.specs.Columns.{kind_of}
+use Rattle.qd_column_files.specs.Damage.{IsColumnDamage}
 use Rattle.qd_column_files.specs.Files.{column_file}
-use Rattle.qd_column_files.specs.Reading.{IsAuxRead, IsColumnLost, IsColumnRead, IsFitColumn, IsFrontRead, aux_read}
+use Rattle.qd_column_files.specs.Reading.{IsAuxRead, IsColumnRead, IsFitColumn, IsFrontRead, aux_read}
 
 -- what the first bytes begin with, all do
 begins_whole : (n : ℕ) (bytes part : List ℕ) → BeginsWith (take n bytes) part → BeginsWith bytes part
@@ -155,7 +155,7 @@ module _ (s : Schema) (p : Part) (col : ℕ) (main aux : List ℕ) where
   read_whole (Err fault.Memory) fit read = tt
 
 -- a number of bytes that is at most the greatest length
-front_enough : (n most : ℕ) (bytes : List ℕ) → most ≡ min n 18446744073709551615 → length bytes < 2 ^ 64 → take most bytes ≡ take n bytes
+pub front_enough : (n most : ℕ) (bytes : List ℕ) → most ≡ min n 18446744073709551615 → length bytes < 2 ^ 64 → take most bytes ≡ take n bytes
 front_enough n most bytes is fits = by (cases_lt n 18446744073709551615)
   where
     by : (n < 18446744073709551615) ⊎ (18446744073709551615 ≤ n) → take most bytes ≡ take n bytes

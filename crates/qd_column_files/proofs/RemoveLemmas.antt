@@ -1,15 +1,15 @@
 -- What the removal of files leaves.
-use Rattle.std.proofs.Common.{◌≡◌, ◌≢◌, ◌⊎◌, inl, inr, ℕ, zero, suc, ◌+◌, ◌<◌, ◌≤◌, nat_eq, Bool, true, false, cond, List, [], length, take, Option, None, Some, Result, Ok, Err, refl, sym, ◌∙◌, ap, subst, arith, eq-eqb}
-use Rattle.std.proofs.lemmas.Bool.{cases_lt, eqb-true}
+use Rattle.std.proofs.Common.{◌≡◌, ◌≢◌, ◌⊎◌, inl, inr, ℕ, zero, suc, ◌+◌, ◌<◌, ◌≤◌, nat_eq, Bool, true, false, cond, [], Option, None, Some, Result, Ok, Err, refl, sym, ◌∙◌, ap, subst, arith, eq-eqb}
+use Rattle.std.proofs.lemmas.Bool.{cases_lt}
 use Rattle.qd_durable.proofs.Moved.{but_both, but_same, moves_both, moves_change, moves_still, moves_weaker}
 use Rattle.qd_durable.proofs.Writes.{told_both, told_map, told_still}
-use Rattle.qd_durable.specs.Moments.{ComesFrom, EachNow, Moves, SameBut, Told}
+use Rattle.qd_durable.specs.Moments.{Moves, SameBut, Told}
 use Rattle.qd_volume.specs.Calls.{Cuts}
 use Rattle.qd_volume.specs.Disk.{Disk, Image, changed, file_of, images_now, reads_of}
 use Rattle.qd_volume.specs.Files.{Change, Cut, IsImageOf, Uncut, after_change}
 use Rattle.qd_volume.proofs.Sound.{image_of_reads, sound_file}
-use Rattle.qd_column_files.proofs.FileLemmas.{column_has, halves_differ, neither_file, no_column_of, other_column}
-use Rattle.qd_column_files.specs.Calls.{IsColumnGone, IsGone, RemovesBlock, RemovesColumn, is_column_file}
+use Rattle.qd_column_files.proofs.FileLemmas.{halves_differ, neither_file, no_column_of, other_column}
+use Rattle.qd_column_files.specs.Calls.{IsColumnGone, RemovesBlock, RemovesColumn, is_column_file}
 use Rattle.qd_column_files.specs.Files.{column_file, is_file_of}
 
 -- one change: all other files stay, as they read and in each image

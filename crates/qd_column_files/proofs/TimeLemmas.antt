@@ -1,15 +1,15 @@
 -- Times of a column, as they are stored and as the part asks.
-use Rattle.std.proofs.Common.{◌≡◌, ◌≢◌, ◌⊎◌, inl, inr, ℕ, zero, suc, ◌+◌, ◌-◌, ◌<◌, ◌≤◌, nat_lt, Bool, true, false, List, length, map, get_or, refl, sym, ◌∙◌, ap, subst, arith}
+use Rattle.std.proofs.Common.{◌≡◌, inl, inr, ℕ, ◌<◌, ◌≤◌, Bool, true, false, List, length, map, get_or, ap}
 use Rattle.std.proofs.lemmas.Bool.{cases_lt, false≢true}
-use Rattle.std.proofs.lemmas.List.{get_or-map, length-map}
+use Rattle.std.proofs.lemmas.List.{get_or-map}
 use Rattle.qd_base.specs.declared.cell.Cell.{Cell}
 use Rattle.qd_base.specs.declared.cell.Cell.TheVariants as cell
 use Rattle.qd_base.specs.declared.limits.TheConstants.{MAX_TIME}
 use Rattle.qd_base.specs.declared.part.Part.{Part}
 use Rattle.qd_base.specs.Rows.{time_in}
-use Rattle.qd_column.specs.Cells.{CellsOf, time_cell}
+use Rattle.qd_column.specs.Cells.{time_cell}
 use Rattle.qd_column_files.specs.Columns.{AreTimely, HasEnds, IsUntimelyAt, time_at}
-use Rattle.qd_column_files.specs.Damage.{IsFirstUntimely, IsMistimedAt, IsOtherEnd}
+use Rattle.qd_column_files.specs.Damage.{IsMistimedAt, IsOtherEnd}
 
 abbrev pub cells : List ℕ → List Cell
 cells times = map time_cell times

@@ -7,7 +7,7 @@ use Rattle.qd_block.specs.Blocks.{Block}
 use Rattle.qd_durable.specs.Moments.{EachNow, LeavesOnly, Moves, SameBut}
 use Rattle.qd_scan.specs.Sources.{IsBlockOf}
 use Rattle.qd_volume.specs.Disk.{Disk, Image}
-use Rattle.qd_column_files.specs.Files.{HoldsBlock, column_file, is_file_of}
+use Rattle.qd_column_files.specs.Files.{HoldsBlock, column_file, front_of, is_file_of}
 
 -- An image holds one block of a part, and no other.
 abbrev pub OneBlockIsHeld : Type 0
@@ -24,3 +24,8 @@ pub record BlocksHaveFilesOfTheirOwn : Type 0 where
 -- A call that leaves the files of a block leaves the block, at every moment of it and behind it.
 abbrev pub OtherFilesLeaveBlocks : Type 0
 OtherFilesLeaveBlocks = (touched : ℕ → Bool) (block : ℕ) (b : Block) (before after : Disk) → Moves (SameBut touched) before after → ((file : ℕ) → is_file_of block file ≡ true → touched file ≡ false) → length b.kinds ≤ MAX_COLUMNS → EachNow before (HoldsBlock block b) → LeavesOnly before after (HoldsBlock block b) × EachNow after (HoldsBlock block b)
+
+-- An image that holds a block holds its first rows: so versions that show a beginning of the same files need no files of their
+-- own.
+abbrev pub FirstRowsAreHeld : Type 0
+FirstRowsAreHeld = (block n : ℕ) (b : Block) (image : Image) → HoldsBlock block b image → HoldsBlock block (front_of n b) image

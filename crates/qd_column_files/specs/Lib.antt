@@ -5,3 +5,5 @@ pub mod Columns
 pub mod Damage
 pub mod Reading
 pub mod Laws
+pub mod Growing
+pub mod Rests

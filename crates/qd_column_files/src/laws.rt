@@ -1,7 +1,7 @@
 //! The laws of the files of blocks, each of them the contract of a function that does nothing.
-ghost use Rattle.qd_column_files.specs.Laws.{BlocksHaveFilesOfTheirOwn, OneBlockIsHeld, OtherFilesLeaveBlocks};
+ghost use Rattle.qd_column_files.specs.Laws.{BlocksHaveFilesOfTheirOwn, FirstRowsAreHeld, OneBlockIsHeld, OtherFilesLeaveBlocks};
 
-use qd_column_format::laws::one_column_is_spelled;
+use qd_column_format::laws::{first_rows_are_spelled, one_column_is_spelled};
 
 /// An image holds one block of a part, and no other.
 pub fn one_block_is_held()
@@ -19,3 +19,10 @@ pub fn blocks_have_files_of_their_own()
 pub fn other_files_leave_blocks()
     ensures { OtherFilesLeaveBlocks }
 {}
+
+/// An image that holds a block holds its first rows.
+pub fn first_rows_are_held()
+    ensures { FirstRowsAreHeld }
+{
+    first_rows_are_spelled();
+}

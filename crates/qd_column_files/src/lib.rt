@@ -7,13 +7,17 @@
 #![tactic(auto)]
 
 mod files;
+mod growing;
 pub mod laws;
 mod putting;
 mod reading;
 mod removing;
+mod rests;
 mod times;
 
 pub use files::{column_file, put_file};
+pub use growing::{BlockTail, grow_block, read_tail};
 pub use putting::put_block;
 pub use reading::read_block;
 pub use removing::remove_block;
+pub use rests::{read_rest, read_times};

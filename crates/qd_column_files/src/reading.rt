@@ -90,7 +90,7 @@ fn block_from(
 }
 
 /// Reads one column of a part from its files.
-fn read_column<V: Volume>(
+pub(crate) fn read_column<V: Volume>(
     alloc: Global,
     volume: &mut V,
     schema: &Schema,
@@ -115,7 +115,7 @@ fn read_column<V: Volume>(
 }
 
 /// How many bytes a row takes in a main file.
-fn row_size(kind: ColType) -> u64
+pub(crate) fn row_size(kind: ColType) -> u64
     ensures size { result ≡ field_size kind }
 {
     match kind {
@@ -143,7 +143,7 @@ fn read_aux<V: Volume>(
 }
 
 /// Reads the first bytes of a file: so many, or as many as are there.
-fn read_front<V: Volume>(
+pub(crate) fn read_front<V: Volume>(
     alloc: Global,
     volume: &mut V,
     file: u64,

@@ -36,7 +36,7 @@ pub(crate) fn mistimed(times: &[u64], is_designated: bool, part: Part) -> Option
 }
 
 /// The first row whose time breaks the rules of its column.
-fn first_untimely(times: &[u64], is_designated: bool) -> Option<usize>
+pub(crate) fn first_untimely(times: &[u64], is_designated: bool) -> Option<usize>
     ensures first { IfSome result (λ row. IsFirstUntimely is_designated (map time_cell times.now) row) }
     ensures none { IfNone result (AreTimely is_designated (map time_cell times.now)) }
 {

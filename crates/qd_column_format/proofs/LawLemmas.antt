@@ -63,7 +63,7 @@ truth_back (cell.Long x) h = absurd h
 truth_back (cell.Text t) h = absurd h
 truth_back (cell.Time t) h = absurd h
 
-symbols_back : (P T : Texts) (cells : List Cell) → T ≡ fold with_text_of P cells → length T < NULL_ID → All (IsStorable kind.Symbol) cells → map (symbol_cell T) (map (id_field T) cells) ≡ cells
+pub symbols_back : (P T : Texts) (cells : List Cell) → T ≡ fold with_text_of P cells → length T < NULL_ID → All (IsStorable kind.Symbol) cells → map (symbol_cell T) (map (id_field T) cells) ≡ cells
 symbols_back P T [] e few each = refl
 symbols_back P T (cell.Null ∷ cs) e few each = ap (λ l. cell.Null ∷ l) (symbols_back P T cs e few (λ j d lt. each (suc j) d (omega arith)))
 symbols_back P T (cell.Text t ∷ cs) e few each =

@@ -10,3 +10,6 @@ mod PlaceLemmas
 mod DictionaryLemmas
 mod ReadLemmas
 mod BlockLemmas
+pub mod TailLemmas
+mod RestLemmas
+mod StoredTails

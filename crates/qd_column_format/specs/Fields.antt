@@ -55,8 +55,11 @@ fields_of kind.Varchar cells = marks_from 0 cells
 fields_of kind.Time cells = map time_field cells
 
 -- how many texts the ids of SYMBOL rows name: one more than the greatest of them
+abbrev pub named_with : ℕ → ℕ → ℕ
+named_with n id = if id == NULL_ID then n else max n (id + 1)
+
 abbrev pub named : List ℕ → ℕ
-named ids = fold (λ n id. if id == NULL_ID then n else max n (id + 1)) 0 ids
+named ids = fold named_with 0 ids
 
 -- where the text of the last VARCHAR row ends
 abbrev pub end_of : List ℕ → ℕ

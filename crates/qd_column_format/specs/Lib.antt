@@ -5,3 +5,5 @@ pub mod Reading
 pub mod Added
 pub mod Laws
 pub mod Unsorted
+pub mod Tails
+pub mod Rests

@@ -74,7 +74,7 @@ fn encode_rows<D: Dictionary>(
 }
 
 /// What rows add to a main file, with nothing in the second one.
-fn plain(alloc: Global, main: Vec<u8>, main_at: u64) -> ColumnBytes
+pub(crate) fn plain(alloc: Global, main: Vec<u8>, main_at: u64) -> ColumnBytes
     ensures main { result.main ≡ main.items }
     ensures main_at { result.main_at ≡ main_at }
     ensures aux { result.aux ≡ [] }
@@ -120,7 +120,7 @@ fn truths_added(alloc: Global, truths: &[bool], from: usize) -> Result<ColumnByt
 }
 
 /// The bytes of truth values.
-fn bytes_of_truths(alloc: Global, truths: &[bool]) -> Result<Vec<u8>, Memory>
+pub(crate) fn bytes_of_truths(alloc: Global, truths: &[bool]) -> Result<Vec<u8>, Memory>
     ensures bytes { IfOk result (λ v. v.items ≡ map (λ b. truth_field (cell.Bool b)) truths.now) }
 {
     let mut bytes = Vec::with_capacity(alloc, truths.len())?;

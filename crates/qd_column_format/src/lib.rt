@@ -10,6 +10,8 @@ mod encode;
 mod fault;
 pub mod laws;
 mod numbers;
+mod rest;
+mod tail;
 mod words;
 
 pub use block::{ColumnList, from_columns};
@@ -17,3 +19,5 @@ pub use decode::decode_column;
 pub use dictionary::{encode_from, load};
 pub use encode::{ColumnBytes, encode_column};
 pub use fault::{AUX, BlockFault, ColumnFault, LoadFault, MAIN};
+pub use rest::{decode_rest, text_end};
+pub use tail::Tail;

@@ -1,8 +1,12 @@
 //! The rules of the numbers that stand for rows, looked at one after another.
-ghost use Rattle.std.specs.Prelude.{◌≡◌, ℕ, ◌<◌, ◌≤◌, take, length, slice_index, IfOk, IfErr, IfSome, IfNone, OnOk};
+ghost use Rattle.std.specs.Prelude.{◌≡◌, ℕ, ◌*◌, ◌^◌, ◌<◌, ◌≤◌, List, take, length, All, slice_index, IfOk, IfErr, IfSome, IfNone, OnOk};
+ghost use Rattle.std.specs.List.{flat_map};
+ghost use Rattle.byteorder.specs.Endian.{little_bytes};
 ghost use Rattle.qd_base.specs.declared.schema.ColType.TheVariants as kind;
-ghost use Rattle.qd_column_format.specs.Fields.{named, end_of, Follows, AreFields};
+ghost use Rattle.qd_column_format.specs.Fields.{named, named_with, end_of, Follows, AreFields};
+ghost use Rattle.qd_column_format.specs.Spelling.{BeginsWith};
 
+use byteorder::{ByteOrder, LittleEndian};
 use qd_base::{MAX_TEXT_BYTES, NULL_ID};
 
 /// How many texts ids name: one more than the greatest of them.
@@ -16,6 +20,29 @@ pub(crate) fn named_by(ids: &[u64]) -> u64
         }
     }
     count
+}
+
+/// How many texts the ids name that bytes begin with, 8 bytes each.
+pub(crate) fn named_in(rows: usize, main: &[u8]) -> u64
+    requires there { 8 * rows ≤ length main.now }
+    ensures named { (ids : List ℕ) → length ids ≡ rows → All (λ n. n < 256 ^ 8) ids → BeginsWith main.now (flat_map (little_bytes 8) ids) → result ≡ named ids }
+{
+    let mut count = 0;
+    for i in 0..rows {
+        count = named_with(count, LittleEndian::read_u64(&main[8 * i..]));
+    }
+    count
+}
+
+/// How many texts ids name, by how many those before the last one name.
+fn named_with(count: u64, id: u64) -> u64
+    ensures named { result ≡ named_with count id }
+{
+    if id == NULL_ID {
+        count
+    } else {
+        count.max(id + 1)
+    }
 }
 
 /// How many texts ids name, or the first id that is neither that of a text named before nor the next one.

@@ -1,4 +1,4 @@
-use Rattle.std.proofs.Common.{◌≡◌, ◌∙◌, ◌-◌, ◌<◌, ◌≤◌, inl, inr, true, length, refl, sym, ap, arith, rules}
+use Rattle.std.proofs.Common.{◌≡◌, ◌∙◌, ◌-◌, ◌<◌, inl, inr, true, length, refl, sym, ap, arith, rules}
 use Rattle.qd_column_files.specs.Columns.{AreTimely, time_at}
 use Rattle.qd_column_files.proofs.TimeLemmas.{cells, other_end, shown_at}
 use Rattle.qd_column_files.proofs.times.mistimed.Goals as goal

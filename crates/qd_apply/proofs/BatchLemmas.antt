@@ -1,6 +1,6 @@
 -- Rows of earlier stages, made as wide as the table, in order of time with those behind.
 use Rattle.std.proofs.Common.{◌≡◌, ℕ, eqb, List, [], ◌∷◌, ◌++◌, length, map, drop, refl, sym, ap, ap₂, ◌∙◌, arith, append_assoc, append-nil, subst, Option}
-use Rattle.std.specs.List.{AllByRecursion, filter, flat_map, fold}
+use Rattle.std.specs.List.{AllByRecursion, fold}
 use Rattle.std.proofs.lemmas.Grind.{flat_map-append}
 use Rattle.std.proofs.lemmas.List.Elements.{filter-append}
 use Rattle.qd_base.specs.declared.schema.Col.{Col}

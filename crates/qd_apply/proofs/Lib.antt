@@ -5,11 +5,16 @@ pub mod CutLemmas
 pub mod RangeLemmas
 pub mod EdgeLemmas
 pub mod PieceLemmas
+pub mod GivenLists
+pub mod StayLemmas
+pub mod ShareLemmas
 pub mod LeaveLemmas
 pub mod NumberLemmas
 pub mod CountLemmas
 pub mod TableLemmas
 pub mod ShapeLemmas
+pub mod ActLemmas
+pub mod GrowLemmas
 pub mod VersionLemmas
 pub mod WaitLemmas
 pub mod ListLemmas

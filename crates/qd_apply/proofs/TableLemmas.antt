@@ -1,7 +1,7 @@
 -- One table of the next version.
 use Rattle.std.proofs.Common.{◌≡◌, ℕ, zero, suc, ◌+◌, ◌-◌, ◌^◌, ◌<◌, ◌≤◌, List, [], ◌∷◌, ◌++◌, length, map, take, drop, get_or, refl, sym, ap, ap₂, ◌∙◌, arith, All, subst, append-nil, append_assoc, length-append}
 use Rattle.std.specs.List.{AllByRecursion, fold}
-use Rattle.std.proofs.lemmas.List.{drop-append-le, length-map, map-append, take-append-le}
+use Rattle.std.proofs.lemmas.List.{drop-append-le, get_or-map, length-map, map-append, take-append-le}
 use Rattle.std.proofs.lemmas.List.Elements.{All-from_recursion, recursion_from_All}
 use Rattle.std.proofs.lemmas.List.Sums.{sum_by-cons}
 use Rattle.std.proofs.Math.Seq.{drop-append_seam}
@@ -15,21 +15,22 @@ use Rattle.qd_base.specs.Laws.{IsInOrder}
 use Rattle.qd_base.specs.Rows.{Row, put, time_of}
 use Rattle.qd_base.specs.Schemas.{with_column}
 use Rattle.qd_base.proofs.Order.{in_order-append}
-use Rattle.qd_time.specs.Units.{unit_of}
 use Rattle.qd_block.specs.Blocks.{Block, in_time_order, kinds_in, IsWhole}
 use Rattle.qd_manifest.specs.Spelling.{no_part, rows_shown, AreParts, IsPart}
-use Rattle.qd_merge.specs.Acts.{acts_from}
+use Rattle.qd_merge.specs.declared.plan.Act.{Act}
 use Rattle.qd_merge.specs.Batch.{last_of_equals}
+use Rattle.qd_merge.specs.Owners.{AreInOrder}
 use Rattle.qd_merge.proofs.Batches.{batch_is_batch, each-lasts, one_by_one}
 use Rattle.qd_rows.specs.Sets.{absent}
 use Rattle.qd_scan.specs.Sources.{table_rows, IsBlockOf}
 use Rattle.qd_apply.specs.Arrivals.{wide}
-use Rattle.qd_apply.specs.Next.{batch_of, pieces_after, pieces_in, table_after, Piece}
+use Rattle.qd_apply.specs.Next.{acts_of, batch_of, no_piece, pieces_after, pieces_in, rules_of, table_after, times_in, Piece}
 use Rattle.qd_apply.specs.Stands.{rows_in_parts}
 use Rattle.qd_apply.proofs.EachLemmas.{each_fold, each_then}
-use Rattle.qd_apply.proofs.LeaveLemmas.{acts_leave, joined, AreAscending, IsBatchOf, Leaves, Within}
+use Rattle.qd_apply.proofs.LeaveLemmas.{acts_leave, joined, moments, rising, IsBatchOf, Leaves, Within}
 use Rattle.qd_apply.proofs.PieceLemmas.{keys_are, piece_each, piece_order, rows_of, IsPiece}
 use Rattle.qd_apply.proofs.RangeLemmas.{none_before, since}
+use Rattle.qd_apply.proofs.ShareLemmas.{acts_walked, ascending_order, walked_acts, AreAscending}
 use Rattle.qd_apply.proofs.WideLemmas.{absent_all}
 
 -- ---- a schema that has got columns
@@ -222,7 +223,29 @@ batch_is t schema fit =
       schema = schema;
       order = is.in_order;
       fit = last_each s s.keys (in_time_order s.time_col t.rows) (each_fold s.time_col (IsRowOf s) [] [] t.rows tt fit);
+      distinct = is.distinct;
     }
+
+-- the times of the rows of a part's block
+abbrev pub olds_of : Schema → (ℕ → Block) → List Part → ℕ → List ℕ
+olds_of s blocks ps n = times_in s (blocks (get_or ps n no_part).block).rows
+
+pub olds_are : (s : Schema) (blocks : ℕ → Block) (ps : List Part) (n : ℕ) → n < length (pieces_in blocks ps) → olds_of s blocks ps n ≡ times_in s (get_or (pieces_in blocks ps) n no_piece).block.rows
+olds_are s blocks ps n lt =
+    let f : Part → Piece = λ p. record { part = p; block = blocks p.block } in
+    sym (ap (λ (x : Piece). times_in s x.block.rows) (get_or-map f ps n no_part no_piece (omega (arith, lt, length-map ps f))))
+
+-- what becomes of a table's parts, by where they begin and end
+pub acts_are : (blocks : ℕ → Block) (counts : List ℕ) (split : ℕ) (ps : List Part) (t : StoredTable) → IsBatchOf t.schema (batch_of t) → AllByRecursion (IsPiece t.schema) (pieces_in blocks ps) → AreAscending (pieces_in blocks ps)
+    → acts_of blocks counts split ps t ≡ walked_acts (rules_of split t.schema) counts (olds_of t.schema blocks ps) (times_in t.schema (batch_of t)) 0 0 ps
+acts_are blocks counts split ps t batch each up =
+    let s : Schema = t.schema in
+    let old = pieces_in blocks ps in
+    let rows = batch_of t in
+    let begin : AllByRecursion (λ (x : Piece). x.part.lo ≤ MAX_TIME) old = each_then (IsPiece s) (λ (x : Piece). x.part.lo ≤ MAX_TIME) (λ x is. let a = is.in_order in let b = is.timely in omega (arith, a, b)) old each in
+    let ordered = subst AreInOrder (parts_of_pieces blocks ps) (ascending_order old (each_then (IsPiece s) (λ (x : Piece). x.part.lo ≤ x.part.hi) (λ x is. is.in_order) old each) up) in
+    let begins = subst (All (λ (p : Part). p.lo ≤ MAX_TIME)) (parts_of_pieces blocks ps) (all_parts (λ (p : Part). p.lo ≤ MAX_TIME) old begin) in
+    acts_walked (rules_of split s) counts (olds_of s blocks ps) (times_in s rows) ps ordered begins (rising s old rows batch) (moments s old rows batch)
 
 joined_order : (s : Schema) (xs : List Piece) → AllByRecursion (IsPiece s) xs → AreAscending xs → IsInOrder s.time_col (joined s xs)
 joined_order s [] each up = tt
@@ -247,19 +270,23 @@ rows_from_none : (col : ℕ) (rows : List Row) → AllByRecursion (Rattle.qd_app
 rows_from_none col [] = tt
 rows_from_none col (r ∷ rows) = (omega arith, rows_from_none col rows)
 
-pub table_leaves : (blocks : ℕ → Block) (next : ℕ) (ps : List Part) (t : StoredTable) → IsSchema t.schema → AllByRecursion (IsRowOf t.schema) t.rows → AllByRecursion (IsPiece t.schema) (pieces_in blocks ps) → AreAscending (pieces_in blocks ps)
-    → Leaves t.schema 0 (MAX_TIME + 1) (fold (put t.schema.time_col t.schema.keys) (rows_in_parts t.schema.cols blocks ps) t.rows) (table_after blocks next ps t)
-table_leaves blocks next ps t schema fit each up =
+pub table_leaves : (blocks : ℕ → Block) (next : ℕ) (counts : List ℕ) (split : ℕ) (ps : List Part) (t : StoredTable) → IsSchema t.schema → AllByRecursion (IsRowOf t.schema) t.rows → AllByRecursion (IsPiece t.schema) (pieces_in blocks ps) → AreAscending (pieces_in blocks ps)
+    → Leaves t.schema 0 (MAX_TIME + 1) (fold (put t.schema.time_col t.schema.keys) (rows_in_parts t.schema.cols blocks ps) t.rows) (table_after blocks next counts split ps t)
+table_leaves blocks next counts split ps t schema fit each up =
     let s : Schema = t.schema in
-    let u = unit_of s.unit in
     let old = pieces_in blocks ps in
     let rows = batch_of t in
+    let batch = batch_is t schema fit in
     let f = put s.time_col s.keys in
-    let done = acts_leave s old rows (batch_is t schema fit) old [] 0 0 next refl refl each up (all_from_none s old) (omega arith) (λ t few ge free. omega arith) in
+    let r = rules_of split s in
+    let olds = olds_of s blocks ps in
+    let times = times_in s rows in
+    let done = acts_leave s old rows batch split counts olds (olds_are s blocks ps) old [] 0 0 next refl refl each up (all_from_none s old) (omega arith) (λ t few ge free. omega arith) in
     let whole : since s.time_col 0 rows ≡ rows = ap (λ (n : ℕ). drop n rows) (none_before s.time_col 0 rows (rows_from_none s.time_col rows)) in
     let rows_are : fold f (joined s old) (since s.time_col 0 rows) ≡ fold f (rows_in_parts s.cols blocks ps) t.rows =
     ap (fold f (joined s old)) whole
     ∙ one_by_one s.time_col s.keys (joined s old) t.rows (keys_are s schema) (joined_order s old each up)
     ∙ ap (λ (l : List Row). fold f l t.rows) (rows_of_pieces s blocks ps) in
-    subst (λ (l : List Part). Leaves s 0 (MAX_TIME + 1) (fold f (rows_in_parts s.cols blocks ps) t.rows) (pieces_after s old rows next (acts_from u (map (time_of s.time_col) rows) 0 0 l))) (parts_of_pieces blocks ps)
-    (subst (λ (l : List Row). Leaves s 0 (MAX_TIME + 1) l (pieces_after s old rows next (acts_from u (map (time_of s.time_col) rows) 0 0 (map (λ (x : Piece). x.part) old)))) rows_are done)
+    subst (λ (l : List Act). Leaves s 0 (MAX_TIME + 1) (fold f (rows_in_parts s.cols blocks ps) t.rows) (pieces_after s old rows next l)) (sym (acts_are blocks counts split ps t batch each up))
+    (subst (λ (l : List Part). Leaves s 0 (MAX_TIME + 1) (fold f (rows_in_parts s.cols blocks ps) t.rows) (pieces_after s old rows next (walked_acts r counts olds times 0 0 l))) (parts_of_pieces blocks ps)
+    (subst (λ (l : List Row). Leaves s 0 (MAX_TIME + 1) l (pieces_after s old rows next (walked_acts r counts olds times 0 0 (map (λ (x : Piece). x.part) old)))) rows_are done))

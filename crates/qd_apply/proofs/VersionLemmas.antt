@@ -1,9 +1,9 @@
 -- The next version stands for the database that replay gives, and has a manifest.
-use Rattle.std.proofs.Common.{◌≡◌, ℕ, zero, suc, ◌+◌, ◌*◌, ◌-◌, ◌^◌, ◌<◌, ◌≤◌, Bool, true, false, cond, if◌then◌else◌, nat_eq, List, [], ◌∷◌, ◌++◌, Option, Some, None, IfSome, length, map, get_or, refl, sym, ap, ap₂, ◌∙◌, arith, All, subst, append-nil, length-append, true≢false}
+use Rattle.std.proofs.Common.{◌≡◌, ℕ, zero, suc, ◌+◌, ◌*◌, ◌-◌, ◌^◌, ◌<◌, ◌≤◌, Bool, true, false, cond, if◌then◌else◌, nat_eq, List, [], ◌∷◌, ◌++◌, Option, Some, None, IfSome, length, map, get_or, refl, sym, ap, ap₂, ◌∙◌, arith, All, Contains, subst, append-nil, length-append, true≢false}
 use Rattle.std.specs.Prelude.{sum_by}
 use Rattle.std.specs.List.{AllByRecursion, IsDistinct, flat_map, fold}
 use Rattle.std.proofs.lemmas.List.{length-map}
-use Rattle.std.proofs.lemmas.List.Elements.{All-from_recursion, recursion_from_All}
+use Rattle.std.proofs.lemmas.List.Elements.{All-contains, All-from_recursion, recursion_from_All}
 use Rattle.std.proofs.lemmas.List.Sorted.{length_permutation}
 use Rattle.std.proofs.lemmas.List.Sums.{sum_by-cons}
 use Rattle.qd_base.specs.declared.op.Entry.{Entry}
@@ -24,22 +24,25 @@ use Rattle.qd_manifest.specs.declared.shape.TableParts.{TableParts}
 use Rattle.qd_manifest.specs.declared.shape.Manifest.{Manifest}
 use Rattle.qd_manifest.specs.declared.shape.TheConstants.{BLOCKS_PER_TRANSACTION}
 use Rattle.qd_manifest.specs.Spelling.{blocks_of, rows_shown, schemas_in, AreParts, IsManifest}
+use Rattle.qd_merge.specs.declared.plan.Act.{Act}
 use Rattle.qd_merge.specs.Batch.{lasts, last_of_equals}
 use Rattle.qd_merge.proofs.Batches.{put-moves}
 use Rattle.qd_scan.specs.Sources.{IsBlockOf}
 use Rattle.qd_apply.specs.Arrivals.{all_settled, arrivals, arrivals_from, arrived, arrives, first_rows, rest, wide, without_rows}
-use Rattle.qd_apply.specs.Laws.{IsDatabase, Merges}
-use Rattle.qd_apply.specs.Next.{all_made, batch_of, blocks_after, first_parts, made_after, manifest_after, pieces_in, shape_after, table_made, versions_blocks, Piece}
+use Rattle.qd_apply.specs.Laws.{GoesOnFrom, IsDatabase, IsGrowth, Merges}
+use Rattle.qd_apply.specs.Next.{all_made, all_pieces, batch_of, blocks_made, blocks_shown, first_counts, first_parts, grown_after, pieces_in, rules_of, shape_after, table_made, times_in, Piece}
 use Rattle.qd_apply.specs.Stands.{rows_in_parts, StandsFor}
 use Rattle.qd_apply.specs.Waiting.{Waits}
 use Rattle.qd_apply.proofs.ArrivalLemmas.{all_arrive, schemas_arrive, schemas_entries, schemas_ops, AreOver}
 use Rattle.qd_apply.proofs.CountLemmas.{made_few}
 use Rattle.qd_apply.proofs.EachLemmas.{each_append, each_then}
-use Rattle.qd_apply.proofs.LeaveLemmas.{joined, AreAscending}
+use Rattle.qd_apply.proofs.GrowLemmas.{all_go_on, all_growths, all_new, as_shown, contains_map, contains_mapped, growths_apart, old_numbers, GoesOn}
+use Rattle.qd_apply.proofs.LeaveLemmas.{joined}
 use Rattle.qd_apply.proofs.PieceLemmas.{piece_each, rows_of, IsPiece}
 use Rattle.qd_apply.proofs.PutCountLemmas.{fold_few}
-use Rattle.qd_apply.proofs.ShapeLemmas.{first_pieces, first_up, shape_distinct, shape_numbers, shape_stands, shown, AreGrown, FirstGrows, IsOld, StandAll}
-use Rattle.qd_apply.proofs.TableLemmas.{ascend, batch_is, grows_none, grows_one, parts_of_pieces, rows_of_pieces, shown_joined, Grows}
+use Rattle.qd_apply.proofs.ShapeLemmas.{first_pieces, first_up, pieces_numbers, pieces_shown, shape_distinct, shape_numbers, shape_stands, shown, AreGrown, FirstGrows, IsOld, StandAll}
+use Rattle.qd_apply.proofs.ShareLemmas.{walked_acts, AreAscending}
+use Rattle.qd_apply.proofs.TableLemmas.{acts_are, ascend, batch_is, grows_none, grows_one, olds_of, parts_of_pieces, rows_of_pieces, shown_joined, Grows}
 
 -- ---- the tables that arrive have grown
 
@@ -168,22 +171,27 @@ batch_few t =
     let few = last_few t.schema.keys sorted in
     omega (arith, same, few)
 
-table_few : (blocks : ℕ → Block) (ps : List Part) (t : StoredTable) → Waits t → AllByRecursion (IsPiece t.schema) (pieces_in blocks ps) → AreAscending (pieces_in blocks ps) → length (table_made blocks ps t) ≤ length t.rows
-table_few blocks ps t waits each up =
+table_few : (blocks : ℕ → Block) (counts : List ℕ) (split : ℕ) (ps : List Part) (t : StoredTable) → Waits t → AllByRecursion (IsPiece t.schema) (pieces_in blocks ps) → AreAscending (pieces_in blocks ps) → length (table_made blocks counts split ps t) ≤ length t.rows
+table_few blocks counts split ps t waits each up =
     let s : Schema = t.schema in
     let old = pieces_in blocks ps in
     let rows = batch_of t in
-    let few = made_few s old rows (batch_is t waits.schema waits.fit) old each up in
-    let made : length (table_made blocks ps t) ≤ length rows = subst (λ (l : List Part). length (Rattle.qd_apply.specs.Next.blocks_made s old rows (Rattle.qd_merge.specs.Acts.acts_from (Rattle.qd_time.specs.Units.unit_of s.unit) (map (Rattle.qd_base.specs.Rows.time_of s.time_col) rows) 0 0 l)) ≤ length rows) (parts_of_pieces blocks ps) few in
+    let batch = batch_is t waits.schema waits.fit in
+    let r = rules_of split s in
+    let olds = olds_of s blocks ps in
+    let few = made_few s old rows batch counts split olds old each up in
+    let made : length (table_made blocks counts split ps t) ≤ length rows =
+    subst (λ (l : List Act). length (blocks_made s old rows l) ≤ length rows) (sym (acts_are blocks counts split ps t batch each up))
+    (subst (λ (l : List Part). length (blocks_made s old rows (walked_acts r counts olds (times_in s rows) 0 0 l)) ≤ length rows) (parts_of_pieces blocks ps) few) in
     let less = batch_few t in
     omega (arith, made, less)
 
-all_few : (blocks : ℕ → Block) (shape : List TableParts) (ts : List StoredTable) → AllByRecursion (IsOld blocks) shape → AreGrown shape ts → AllByRecursion Waits ts → length (all_made blocks shape ts) ≤ total ts
-all_few blocks shape [] old grown waits = omega arith
-all_few blocks shape (t ∷ ts) old grown waits =
-    let first = table_few blocks (first_parts shape) t waits.0 (first_pieces blocks shape t old grown.0) (first_up blocks shape old) in
-    let later = all_few blocks (rest shape) ts (rest_old shape old) grown.1 waits.1 in
-    omega (arith, first, later, length-append (table_made blocks (first_parts shape) t) (all_made blocks (rest shape) ts))
+all_few : (blocks : ℕ → Block) (split : ℕ) (written : List (List ℕ)) (shape : List TableParts) (ts : List StoredTable) → AllByRecursion (IsOld blocks) shape → AreGrown shape ts → AllByRecursion Waits ts → length (all_made blocks written split shape ts) ≤ total ts
+all_few blocks split written shape [] old grown waits = omega arith
+all_few blocks split written shape (t ∷ ts) old grown waits =
+    let first = table_few blocks (first_counts written) split (first_parts shape) t waits.0 (first_pieces blocks shape t old grown.0) (first_up blocks shape old) in
+    let later = all_few blocks split (rest written) (rest shape) ts (rest_old shape old) grown.1 waits.1 in
+    omega (arith, first, later, length-append (table_made blocks (first_counts written) split (first_parts shape) t) (all_made blocks (rest written) split (rest shape) ts))
   where
     rest_old : (xs : List TableParts) → AllByRecursion (IsOld blocks) xs → AllByRecursion (IsOld blocks) (rest xs)
     rest_old [] h = tt
@@ -319,13 +327,17 @@ schemas_lawful schemas (e ∷ es) are lawful = schemas_lawful (fold schemas_step
 
 -- ---- the law
 
-pub merges : (blocks : ℕ → Block) (base : ℕ) (m : Manifest) (db : Database) (entries : List Entry) → IsManifest base m → StandsFor blocks m.shape db → LawfulFrom (schemas_of db) entries
-    → (base + length entries) * BLOCKS_PER_TRANSACTION < 2 ^ 64 → All (λ (t : StoredTable). length t.rows < 2 ^ 64) (replay db entries) → Merges blocks base m db entries
-merges blocks base m db entries manifest stands lawful room few =
+pub merges : (blocks : ℕ → Block) (written : List (List ℕ)) (split base : ℕ) (m : Manifest) (db : Database) (entries : List Entry) → IsManifest base m → StandsFor blocks m.shape db → LawfulFrom (schemas_of db) entries
+    → (base + length entries) * BLOCKS_PER_TRANSACTION < 2 ^ 64 → All (λ (t : StoredTable). length t.rows < 2 ^ 64) (replay db entries) → Merges blocks written split base m db entries
+merges blocks written split base m db entries manifest stands lawful room few =
     let shape : List TableParts = m.shape in
     let bound : ℕ = m.next_block in
     let ts : List StoredTable = arrivals (schemas_in shape) entries in
-    let made = all_made blocks shape ts in
+    let made = all_made blocks written split shape ts in
+    let pieces = all_pieces blocks bound written split shape ts in
+    let after = shape_after blocks bound written split shape ts in
+    let new : ℕ → Block = blocks_shown blocks pieces in
+    let grows = grown_after blocks written split shape entries in
     let old = all_old blocks shape db stands in
     let is : shown blocks shape ≡ db = shown_is blocks shape db stands.schemas stands.rows in
     let same : schemas_in shape ≡ schemas_of db = stands.schemas in
@@ -336,43 +348,64 @@ merges blocks base m db entries manifest stands lawful room few =
     let over : AreOver db ts = subst (AreOver db) ts_are arrive.over in
     let settled_is : all_settled (shown blocks shape) ts ≡ replay db entries = ap₂ (λ (d : Database) (l : List StoredTable). all_settled d l) is (sym ts_are) ∙ arrive.settled in
     let none : schemas_of (without_rows (schemas_in shape)) ≡ schemas_in shape = no_rows (schemas_in shape) in
-    let after : schemas_of ts ≡ schemas_from (schemas_of db) entries = schemas_entries (without_rows (schemas_in shape)) entries ∙ ap (λ (l : List Schema). schemas_from l entries) (none ∙ same) in
-    let are_after : AreSchemas (schemas_of ts) = subst AreSchemas (sym after) (schemas_lawful (schemas_of db) entries are lawful) in
+    let schemas_are : schemas_of ts ≡ schemas_from (schemas_of db) entries = schemas_entries (without_rows (schemas_in shape)) entries ∙ ap (λ (l : List Schema). schemas_from l entries) (none ∙ same) in
+    let are_after : AreSchemas (schemas_of ts) = subst AreSchemas (sym schemas_are) (schemas_lawful (schemas_of db) entries are lawful) in
     let waits = waits_of db ts over (recursion_from_All IsSchema (schemas_of ts) are_after.each) in
     let grown = grown_entries shape (without_rows (schemas_in shape)) entries (none_grown shape) in
     let low : AllByRecursion (λ (n : ℕ). n < bound) (blocks_of shape) = recursion_from_All (λ (n : ℕ). n < bound) (blocks_of shape) manifest.below in
     let few' : AllByRecursion (λ (t : StoredTable). length t.rows < 2 ^ 64) (all_settled (shown blocks shape) ts) =
     subst (AllByRecursion (λ (t : StoredTable). length t.rows < 2 ^ 64)) (sym settled_is) (recursion_from_All (λ (t : StoredTable). length t.rows < 2 ^ 64) (replay db entries) few) in
-    let all = shape_stands blocks bound made [] shape ts bound old grown waits low refl (omega arith) few' in
-    let stand : StandsFor (blocks_after blocks bound made) (shape_after blocks bound shape ts) (replay db entries) = subst (StandsFor (blocks_after blocks bound made) (shape_after blocks bound shape ts)) settled_is (all_stand (blocks_after blocks bound made) (shape_after blocks bound shape ts) (all_settled (shown blocks shape) ts) all) in
+    let distinct = shape_distinct blocks bound written split shape ts bound (omega arith) low manifest.distinct in
+    let numbers : blocks_of after ≡ map (λ (x : Piece). x.part.block) pieces = pieces_numbers blocks split written shape ts bound in
+    let named : AllByRecursion (λ (x : Piece). new x.part.block ≡ x.block) pieces = pieces_shown blocks pieces (subst (IsDistinct nat_eq) numbers distinct) in
+    let all = shape_stands blocks new split written shape ts bound old grown waits named few' in
+    let stand : StandsFor new after (replay db entries) = subst (StandsFor new after) settled_is (all_stand new after (all_settled (shown blocks shape) ts) all) in
     let start = without_rows (schemas_in shape) in
     let first : AreSchemas (schemas_of start) = subst AreSchemas (sym none) manifest.schemas in
     let come = total_entries start entries first (subst (λ (l : List Schema). LawfulFrom l entries) (sym (none ∙ same)) lawful) in
     let nothing = total_none (schemas_in shape) in
-    let written = all_few blocks shape ts old grown waits in
-    let next : bound + length made ≤ (base + length entries) * BLOCKS_PER_TRANSACTION = (let before = manifest.next in omega (arith, before, come, nothing, written)) in
+    let writes = all_few blocks split written shape ts old grown waits in
+    let next : bound + length made ≤ (base + length entries) * BLOCKS_PER_TRANSACTION = (let before = manifest.next in omega (arith, before, come, nothing, writes)) in
     let had = shown_most (base * BLOCKS_PER_TRANSACTION) blocks shape old (recursion_from_All (λ (t : TableParts). rows_shown t.parts ≤ base * BLOCKS_PER_TRANSACTION) shape manifest.few) in
-    let most = stand_most (base * BLOCKS_PER_TRANSACTION + total ts) (blocks_after blocks bound made) (shape_after blocks bound shape ts) (all_settled (shown blocks shape) ts) all (settled_most (base * BLOCKS_PER_TRANSACTION) (shown blocks shape) ts had) in
-    let schemas_same : schemas_in (shape_after blocks bound shape ts) ≡ schemas_of (replay db entries) = stand.schemas in
+    let most = stand_most (base * BLOCKS_PER_TRANSACTION + total ts) new after (all_settled (shown blocks shape) ts) all (settled_most (base * BLOCKS_PER_TRANSACTION) (shown blocks shape) ts had) in
     record {
       stands = stand;
       manifest = record {
         next = next;
         next_fits = omega (arith, next, room);
-        schemas = subst AreSchemas (sym (schemas_shape blocks bound shape ts)) are_after;
+        schemas = subst AreSchemas (sym (schemas_shape blocks bound written shape ts)) are_after;
         parts = stand.parts;
-        few = All-from_recursion (λ (t : TableParts). rows_shown t.parts ≤ (base + length entries) * BLOCKS_PER_TRANSACTION) (shape_after blocks bound shape ts)
-            (each_then (λ (t : TableParts). rows_shown t.parts ≤ base * BLOCKS_PER_TRANSACTION + total ts) (λ (t : TableParts). rows_shown t.parts ≤ (base + length entries) * BLOCKS_PER_TRANSACTION) (λ t le. omega (arith, le, come, nothing)) (shape_after blocks bound shape ts) most);
-        below = All-from_recursion (λ (n : ℕ). n < bound + length made) (blocks_of (shape_after blocks bound shape ts))
-            (shape_numbers (λ (n : ℕ). n < bound + length made) blocks shape ts bound (each_then (λ (n : ℕ). n < bound) (λ (n : ℕ). n < bound + length made) (λ n lt. omega (arith, lt)) (blocks_of shape) low) (λ n ge lt. lt));
-        distinct = shape_distinct blocks bound shape ts bound (omega arith) low manifest.distinct;
+        few = All-from_recursion (λ (t : TableParts). rows_shown t.parts ≤ (base + length entries) * BLOCKS_PER_TRANSACTION) after
+            (each_then (λ (t : TableParts). rows_shown t.parts ≤ base * BLOCKS_PER_TRANSACTION + total ts) (λ (t : TableParts). rows_shown t.parts ≤ (base + length entries) * BLOCKS_PER_TRANSACTION) (λ t le. omega (arith, le, come, nothing)) after most);
+        below = All-from_recursion (λ (n : ℕ). n < bound + length made) (blocks_of after)
+            (shape_numbers (λ (n : ℕ). n < bound + length made) blocks written split shape ts bound (each_then (λ (n : ℕ). n < bound) (λ (n : ℕ). n < bound + length made) (λ n lt. omega (arith, lt)) (blocks_of shape) low) (λ n ge lt. lt));
+        distinct = distinct;
       };
+      goes_on = λ b there lt.
+          (let each = all_go_on blocks bound split shape written ts low in
+          let all_so : All (λ (x : Piece). new x.part.block ≡ x.block) pieces = All-from_recursion (λ (x : Piece). new x.part.block ≡ x.block) pieces named in
+          let found = contains_map (λ (x : Piece). x.part.block) pieces b (subst (λ (l : List ℕ). Contains l b) numbers there) in
+          let x : Piece = found.0 in
+          let here = All-contains (GoesOn blocks bound shape grows) pieces x (All-from_recursion (GoesOn blocks bound shape grows) pieces each) found.1 in
+          let shows = All-contains (λ (y : Piece). new y.part.block ≡ y.block) pieces x all_so found.1 in
+          let number : x.part.block ≡ b = found.2 in
+          subst (GoesOnFrom shape blocks grows new) number (as_shown shape blocks grows new x shows (here (omega (arith, number, lt)))));
+      made = λ k lt.
+          (let found = all_new blocks split written shape ts bound k lt in
+          let shows = All-contains (λ (y : Piece). new y.part.block ≡ y.block) pieces found.0 (All-from_recursion (λ (x : Piece). new x.part.block ≡ x.block) pieces named) found.1 in
+          ap new (sym found.2) ∙ shows ∙ found.3);
+      old_named = λ b there lt. old_numbers blocks written split shape ts bound b there lt;
+      new_named = λ k lt.
+          (let found = all_new blocks split written shape ts bound k lt in
+          subst (λ (l : List ℕ). Contains l (bound + k)) (sym numbers) (subst (Contains (map (λ (x : Piece). x.part.block) pieces)) found.2 (contains_mapped (λ (x : Piece). x.part.block) pieces found.0 found.1)));
+      grown = All-from_recursion (IsGrowth shape written) grows (all_growths blocks split shape written ts old grown waits);
+      apart = growths_apart blocks split shape written ts manifest.distinct;
     }
   where
     no_rows : (ss : List Schema) → schemas_of (without_rows ss) ≡ ss
     no_rows [] = refl
     no_rows (s ∷ ss) = ap (λ (l : List Schema). s ∷ l) (no_rows ss)
 
-    schemas_shape : (b : ℕ → Block) (n : ℕ) (xs : List TableParts) (ys : List StoredTable) → schemas_in (shape_after b n xs ys) ≡ schemas_of ys
-    schemas_shape b n xs [] = refl
-    schemas_shape b n xs (y ∷ ys) = ap (λ (l : List Schema). y.schema ∷ l) (schemas_shape b (n + length (table_made b (first_parts xs) y)) (rest xs) ys)
+    schemas_shape : (b : ℕ → Block) (n : ℕ) (w : List (List ℕ)) (xs : List TableParts) (ys : List StoredTable) → schemas_in (shape_after b n w split xs ys) ≡ schemas_of ys
+    schemas_shape b n w xs [] = refl
+    schemas_shape b n w xs (y ∷ ys) = ap (λ (l : List Schema). y.schema ∷ l) (schemas_shape b (n + length (table_made b (first_counts w) split (first_parts xs) y)) (rest w) (rest xs) ys)

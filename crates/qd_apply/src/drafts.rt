@@ -5,6 +5,7 @@ ghost use Rattle.qd_base.specs.Lawful.{cells_of, AreLawful, AreSchemas};
 ghost use Rattle.qd_base.specs.declared.limits.TheConstants.{MAX_BATCH_CELLS as most};
 ghost use Rattle.qd_manifest.specs.Spelling.{schemas_in, AreParts};
 ghost use Rattle.qd_apply.specs.Arrivals.{arrives, without_rows};
+ghost use Rattle.qd_apply.specs.Laws.{CountsParts};
 ghost use Rattle.qd_apply.specs.Plans.{with_batch};
 
 use crate::planning::Plan;
@@ -97,13 +98,23 @@ impl Draft {
         }))
     }
 
-    /// Plans the merge of what has arrived: makes the batch of each table, and tells what becomes of its parts.
+    /// Plans the merge of what has arrived: makes the batch of each table, and shares it out among the table's parts.
+    ///
+    /// `written` has for each part of each table of the version how many rows its block's files hold: rows go behind
+    /// those of a part only where it shows all of these. Where `split_rows` rows of a part or more stand before all late
+    /// ones, they stay where they lie, and only those behind are written anew.
     ///
     /// It costs the time and memory of the rows that wait, n log n where they are late, and logarithmic time in them
     /// for each part. Want of memory is the only error.
-    pub fn plan(self, alloc: Global) -> Result<Plan, Memory>
+    pub fn plan(
+        self,
+        alloc: Global,
+        written: Vec<Vec<u64>>,
+        split_rows: u64,
+    ) -> Result<Plan, Memory>
         requires parts { All (λ t. AreParts t.schema t.parts) self.shape }
-        ensures plan { IfOk result (λ p. p ≡ record self { tables = map with_batch self.tables }) }
+        requires counts { CountsParts self.shape (map (λ c. c.items) written.items) }
+        ensures plan { IfOk result (λ p. p ≡ record { base = self.base; upto = self.upto; next_block = self.next_block; shape = self.shape; tables = map with_batch self.tables; written = map (λ c. c.items) written.items; split_rows = split_rows }) }
     {
         let Draft {
             base,
@@ -114,7 +125,7 @@ impl Draft {
             tables,
         } = self;
         let Tables { schemas: _, tables } = tables;
-        let plans = plan_tables(alloc, &shape, tables)?;
+        let plans = plan_tables(alloc, &shape, written.as_slice(), tables, split_rows)?;
         let touched = touched_of(alloc, plans.as_slice())?;
         Ok(Plan {
             base,
@@ -123,6 +134,8 @@ impl Draft {
             shape,
             plans,
             touched,
+            written,
+            split_rows,
         })
     }
 

@@ -2,7 +2,7 @@
 //!
 //! `specs/Arrivals` says what transactions bring, `specs/Next` what the next version is, and `specs/Stands` which
 //! database a version stands for. A `Draft` takes transactions; its `Plan` tells the parts whose blocks the merge
-//! reads, and makes the next version's tables and new blocks from these.
+//! reads, and makes from these the next version's tables, its new blocks, and the rows that go behind those of old ones.
 #![tactic(auto)]
 
 mod batching;
@@ -16,5 +16,6 @@ mod waiting;
 
 pub use drafts::{Draft, schemas_of};
 pub use laws::{arrivals_are_replayed, merging_stands, rows_are_few, worked_examples};
+pub use merging::Grown;
 pub use planning::{Merged, Plan};
 pub use plans::Touched;

@@ -1,26 +1,31 @@
 //! Plans of all tables, and their merge.
 ghost use Rattle.std.specs.Prelude.{◌≡◌, ◌+◌, ◌^◌, ◌<◌, ◌≤◌, ◌∷◌, [], ◌++◌, All, IfOk, OnOk, drop, length, map};
-ghost use Rattle.qd_base.specs.declared.limits.TheConstants.{MAX_TIME as greatest};
 ghost use Rattle.std.specs.Arc.{arc_value};
+ghost use Rattle.qd_manifest.specs.Spelling.{AreParts};
+ghost use Rattle.qd_merge.specs.Owners.{AreInOrder};
+ghost use Rattle.qd_base.specs.declared.limits.TheConstants.{MAX_TIME as greatest};
+ghost use Rattle.qd_base.specs.Lawful.{IsSchema};
 ghost use Rattle.qd_apply.specs.Given.{reads, touched};
-ghost use Rattle.qd_apply.specs.Next.{first_parts};
-ghost use Rattle.qd_apply.specs.Plans.{all_by, all_reads, all_writes, shape_by, touch, touched_from, AreEarlier, ArePlanned, ArePlansOf, IsPlanOf};
+ghost use Rattle.qd_apply.specs.Laws.{CountsParts};
+ghost use Rattle.qd_apply.specs.Next.{first_counts, first_parts, rules_of};
+ghost use Rattle.qd_apply.specs.Plans.{all_by, all_reads, all_writes, grown_by_all, growth_of, shape_by, touch, touched_from, AreEarlier, ArePlanned, ArePlansOf, IsPlanOf};
 
 use crate::batching::{TableBatch, batched};
-use crate::merging::{carried_out, reads_of};
+use crate::merging::{Made, carried_out, reads_of};
 use crate::waiting::Waiting;
 use qd_base::{Duplicate, Memory, Part, Schema};
 use qd_manifest::{Shape, TableParts};
-use qd_merge::{Act, ActList, Block, plan_times};
+use qd_merge::{Block, Rules, Share, share_batch};
 use std::alloc::Global;
 use std::sync::Arc;
 
-/// A table's batch, and what becomes of the table's parts.
+/// A table's batch, and how it is shared out among the table's parts.
 #[derive(Drop)]
 pub(crate) struct Planned {
     pub(crate) schema: Schema,
     pub(crate) batch: Block,
-    pub(crate) acts: ActList,
+    pub(crate) rules: Rules,
+    pub(crate) shares: Vec<Share>,
 }
 
 /// A part of a version whose block a merge reads.
@@ -32,90 +37,117 @@ pub struct Touched {
     pub part: usize,
 }
 
-/// Plans the merge of the rows that wait in a table: finishes its batch, and tells what becomes of its parts. It costs
+/// Plans the merge of the rows that wait in a table: finishes its batch, and shares it out among the parts. It costs
 /// the time and memory of the batch, and logarithmic time in its rows for each part and each new partition.
-pub(crate) fn plan_table(alloc: Global, parts: &[Part], table: Waiting) -> Result<Planned, Memory>
+pub(crate) fn plan_table(
+    alloc: Global,
+    parts: &[Part],
+    counts: &[u64],
+    table: Waiting,
+    split_rows: u64,
+) -> Result<Planned, Memory>
+    requires order { AreInOrder parts.now }
     requires parts { All (λ p. p.lo ≤ greatest) parts.now }
-    ensures plan { IfOk result (λ p. IsPlanOf parts.now table p) }
+    requires counts { length counts.now ≡ length parts.now }
+    ensures plan { IfOk result (λ p. IsPlanOf counts.now split_rows parts.now table p) }
 {
     table.waits();
     let made = batched(alloc, table)?;
     let TableBatch { schema, block } = made;
-    let acts = plan_times(alloc, parts, block.times(), schema.unit)?;
+    let rules = rules_of(&schema, split_rows);
+    let shares = share_batch(alloc, &rules, parts, counts, block.times())?;
     Ok(Planned {
         schema,
         batch: block,
-        acts,
+        rules,
+        shares,
     })
+}
+
+/// What a table's plan goes by.
+fn rules_of(schema: &Schema, split_rows: u64) -> Rules
+    requires schema { IsSchema schema.now }
+    ensures rules { result ≡ rules_of split_rows schema.now }
+{
+    Rules {
+        unit: schema.unit,
+        keyed: !schema.keys.is_empty(),
+        cols: schema.cols.len() as u32,
+        split_rows,
+    }
 }
 
 /// Plans the merge of the rows that wait in each table.
 pub(crate) fn plan_tables(
     alloc: Global,
     shape: &Shape,
+    written: &[Vec<u64>],
     tables: Vec<Waiting>,
+    split_rows: u64,
 ) -> Result<Vec<Planned>, Memory>
-    requires parts { All (λ t. All (λ p. p.lo ≤ greatest) t.parts) shape.now }
-    ensures plans { IfOk result (λ v. ArePlansOf shape.now tables.items v.items) }
+    requires parts { All (λ t. AreParts t.schema t.parts) shape.now }
+    requires counts { CountsParts shape.now (map (λ c. c.items) written.now) }
+    ensures plans { IfOk result (λ v. ArePlansOf (map (λ c. c.items) written.now) split_rows shape.now tables.items v.items) }
 {
     let mut left = tables;
     left.reverse();
     let mut plans = Vec::new(alloc);
     while let Some(table) = left.pop() {
-        let parts = parts_of(shape, plans.len());
-        let plan = plan_table(alloc, parts, table)?;
+        let number = plans.len();
+        let parts = parts_of(shape, number);
+        let counts = counts_of(written, number);
+        let plan = plan_table(alloc, parts, counts, table, split_rows)?;
         plans.push(plan)?;
     }
     Ok(plans)
 }
 
-/// Carries out plans on the parts of a version: gives the new tables, and adds the blocks that are written, which are
-/// numbered by their places, from `first` on. `given` has the blocks that are read, in order.
+/// Carries out plans on the parts of a version: gives the new tables, and adds what is written. New blocks are numbered
+/// by their places, from `first` on. `given` has the blocks that are read, in order.
 pub(crate) fn merged_tables(
     alloc: Global,
     shape: &Shape,
     tables: &[Planned],
     given: &[Arc<Block>],
     first: u64,
-    blocks: &mut Vec<Arc<Block>>,
+    made: &mut Made,
 ) -> Result<Shape, Memory>
     requires planned { ArePlanned shape.now tables.now }
     requires given { AreEarlier tables.now (map arc_value given.now) }
     requires enough { all_reads tables.now ≤ length given.now }
-    requires room { first + length blocks.old.items + all_writes tables.now < 2 ^ 64 }
-    ensures shape { IfOk result (λ s. s ≡ shape_by shape.now tables.now (first + length blocks.old.items) (map arc_value given.now)) }
-    ensures blocks { IfOk result (λ _. map arc_value blocks.new.items ≡ map arc_value blocks.old.items ++ all_by tables.now (map arc_value given.now)) }
+    requires room { first + length made.old.blocks.items + all_writes tables.now < 2 ^ 64 }
+    ensures shape { IfOk result (λ s. s ≡ shape_by shape.now tables.now (first + length made.old.blocks.items) (map arc_value given.now)) }
+    ensures blocks { IfOk result (λ _. map arc_value made.new.blocks.items ≡ map arc_value made.old.blocks.items ++ all_by shape.now tables.now (map arc_value given.now)) }
+    ensures grown { IfOk result (λ _. map growth_of made.new.grown.items ≡ map growth_of made.old.grown.items ++ grown_by_all 0 tables.now (map arc_value given.now)) }
 {
-    let mut made = Shape::new(alloc);
+    let mut after = Shape::new(alloc);
     let mut read = 0;
     for i in 0..tables.len() {
         let table = &tables[i];
-        let acts = table.acts.as_slice();
-        let end = read + reads_in(acts);
+        let end = read + reads_in(table.shares.as_slice());
         let parts = carried_out(
             alloc,
-            &table.schema,
+            table,
+            i,
             parts_of(shape, i),
-            &table.batch,
-            acts,
             &given[read..end],
             first,
-            blocks,
+            made,
         )?;
         let schema = table.schema.copy()?;
-        made.push(TableParts { schema, parts })?;
+        after.push(TableParts { schema, parts })?;
         read = end;
     }
-    Ok(made)
+    Ok(after)
 }
 
-/// How many blocks acts read.
-fn reads_in(acts: &[Act]) -> usize
-    ensures reads { result ≡ reads acts.now }
+/// How many blocks shares read.
+fn reads_in(shares: &[Share]) -> usize
+    ensures reads { result ≡ reads shares.now }
 {
     let mut count = 0;
-    for act in acts {
-        count += reads_of(act);
+    for share in shares {
+        count += reads_of(share);
     }
     count
 }
@@ -131,55 +163,51 @@ fn parts_of(shape: &Shape, table: usize) -> &[Part]
     }
 }
 
+/// How many rows the files of the blocks of a table's parts hold; a table that there isn't has no parts.
+fn counts_of(written: &[Vec<u64>], table: usize) -> &[u64]
+    ensures counts { result.now ≡ first_counts (drop table (map (λ c. c.items) written.now)) }
+{
+    if table < written.len() {
+        written[table].as_slice()
+    } else {
+        &[]
+    }
+}
+
 /// The parts whose blocks plans read, in order of tables and parts.
 pub(crate) fn touched_of(alloc: Global, plans: &[Planned]) -> Result<Vec<Touched>, Memory>
     ensures touched { IfOk result (λ v. v.items ≡ touched_from 0 plans.now) }
 {
     let mut list = Vec::new(alloc);
     for i in 0..plans.len() {
-        push_touched(&mut list, i, plans[i].acts.as_slice())?;
+        push_touched(&mut list, i, plans[i].shares.as_slice())?;
     }
     Ok(list)
 }
 
-/// Adds the parts whose blocks acts read.
-fn push_touched(list: &mut Vec<Touched>, table: usize, acts: &[Act]) -> Result<(), Memory>
-    ensures added { OnOk result (list.new.items ≡ list.old.items ++ map (touch table) (touched acts.now)) }
+/// Adds the parts whose blocks shares read.
+fn push_touched(list: &mut Vec<Touched>, table: usize, shares: &[Share]) -> Result<(), Memory>
+    ensures added { OnOk result (list.new.items ≡ list.old.items ++ map (touch table) (touched shares.now)) }
 {
-    for act in acts {
-        push_act(list, table, act)?;
+    for share in shares {
+        push_share(list, table, share)?;
     }
     Ok(())
 }
 
-/// Adds the part whose block an act reads, where it reads one.
-fn push_act(list: &mut Vec<Touched>, table: usize, act: &Act) -> Result<(), Memory>
-    ensures added { OnOk result (list.new.items ≡ list.old.items ++ map (touch table) (touched (act.now ∷ []))) }
+/// Adds the part whose block a share reads, where it reads one.
+fn push_share(list: &mut Vec<Touched>, table: usize, share: &Share) -> Result<(), Memory>
+    ensures added { OnOk result (list.new.items ≡ list.old.items ++ map (touch table) (touched (share.now ∷ []))) }
 {
-    match act {
-        Act::Keep { part: _ } => Ok(()),
-        Act::Append {
+    match *share {
+        Share::Merge {
             part,
             from: _,
             to: _,
-        } => push_part(list, table, *part),
-        Act::Shorten { part, rows: _ } => push_part(list, table, *part),
-        Act::Write {
-            part,
-            skip: _,
-            from: _,
-            to: _,
-        } => match part {
-            None => Ok(()),
-            Some(part) => push_part(list, table, *part),
-        },
+        } => {
+            list.push(Touched { table, part })?;
+            Ok(())
+        }
+        _ => Ok(()),
     }
-}
-
-/// Adds a part.
-fn push_part(list: &mut Vec<Touched>, table: usize, part: usize) -> Result<(), Memory>
-    ensures added { OnOk result (list.new.items ≡ list.old.items ++ touch table part ∷ []) }
-{
-    list.push(Touched { table, part })?;
-    Ok(())
 }

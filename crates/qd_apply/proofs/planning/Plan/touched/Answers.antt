@@ -1,5 +1,7 @@
-use Rattle.std.proofs.Common.{◌∙◌, map, ap}
-use Rattle.qd_apply.specs.Drafts.{Drafting}
+use Rattle.std.proofs.Common.{◌∙◌, ℕ, List, map, ap}
+use Rattle.std.specs.Prelude.{Vec}
+use Rattle.std.specs.declared.alloc.Global.{Global}
+use Rattle.qd_apply.specs.Drafts.{Planning}
 use Rattle.qd_apply.specs.Plans.{all_touched, planned_table}
 use Rattle.qd_apply.proofs.ServeLemmas.{touched_shown}
 use Rattle.qd_apply.proofs.planning.Plan.touched.Goals as goal
@@ -7,6 +9,8 @@ use Rattle.qd_apply.proofs.planning.Plan.touched.Goals as goal
 pub returns : goal.returns
 returns c =
     let i = c.self.inside in
+    let counts : List (List ℕ) = map (λ (v : Vec ℕ Global). v.items) c.self.inside.written.items in
     record {
-      touched = c.as_slice.ensures.value ∙ c.self.invariant.touched ∙ touched_shown 0 i.shape (map planned_table i.plans.items) i.plans.items c.self.invariant.plans ∙ ap (λ (d : Drafting). all_touched 0 d.shape d.tables) c.self.view_is;
+      touched = c.as_slice.ensures.value ∙ c.self.invariant.touched ∙ touched_shown 0 counts i.split_rows i.shape (map planned_table i.plans.items) i.plans.items c.self.invariant.plans
+          ∙ ap (λ (d : Planning). all_touched 0 d.written d.split_rows d.shape d.tables) c.self.view_is;
     }

@@ -55,6 +55,18 @@ of_not_later block later file less is =
     within_below (column_file later 0 0) (column_file (later + 1) 0 0) file
     (omega (arith, within_high (column_file block 0 0) (column_file (block + 1) 0 0) file is))
 
+-- and of an earlier one
+pub of_not_earlier : (block earlier file : ℕ) → earlier < block → is_file_of block file ≡ true → is_file_of earlier file ≡ false
+of_not_earlier block earlier file less is =
+    within_above (column_file earlier 0 0) (column_file (earlier + 1) 0 0) file
+    (omega (arith, within_low (column_file block 0 0) (column_file (block + 1) 0 0) file is))
+
+-- a file of a block below a number is none from there on
+pub of_not_from : (next block file : ℕ) → block < next → is_file_of block file ≡ true → is_file_from next file ≡ false
+of_not_from next block file less is =
+    within_below (column_file next 0 0) (2 ^ 63) file
+    (omega (arith, within_high (column_file block 0 0) (column_file (block + 1) 0 0) file is))
+
 -- the files of a block's columns are among its files
 pub column_of : (block col half : ℕ) → col < 512 → half < 2 → is_file_of block (column_file block col half) ≡ true
 column_of block col half few two = within_true (column_file block 0 0) (column_file (block + 1) 0 0) (column_file block col half) (omega arith) (omega arith)
@@ -71,11 +83,11 @@ held_kept block b touched earlier image few apart same holds = record {
         (subst (λ (l : List ℕ). SpellsColumn (earlier (column_file block col 0)) l (column_in b col)) (sym aux) (holds.each col less))
 
 -- files that a publication may change
-or_left : (a b : Bool) → (a || b) ≡ false → a ≡ false
+pub or_left : (a b : Bool) → (a || b) ≡ false → a ≡ false
 or_left true b is = is
 or_left false b is = refl
 
-or_right : (a b : Bool) → (a || b) ≡ false → b ≡ false
+pub or_right : (a b : Bool) → (a || b) ≡ false → b ≡ false
 or_right true b is = absurd (no is)
   where
     no : ◌≡◌ {A = Bool} true false → ⊥

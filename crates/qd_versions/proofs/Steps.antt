@@ -1,8 +1,9 @@
 -- What the writing of a version leaves at each moment, from what its calls leave.
-use Rattle.std.proofs.Common.{◌≡◌, ◌⊎◌, inl, inr, ℕ, zero, suc, ◌+◌, ◌^◌, ◌<◌, ◌≤◌, Bool, true, false, List, [], ◌∷◌, map, length, slice_index_or, Result, Ok, Err, OnOk, refl, sym, ap, ◌∙◌, subst, ◌||◌, arith}
+use Rattle.std.proofs.Common.{◌≡◌, ◌⊎◌, inl, inr, ℕ, zero, suc, ◌+◌, ◌^◌, ◌<◌, ◌≤◌, Bool, true, false, List, [], ◌∷◌, map, length, slice_index_or, All, Result, Ok, Err, OnOk, refl, sym, ap, ◌∙◌, subst, ◌||◌, arith}
 use Rattle.std.specs.Arc.{arc_value}
 use Rattle.std.proofs.lemmas.List.FromFn.{get_or-range_with_len}
 use Rattle.qd_base.specs.declared.limits.TheConstants.{MAX_COLUMNS}
+use Rattle.qd_block.specs.Blocks.{Block}
 use Rattle.qd_io.specs.Ends.{Counts, HasRisen}
 use Rattle.qd_io.specs.declared.fault.IoFault.{IoFault}
 use Rattle.qd_io.specs.declared.fault.IoFault.TheVariants as io
@@ -22,9 +23,12 @@ use Rattle.qd_versions.specs.declared.fault.PublishFault.{PublishFault}
 use Rattle.qd_versions.specs.declared.fault.PublishFault.TheVariants as publish
 use Rattle.qd_versions.specs.declared.published.NewBlock.{NewBlock}
 use Rattle.qd_versions.specs.Faults.{CountsPublish, graver, publish_fault, together}
-use Rattle.qd_versions.specs.Publishing.{AreNumbered, GivesBefore, GivesWhole, HoldsAll, is_file_from, is_published_file}
-use Rattle.qd_versions.specs.Writing.{Clears, GivesUp, LaysDown, PutsBeside, PutsBlocks, RemovesBlocks}
-use Rattle.qd_versions.proofs.Files.{but_more, but_version, column_of, held_kept, low_from, low_of, of_is_from, of_not_later, of_not_version}
+use Rattle.qd_versions.specs.declared.growing.Growing.{Growing}
+use Rattle.qd_versions.specs.Publishing.{AreNumbered, GivesBefore, GivesWhole, HoldsAll, is_file_among, is_file_from, is_published_file, is_put_file}
+use Rattle.qd_versions.specs.Tails.{AreReady, GrowsAll, GrowsBlocks, HoldsMore, IsFit, Keeps, blocks_growing, grown_of}
+use Rattle.qd_versions.specs.Writing.{Clears, GivesUp, IsLate, LaysDown, PutsBeside, PutsBlocks, PutsFiles, RemovesBlocks}
+use Rattle.qd_versions.proofs.Files.{but_more, but_version, column_of, held_kept, low_from, low_of, of_is_from, of_not_from, of_not_later, of_not_version, or_left, or_right}
+use Rattle.qd_versions.proofs.Growths.{AreLeft, each_moments, each_now, low_among, narrow_grown, narrow_was, new_not_among, ready_keeps, ready_kept}
 use Rattle.qd_versions.proofs.Kept.{knows_kept, leaves_and, version_kept}
 
 -- ---- the files of new blocks
@@ -167,23 +171,44 @@ clean_given other.Closed current last image clean gives = gives
 clean_given (other.Written n) current last image clean gives = gives
 clean_given (other.Opening n) current last image clean gives = absurd (clean tt)
 
-module _ (next : ℕ) where
-  version_files : (before after : Disk) → Moves (SameBut is_version_file) before after → Moves (SameBut (is_published_file next)) before after
-  version_files before after moves = moves_weaker (SameBut is_version_file) (SameBut (is_published_file next)) before after (but_version (is_file_from next)) moves
+-- the files that a publication may touch, with those of some blocks
+module _ (next : ℕ) (grown : List ℕ) where
+  version_files : (before after : Disk) → Moves (SameBut is_version_file) before after → Moves (SameBut (is_published_file next grown)) before after
+  version_files before after moves = moves_weaker (SameBut is_version_file) (SameBut (is_published_file next grown)) before after (but_version (is_put_file next grown)) moves
 
-  block_files : (before after : Disk) → Moves (SameBut (is_file_from next)) before after → Moves (SameBut (is_published_file next)) before after
-  block_files before after moves = moves_weaker (SameBut (is_file_from next)) (SameBut (is_published_file next)) before after (but_more (is_file_from next)) moves
+  put_files : (before after : Disk) → Moves (SameBut (is_put_file next grown)) before after → Moves (SameBut (is_published_file next grown)) before after
+  put_files before after moves = moves_weaker (SameBut (is_put_file next grown)) (SameBut (is_published_file next grown)) before after (but_more (is_put_file next grown)) moves
 
-  both_files : (a b c : Disk) → Moves (SameBut (is_published_file next)) a b → Moves (SameBut (is_published_file next)) b c → Moves (SameBut (is_published_file next)) a c
-  both_files a b c first second = moves_both (SameBut (is_published_file next)) (SameBut (is_published_file next)) (SameBut (is_published_file next)) a b c (λ x y r. r) (but_both (is_published_file next)) first second
+  from_put : (before after : Disk) → Moves (SameBut (is_file_from next)) before after → Moves (SameBut (is_put_file next grown)) before after
+  from_put before after moves =
+      moves_weaker (SameBut (is_file_from next)) (SameBut (is_put_file next grown)) before after
+      (λ earlier image same file e. same file (or_left (is_file_from next file) (is_file_among grown file) e)) moves
 
-  -- calls for files of blocks from a number on leave what is known of versions
-  module _ (a b : Disk) (moves : Moves (SameBut (is_file_from next)) a b) where
-    blocks_leave : (v : Version) → EachNow a (GivesVersion v) → LeavesOnly a b (GivesVersion v)
-    blocks_leave v gives = version_kept (is_file_from next) (low_from next 2 (omega arith)) (low_from next 3 (omega arith)) a b moves v gives
+  among_put : (before after : Disk) → Moves (SameBut (is_file_among grown)) before after → Moves (SameBut (is_put_file next grown)) before after
+  among_put before after moves =
+      moves_weaker (SameBut (is_file_among grown)) (SameBut (is_put_file next grown)) before after
+      (λ earlier image same file e. same file (or_right (is_file_from next file) (is_file_among grown file) e)) moves
 
-    blocks_known : (r : Root) (current last : Version) → Knows r current last a → Knows r current last b
-    blocks_known r current last knows = knows_kept (is_file_from next) (low_from next 2 (omega arith)) (low_from next 3 (omega arith)) a b moves r current last knows
+  both_put : (a b c : Disk) → Moves (SameBut (is_put_file next grown)) a b → Moves (SameBut (is_put_file next grown)) b c → Moves (SameBut (is_put_file next grown)) a c
+  both_put a b c first second = moves_both (SameBut (is_put_file next grown)) (SameBut (is_put_file next grown)) (SameBut (is_put_file next grown)) a b c (λ x y r. r) (but_both (is_put_file next grown)) first second
+
+  both_files : (a b c : Disk) → Moves (SameBut (is_published_file next grown)) a b → Moves (SameBut (is_published_file next grown)) b c → Moves (SameBut (is_published_file next grown)) a c
+  both_files a b c first second = moves_both (SameBut (is_published_file next grown)) (SameBut (is_published_file next grown)) (SameBut (is_published_file next grown)) a b c (λ x y r. r) (but_both (is_published_file next grown)) first second
+
+  low_put : (file : ℕ) → file ≤ 3 → is_put_file next grown file ≡ false
+  low_put file low = neither (is_file_from next file) (is_file_among grown file) (low_from next file low) (low_among grown file low)
+    where
+      neither : (a b : Bool) → a ≡ false → b ≡ false → (a || b) ≡ false
+      neither true b first second = first
+      neither false b first second = second
+
+  -- calls for these files of blocks leave what is known of versions
+  module _ (a b : Disk) (moves : Moves (SameBut (is_put_file next grown)) a b) where
+    put_leave : (v : Version) → EachNow a (GivesVersion v) → LeavesOnly a b (GivesVersion v)
+    put_leave v gives = version_kept (is_put_file next grown) (low_put 2 (omega arith)) (low_put 3 (omega arith)) a b moves v gives
+
+    put_known : (r : Root) (current last : Version) → Knows r current last a → Knows r current last b
+    put_known r current last knows = knows_kept (is_put_file next grown) (low_put 2 (omega arith)) (low_put 3 (omega arith)) a b moves r current last knows
 
 -- the files of blocks stay while version files change
 module _ (blocks : List NewBlock) (few : AreFew (length blocks) blocks) (a b : Disk) (moves : Moves (SameBut is_version_file) a b) (held : EachNow a (HoldsAll blocks)) where
@@ -198,40 +223,136 @@ module _ (blocks : List NewBlock) (few : AreFew (length blocks) blocks) (a b : D
   held_now : EachNow b (HoldsAll blocks)
   held_now = now_has (SameBut is_version_file) (HoldsAll blocks) (HoldsAll blocks) a b moves held all_kept
 
-module _ (old : Root) (next : ℕ) (v : Version) (blocks : List NewBlock) where
-  pub beside_not_put : {T E : Type 0} (fault answer : E) (a b : Disk) → PutsBlocks {T = T} {E = E} (Err fault) next blocks a b → PutsBeside {T = T} {E = E} (Err answer) old old next v blocks a b
-  beside_not_put fault answer a b puts = record {
-    any_moment = λ current last knows gives. blocks_leave next a b puts.elsewhere current gives;
-    behind = λ current last knows. blocks_known next a b puts.elsewhere old current last knows;
+-- ---- the files of new blocks, and rows behind those of others
+
+left_version : (growing : List Growing) → AreLeft is_version_file growing
+left_version growing k file d less is = of_not_version (slice_index_or growing k d).block file is
+
+left_from : (next : ℕ) (growing : List Growing) → All (IsFit next) growing → AreLeft (is_file_from next) growing
+left_from next growing fit k file d less is = of_not_from next (slice_index_or growing k d).block file (fit k d less).below is
+
+-- what files of others leave of the blocks that go on
+module _ (next : ℕ) (growing : List Growing) (fit : All (IsFit next) growing) (touched : ℕ → Bool) (left : AreLeft touched growing) (a b : Disk) (moves : Moves (SameBut touched) a b) (held : ℕ → Block) (ready : AreReady held growing a) where
+  left_moments : LeavesOnly a b (Keeps held growing)
+  left_moments = each_moments (λ x. held x.block) growing (narrow_was next growing fit held a ready) touched left a b moves (ready_keeps next growing fit held a ready)
+
+  left_now : EachNow b (Keeps held growing)
+  left_now = each_now (λ x. held x.block) growing (narrow_was next growing fit held a ready) touched left a b moves (ready_keeps next growing fit held a ready)
+
+  left_ready : AreReady held growing b
+  left_ready = ready_kept next growing fit held touched left a b moves ready
+
+-- and of blocks that were ready earlier
+module _ (next : ℕ) (growing : List Growing) (fit : All (IsFit next) growing) (touched : ℕ → Bool) (left : AreLeft touched growing) (first a b : Disk) (moves : Moves (SameBut touched) a b) (held : ℕ → Block) (ready : AreReady held growing first) where
+  keeps_moments : EachNow a (Keeps held growing) → LeavesOnly a b (Keeps held growing)
+  keeps_moments keeps = each_moments (λ x. held x.block) growing (narrow_was next growing fit held first ready) touched left a b moves keeps
+
+  keeps_now : EachNow a (Keeps held growing) → EachNow b (Keeps held growing)
+  keeps_now keeps = each_now (λ x. held x.block) growing (narrow_was next growing fit held first ready) touched left a b moves keeps
+
+  more_moments : EachNow a (HoldsMore held growing) → LeavesOnly a b (HoldsMore held growing)
+  more_moments more = each_moments (grown_of held) growing (narrow_grown next growing fit held first ready) touched left a b moves more
+
+  more_now : EachNow a (HoldsMore held growing) → EachNow b (HoldsMore held growing)
+  more_now more = each_now (grown_of held) growing (narrow_grown next growing fit held first ready) touched left a b moves more
+
+module _ (next : ℕ) (blocks : List NewBlock) (growing : List Growing) (fit : All (IsFit next) growing) where
+  pub files_not_put : {T E : Type 0} (fault answer : E) (a b : Disk) → PutsBlocks {T = T} {E = E} (Err fault) next blocks a b → PutsFiles {T = T} {E = E} (Err answer) next blocks growing a b
+  files_not_put fault answer a b puts = record {
+    elsewhere = from_put next (blocks_growing growing) a b puts.elsewhere;
     held = tt;
-    elsewhere = block_files next a b puts.elsewhere;
+    grows = λ held ready. record {
+      moments = left_moments next growing fit (is_file_from next) (left_from next growing fit) a b puts.elsewhere held ready;
+      stays = left_now next growing fit (is_file_from next) (left_from next growing fit) a b puts.elsewhere held ready;
+      grown = tt;
+    };
   }
 
-  module _ {T E : Type 0} (new : Root) (few : AreFew (length blocks) blocks) (done : T) (a b c : Disk) (puts : PutsBlocks {T = T} {E = E} (Ok done) next blocks a b) (wrote : WritesBody old new v b c) where
+  module _ {T E : Type 0} (done : T) (a b c : Disk) (puts : PutsBlocks {T = T} {E = E} (Ok done) next blocks a b) where
+    put_elsewhere : Moves (SameBut (is_file_among (blocks_growing growing))) b c → Moves (SameBut (is_put_file next (blocks_growing growing))) a c
+    put_elsewhere moves = both_put next (blocks_growing growing) a b c (from_put next (blocks_growing growing) a b puts.elsewhere) (among_put next (blocks_growing growing) b c moves)
+
+    put_ready : (held : ℕ → Block) → AreReady held growing a → AreReady held growing b
+    put_ready held ready = left_ready next growing fit (is_file_from next) (left_from next growing fit) a b puts.elsewhere held ready
+
+    put_moments : (held : ℕ → Block) → AreReady held growing a → LeavesOnly b c (Keeps held growing) → LeavesOnly a c (Keeps held growing)
+    put_moments held ready grown = leaves_both a b c (Keeps held growing) (left_moments next growing fit (is_file_from next) (left_from next growing fit) a b puts.elsewhere held ready) grown
+
+    pub files_not_grown : (fault answer : E) → GrowsBlocks {T = T} {E = E} (Err fault) growing b c → PutsFiles {T = T} {E = E} (Err answer) next blocks growing a c
+    files_not_grown fault answer grows = record {
+      elsewhere = put_elsewhere grows.elsewhere;
+      held = tt;
+      grows = λ held ready.
+          let g = grows.grows held (put_ready held ready) in
+          record { moments = put_moments held ready g.moments; stays = g.stays; grown = tt };
+    }
+
+    pub files_put : (again answer : T) → AreFew (length blocks) blocks → AreAt next blocks → GrowsBlocks {T = T} {E = E} (Ok again) growing b c → PutsFiles {T = T} {E = E} (Ok answer) next blocks growing a c
+    files_put again answer few at grows = record {
+      elsewhere = put_elsewhere grows.elsewhere;
+      held = now_has (SameBut (is_file_among (blocks_growing growing))) (HoldsAll blocks) (HoldsAll blocks) b c grows.elsewhere puts.held new_kept;
+      grows = λ held ready.
+          let g = grows.grows held (put_ready held ready) in
+          record { moments = put_moments held ready g.moments; stays = g.stays; grown = g.grown };
+    }
+      where
+        new_kept : (earlier image : Image) → HoldsAll blocks earlier → SameBut (is_file_among (blocks_growing growing)) earlier image → HoldsAll blocks image
+        new_kept earlier image holds same k d less =
+            let x = slice_index_or blocks k d in
+            held_kept x.block (arc_value x.of) (is_file_among (blocks_growing growing)) earlier image (few k d less)
+            (λ file of. new_not_among next x.block growing file fit (omega (arith, at k d less)) of) same (holds k d less)
+
+module _ (old : Root) (next : ℕ) (v : Version) (blocks : List NewBlock) (growing : List Growing) (fit : All (IsFit next) growing) where
+  pub beside_not_put : {T E : Type 0} (fault answer : E) (a b : Disk) → PutsFiles {T = T} {E = E} (Err fault) next blocks growing a b → PutsBeside {T = T} {E = E} (Err answer) old old next v blocks growing a b
+  beside_not_put fault answer a b puts = record {
+    any_moment = λ current last knows gives. put_leave next (blocks_growing growing) a b puts.elsewhere current gives;
+    behind = λ current last knows. put_known next (blocks_growing growing) a b puts.elsewhere old current last knows;
+    held = tt;
+    grows = λ held ready.
+        let g = puts.grows held ready in
+        record { moments = g.moments; stays = g.stays; grown = tt };
+    elsewhere = put_files next (blocks_growing growing) a b puts.elsewhere;
+  }
+
+  module _ {T E : Type 0} (new : Root) (few : AreFew (length blocks) blocks) (done : T) (a b c : Disk) (puts : PutsFiles {T = T} {E = E} (Ok done) next blocks growing a b) (wrote : WritesBody old new v b c) where
     beside_moments : (current last : Version) → Knows old current last a → EachNow a (GivesVersion current) → LeavesOnly a c (GivesVersion current)
     beside_moments current last knows gives =
-        leaves_both a b c (GivesVersion current) (blocks_leave next a b puts.elsewhere current gives)
-        (wrote.any_moment current last (blocks_known next a b puts.elsewhere old current last knows))
+        leaves_both a b c (GivesVersion current) (put_leave next (blocks_growing growing) a b puts.elsewhere current gives)
+        (wrote.any_moment current last (put_known next (blocks_growing growing) a b puts.elsewhere old current last knows))
 
     beside_known : (current last : Version) → Knows old current last a → Knows new current v c
-    beside_known current last knows = wrote.known current last (blocks_known next a b puts.elsewhere old current last knows)
+    beside_known current last knows = wrote.known current last (put_known next (blocks_growing growing) a b puts.elsewhere old current last knows)
 
-    beside_files : Moves (SameBut (is_published_file next)) a c
-    beside_files = both_files next a b c (block_files next a b puts.elsewhere) (version_files next b c wrote.elsewhere)
+    beside_files : Moves (SameBut (is_published_file next (blocks_growing growing))) a c
+    beside_files = both_files next (blocks_growing growing) a b c (put_files next (blocks_growing growing) a b puts.elsewhere) (version_files next (blocks_growing growing) b c wrote.elsewhere)
 
-    pub beside_written : (answer : T) → PutsBeside {T = T} {E = E} (Ok answer) old new next v blocks a c
+    beside_keeps : (held : ℕ → Block) → AreReady held growing a → LeavesOnly a c (Keeps held growing)
+    beside_keeps held ready =
+        let g = puts.grows held ready in
+        leaves_both a b c (Keeps held growing) g.moments (keeps_moments next growing fit is_version_file (left_version growing) a b c wrote.elsewhere held ready g.stays)
+
+    beside_stays : (held : ℕ → Block) → AreReady held growing a → EachNow c (Keeps held growing)
+    beside_stays held ready = keeps_now next growing fit is_version_file (left_version growing) a b c wrote.elsewhere held ready (puts.grows held ready).stays
+
+    pub beside_written : (answer : T) → PutsBeside {T = T} {E = E} (Ok answer) old new next v blocks growing a c
     beside_written answer = record {
       any_moment = beside_moments;
       behind = beside_known;
       held = held_now blocks few b c wrote.elsewhere puts.held;
+      grows = λ held ready. record {
+        moments = beside_keeps held ready;
+        stays = beside_stays held ready;
+        grown = more_now next growing fit is_version_file (left_version growing) a b c wrote.elsewhere held ready (puts.grows held ready).grown;
+      };
       elsewhere = beside_files;
     }
 
-    pub beside_not_written : (answer : E) → IsAlone new.other → PutsBeside {T = T} {E = E} (Err answer) old new next v blocks a c
+    pub beside_not_written : (answer : E) → IsAlone new.other → PutsBeside {T = T} {E = E} (Err answer) old new next v blocks growing a c
     beside_not_written answer alone = record {
       any_moment = beside_moments;
       behind = λ current last knows. knows_any new.current new.n new.other alone current v last c (beside_known current last knows);
       held = tt;
+      grows = λ held ready. record { moments = beside_keeps held ready; stays = beside_stays held ready; grown = tt };
       elsewhere = beside_files;
     }
 
@@ -295,9 +416,9 @@ given_up io.Memory done next blocks before after removes = record { elsewhere = 
 pub left_over : (cause fault : IoFault) (next : ℕ) (blocks : List NewBlock) (before after : Disk) → RemovesBlocks {T = Unit {0}} (Err fault) next blocks before after → GivesUp (publish.Unremoved cause) next blocks before after
 left_over cause fault next blocks before after removes = record { elsewhere = removes.elsewhere; cleared = tt }
 
-pub not_full : (cause : IoFault) → publish_fault cause ≡ publish.NoRow → ⊥
-not_full io.Failed e = cc
-not_full io.Memory e = cc
+pub is_late : (cause : IoFault) → IsLate (publish_fault cause)
+is_late io.Failed = tt
+is_late io.Memory = tt
 
 -- counts of faults of two calls, one behind the other
 pub counts_graver : (a b c : ℕ) (first second : IoFault) → Counts {T = Unit {0}} a b (Err first) → Counts {T = Unit {0}} b c (Err second) → Counts {T = Unit {0}} a c (Err (graver first second))
@@ -329,89 +450,130 @@ repair_moments : {T E : Type 0} (result : Result T E) (old mid : Root) (before a
 repair_moments result old mid before after repairs current last knows =
     leaves_and (GivesKnown old.other current last) (ComesFrom (SameBut is_version_file) before) before after (repairs.any_moment current last knows) repairs.elsewhere.moments
 
-module _ (old new : Root) (next : ℕ) (v : Version) (blocks : List NewBlock) where
+module _ (old new : Root) (next : ℕ) (v : Version) (blocks : List NewBlock) (growing : List Growing) (fit : All (IsFit next) growing) where
   -- what a crash may leave
-  abbrev Left : Version → Version → Disk → Image → Type 0
-  Left current last before image = GivesBefore old.other current last before image ⊎ GivesVersion current image ⊎ GivesWhole v blocks image
+  abbrev Left : (ℕ → Block) → Version → Version → Disk → Image → Type 0
+  Left held current last before image = GivesBefore old.other current last before image ⊎ GivesVersion current image ⊎ (GivesWhole v blocks image × HoldsMore held growing image)
 
-  pub lay_not_repaired : {T E : Type 0} (fault : E) (answer : PublishFault) (before after : Disk) → (IsDirty new.other → IsDirty old.other) → Repairs {T = T} {E = E} (Err fault) old new before after → LaysDown {T = T} (Err answer) old new next v blocks before after
+  pub lay_not_repaired : {T E : Type 0} (fault : E) (answer : PublishFault) (before after : Disk) → (IsDirty new.other → IsDirty old.other) → Repairs {T = T} {E = E} (Err fault) old new before after → LaysDown {T = T} (Err answer) old new next v blocks growing before after
   lay_not_repaired {T} {E} fault answer before after dirty repairs = record {
-    any_moment = λ current last knows. leaves_weaker (GivesBefore old.other current last before) (Left current last before) before after (λ image gives. inl gives) (repair_moments {T = T} {E = E} (Err fault) old new before after repairs current last knows);
-    behind = λ current last knows. inl (dirty, (repairs.behind current last knows, repairs.elsewhere));
-    elsewhere = version_files next before after repairs.elsewhere;
+    any_moment = λ current last held knows ready. leaves_weaker (GivesBefore old.other current last before) (Left held current last before) before after (λ image gives. inl gives) (repair_moments {T = T} {E = E} (Err fault) old new before after repairs current last knows);
+    keeps = λ held ready. (
+      left_moments next growing fit is_version_file (left_version growing) before after repairs.elsewhere held ready,
+      left_now next growing fit is_version_file (left_version growing) before after repairs.elsewhere held ready,
+    );
+    behind = λ current last held knows ready. inl (dirty, (repairs.behind current last knows, repairs.elsewhere));
+    elsewhere = version_files next (blocks_growing growing) before after repairs.elsewhere;
     removed = inl repairs.elsewhere;
   }
 
   -- the root is repaired, and a version is written beside the current one, whether that failed or not
-  module _ {T E : Type 0} (mid late : Root) (done : T) (result : Result T E) (a b c : Disk) (repairs : Repairs {T = T} {E = E} (Ok done) old mid a b) (beside : PutsBeside result mid late next v blocks b c) where
-    first_moments : (current last : Version) → Knows old current last a → LeavesOnly a c (Left current last a)
-    first_moments current last knows =
+  module _ {T E : Type 0} (mid late : Root) (done : T) (result : Result T E) (a b c : Disk) (repairs : Repairs {T = T} {E = E} (Ok done) old mid a b) (beside : PutsBeside result mid late next v blocks growing b c) where
+    first_moments : (held : ℕ → Block) (current last : Version) → Knows old current last a → LeavesOnly a c (Left held current last a)
+    first_moments held current last knows =
         let repaired = repairs.behind current last knows in
-        leaves_both a b c (Left current last a)
-        (leaves_weaker (GivesBefore old.other current last a) (Left current last a) a b (λ image gives. inl gives) (repair_moments {T = T} {E = E} (Ok done) old mid a b repairs current last knows))
-        (leaves_weaker (GivesVersion current) (Left current last a) b c (λ image gives. inr (inl gives)) (beside.any_moment current last repaired.1 repaired.0))
+        leaves_both a b c (Left held current last a)
+        (leaves_weaker (GivesBefore old.other current last a) (Left held current last a) a b (λ image gives. inl gives) (repair_moments {T = T} {E = E} (Ok done) old mid a b repairs current last knows))
+        (leaves_weaker (GivesVersion current) (Left held current last a) b c (λ image gives. inr (inl gives)) (beside.any_moment current last repaired.1 repaired.0))
 
-    first_files : Moves (SameBut (is_published_file next)) a c
-    first_files = both_files next a b c (version_files next a b repairs.elsewhere) beside.elsewhere
+    first_files : Moves (SameBut (is_published_file next (blocks_growing growing))) a c
+    first_files = both_files next (blocks_growing growing) a b c (version_files next (blocks_growing growing) a b repairs.elsewhere) beside.elsewhere
+
+    first_ready : (held : ℕ → Block) → AreReady held growing a → AreReady held growing b
+    first_ready held ready = left_ready next growing fit is_version_file (left_version growing) a b repairs.elsewhere held ready
+
+    first_grows : (held : ℕ → Block) → AreReady held growing a → GrowsAll result held growing b c
+    first_grows held ready = beside.grows held (first_ready held ready)
+
+    first_keeps : (held : ℕ → Block) → AreReady held growing a → LeavesOnly a c (Keeps held growing)
+    first_keeps held ready =
+        leaves_both a b c (Keeps held growing) (left_moments next growing fit is_version_file (left_version growing) a b repairs.elsewhere held ready) (first_grows held ready).moments
 
   pub lay_given_up : {T E : Type 0} (mid : Root) (done : T) (fault : E) (answer : PublishFault) (a b c d : Disk) → (IsDirty new.other → ⊥) → Repairs {T = T} {E = E} (Ok done) old mid a b
-      → PutsBeside {T = T} {E = E} (Err fault) mid new next v blocks b c → GivesUp answer next blocks c d → LaysDown {T = T} (Err answer) old new next v blocks a d
+      → PutsBeside {T = T} {E = E} (Err fault) mid new next v blocks growing b c → GivesUp answer next blocks c d → LaysDown {T = T} (Err answer) old new next v blocks growing a d
   lay_given_up {T} {E} mid done fault answer a b c d clean repairs beside gives_up = record {
-    any_moment = λ current last knows. leaves_both a c d (Left current last a) (first_moments {T = T} {E = E} mid new done (Err fault) a b c repairs beside current last knows)
-        (leaves_weaker (GivesVersion current) (Left current last a) c d (λ image gives. inr (inl gives))
-        (blocks_leave next c d gives_up.elsewhere current (λ image now. clean_given new.other current last image clean (known_given new current last c (stands current last knows) image now))));
-    behind = λ current last knows. inr (inl (blocks_known next c d gives_up.elsewhere new current last (stands current last knows), clean));
-    elsewhere = both_files next a c d (first_files {T = T} {E = E} mid new done (Err fault) a b c repairs beside) (block_files next c d gives_up.elsewhere);
+    any_moment = λ current last held knows ready. leaves_both a c d (Left held current last a) (first_moments {T = T} {E = E} mid new done (Err fault) a b c repairs beside held current last knows)
+        (leaves_weaker (GivesVersion current) (Left held current last a) c d (λ image gives. inr (inl gives))
+        (put_leave next (blocks_growing growing) c d up_files current (λ image now. clean_given new.other current last image clean (known_given new current last c (stands current last knows) image now))));
+    keeps = λ held ready.
+        let g = first_grows {T = T} {E = E} mid new done (Err fault) a b c repairs beside held ready in (
+          leaves_both a c d (Keeps held growing) (first_keeps {T = T} {E = E} mid new done (Err fault) a b c repairs beside held ready)
+              (keeps_moments next growing fit (is_file_from next) (left_from next growing fit) a c d gives_up.elsewhere held ready g.stays),
+          keeps_now next growing fit (is_file_from next) (left_from next growing fit) a c d gives_up.elsewhere held ready g.stays,
+        );
+    behind = λ current last held knows ready. inr (inl (put_known next (blocks_growing growing) c d up_files new current last (stands current last knows), clean));
+    elsewhere = both_files next (blocks_growing growing) a c d (first_files {T = T} {E = E} mid new done (Err fault) a b c repairs beside) (put_files next (blocks_growing growing) c d up_files);
     removed = inr (inr gives_up.cleared);
   }
     where
+      up_files : Moves (SameBut (is_put_file next (blocks_growing growing))) c d
+      up_files = from_put next (blocks_growing growing) c d gives_up.elsewhere
+
       stands : (current last : Version) → Knows old current last a → Knows new current last c
       stands current last knows = beside.behind current last (repairs.behind current last knows).1
 
   module _ {T E : Type 0} (mid late : Root) (few : AreFew (length blocks) blocks) (done again : T) (result : Result T E) (a b c d : Disk)
-      (repairs : Repairs {T = T} {E = E} (Ok done) old mid a b) (beside : PutsBeside {T = T} {E = E} (Ok again) mid late next v blocks b c) (flips : Flips result late new c d)
+      (repairs : Repairs {T = T} {E = E} (Ok done) old mid a b) (beside : PutsBeside {T = T} {E = E} (Ok again) mid late next v blocks growing b c) (flips : Flips result late new c d)
     where
       stands_beside : (current last : Version) → Knows old current last a → Knows late current v c
       stands_beside current last knows = beside.behind current last (repairs.behind current last knows).1
 
-      left : (current last : Version) (image : Image) → GivesOneOf current v image × HoldsAll blocks image → Left current last a image
-      left current last image both = by both.0
+      grows_beside : (held : ℕ → Block) → AreReady held growing a → GrowsAll {T = T} {E = E} (Ok again) held growing b c
+      grows_beside held ready = first_grows {T = T} {E = E} mid late done (Ok again) a b c repairs beside held ready
+
+      left : (held : ℕ → Block) (current last : Version) (image : Image) → GivesOneOf current v image × (HoldsAll blocks image × HoldsMore held growing image) → Left held current last a image
+      left held current last image both = by both.0
         where
-          by : GivesOneOf current v image → Left current last a image
+          by : GivesOneOf current v image → Left held current last a image
           by (inl gives) = inr (inl gives)
-          by (inr gives) = inr (inr (gives, both.1))
+          by (inr gives) = inr (inr ((gives, both.1.0), both.1.1))
 
-      all_moments : (current last : Version) → Knows old current last a → LeavesOnly a d (Left current last a)
-      all_moments current last knows =
-          leaves_both a c d (Left current last a) (first_moments {T = T} {E = E} mid late done (Ok again) a b c repairs beside current last knows)
-          (leaves_weaker (λ image. GivesOneOf current v image × HoldsAll blocks image) (Left current last a) c d (left current last)
-          (leaves_and (GivesOneOf current v) (HoldsAll blocks) c d (flips.any_moment current v (stands_beside current last knows)) (held_moments blocks few c d flips.elsewhere beside.held)))
+      all_moments : (current last : Version) (held : ℕ → Block) → Knows old current last a → AreReady held growing a → LeavesOnly a d (Left held current last a)
+      all_moments current last held knows ready =
+          leaves_both a c d (Left held current last a) (first_moments {T = T} {E = E} mid late done (Ok again) a b c repairs beside held current last knows)
+          (leaves_weaker (λ image. GivesOneOf current v image × (HoldsAll blocks image × HoldsMore held growing image)) (Left held current last a) c d (left held current last)
+          (leaves_and (GivesOneOf current v) (λ image. HoldsAll blocks image × HoldsMore held growing image) c d (flips.any_moment current v (stands_beside current last knows))
+          (leaves_and (HoldsAll blocks) (HoldsMore held growing) c d (held_moments blocks few c d flips.elsewhere beside.held)
+          (more_moments next growing fit is_version_file (left_version growing) a c d flips.elsewhere held ready (grows_beside held ready).grown))))
 
-      all_files : Moves (SameBut (is_published_file next)) a d
-      all_files = both_files next a c d (first_files {T = T} {E = E} mid late done (Ok again) a b c repairs beside) (version_files next c d flips.elsewhere)
+      all_keeps : (held : ℕ → Block) → AreReady held growing a → LeavesOnly a d (Keeps held growing) × EachNow d (Keeps held growing)
+      all_keeps held ready =
+          let stays = (grows_beside held ready).stays in (
+            leaves_both a c d (Keeps held growing) (first_keeps {T = T} {E = E} mid late done (Ok again) a b c repairs beside held ready)
+                (keeps_moments next growing fit is_version_file (left_version growing) a c d flips.elsewhere held ready stays),
+            keeps_now next growing fit is_version_file (left_version growing) a c d flips.elsewhere held ready stays,
+          )
+
+      all_files : Moves (SameBut (is_published_file next (blocks_growing growing))) a d
+      all_files = both_files next (blocks_growing growing) a c d (first_files {T = T} {E = E} mid late done (Ok again) a b c repairs beside) (version_files next (blocks_growing growing) c d flips.elsewhere)
 
       now_held : EachNow d (HoldsAll blocks)
       now_held = held_now blocks few c d flips.elsewhere beside.held
 
+      now_more : (held : ℕ → Block) → AreReady held growing a → EachNow d (HoldsMore held growing)
+      now_more held ready = more_now next growing fit is_version_file (left_version growing) a c d flips.elsewhere held ready (grows_beside held ready).grown
+
   module _ {T E : Type 0} (mid late : Root) (few : AreFew (length blocks) blocks) (done again : T) (a b c d : Disk)
-      (repairs : Repairs {T = T} {E = E} (Ok done) old mid a b) (beside : PutsBeside {T = T} {E = E} (Ok again) mid late next v blocks b c)
+      (repairs : Repairs {T = T} {E = E} (Ok done) old mid a b) (beside : PutsBeside {T = T} {E = E} (Ok again) mid late next v blocks growing b c)
     where
-      pub lay_flipped : (flipped answer : T) → Flips {T = T} {E = E} (Ok flipped) late new c d → LaysDown {T = T} (Ok answer) old new next v blocks a d
+      pub lay_flipped : (flipped answer : T) → Flips {T = T} {E = E} (Ok flipped) late new c d → LaysDown {T = T} (Ok answer) old new next v blocks growing a d
       lay_flipped flipped answer flips = record {
         any_moment = all_moments {T = T} {E = E} mid late few done again (Ok flipped) a b c d repairs beside flips;
-        behind = λ current last knows.
+        keeps = all_keeps {T = T} {E = E} mid late few done again (Ok flipped) a b c d repairs beside flips;
+        behind = λ current last held knows ready.
             let turned = flips.behind current v (stands_beside {T = T} {E = E} mid late few done again (Ok flipped) a b c d repairs beside flips current last knows) in
-            (λ image now. (turned.0 image now, now_held {T = T} {E = E} mid late few done again (Ok flipped) a b c d repairs beside flips image now), turned.1);
+            (λ image now. ((turned.0 image now, now_held {T = T} {E = E} mid late few done again (Ok flipped) a b c d repairs beside flips image now), now_more {T = T} {E = E} mid late few done again (Ok flipped) a b c d repairs beside flips held ready image now), turned.1);
         elsewhere = all_files {T = T} {E = E} mid late few done again (Ok flipped) a b c d repairs beside flips;
         removed = tt;
       }
 
-      pub lay_not_flipped : (fault : E) (answer : PublishFault) → IsDirty new.other → Flips {T = T} {E = E} (Err fault) late new c d → LaysDown {T = T} (Err answer) old new next v blocks a d
+      pub lay_not_flipped : (fault : E) (answer : PublishFault) → IsDirty new.other → Flips {T = T} {E = E} (Err fault) late new c d → LaysDown {T = T} (Err answer) old new next v blocks growing a d
       lay_not_flipped fault answer dirty flips = record {
         any_moment = all_moments {T = T} {E = E} mid late few done again (Err fault) a b c d repairs beside flips;
-        behind = λ current last knows. inr (inr (
+        keeps = all_keeps {T = T} {E = E} mid late few done again (Err fault) a b c d repairs beside flips;
+        behind = λ current last held knows ready. inr (inr (
           flips.behind current v (stands_beside {T = T} {E = E} mid late few done again (Err fault) a b c d repairs beside flips current last knows),
-          now_held {T = T} {E = E} mid late few done again (Err fault) a b c d repairs beside flips,
+          λ image now. (now_held {T = T} {E = E} mid late few done again (Err fault) a b c d repairs beside flips image now, now_more {T = T} {E = E} mid late few done again (Err fault) a b c d repairs beside flips held ready image now),
         ));
         elsewhere = all_files {T = T} {E = E} mid late few done again (Err fault) a b c d repairs beside flips;
         removed = inr (inl dirty);

@@ -1,9 +1,16 @@
 -- What the calls of a store make of a volume, told or not, from what its root's make of it.
-use Rattle.std.proofs.Common.{◌≡◌, ◌⊎◌, inl, inr, ℕ, true, false, List, ◌∷◌, Option, Result, Ok, Err, OnOk, OnErr, sym, ap, ◌∙◌, subst}
+use Rattle.std.proofs.Common.{◌≡◌, ◌⊎◌, inl, inr, ℕ, ◌<◌, Bool, true, false, List, [], ◌∷◌, length, get_or, All, Option, Some, None, IfSome, Result, Ok, Err, OnOk, OnErr, sym, ap, ◌∙◌, subst, arith}
+use Rattle.std.specs.Arc.{arc_value}
+use Rattle.std.proofs.lemmas.List.{get_or-map, length-map, same_lists}
+use Rattle.qd_block.specs.Blocks.{Block}
 use Rattle.qd_io.specs.declared.fault.IoFault.{IoFault}
-use Rattle.qd_volume.specs.Disk.{Disk}
-use Rattle.qd_durable.specs.Moments.{EachNow, Moves, SameBut, Told}
-use Rattle.qd_durable.proofs.Moved.{but_same, leaves_still, moves_still}
+use Rattle.qd_catalog.specs.Versions.{Versions}
+use Rattle.qd_volume.specs.Disk.{Disk, Image, reads_of}
+use Rattle.qd_column_files.specs.Files.{HoldsBlock}
+use Rattle.qd_column_files.specs.Growing.{GoesOn, with_rows}
+use Rattle.qd_column_files.proofs.Below.{reads_left}
+use Rattle.qd_durable.specs.Moments.{EachNow, LeavesOnly, Moves, SameBut, Told}
+use Rattle.qd_durable.proofs.Moved.{but_same, leaves_still, leaves_weaker, moves_still}
 use Rattle.qd_durable.proofs.Writes.{told_map, told_still}
 use Rattle.qd_txnfile.specs.Calls as root
 use Rattle.qd_txnfile.specs.States.{IsDirty, Knows, Root, with_other}
@@ -11,11 +18,15 @@ use Rattle.qd_txnfile.specs.declared.half.Other.TheVariants as other
 use Rattle.qd_txnfile.specs.Versions.{GivesVersion, Version, is_version_file}
 use Rattle.qd_txnfile.proofs.Steps.{known_given}
 use Rattle.qd_versions.specs.declared.fault.PublishFault.{PublishFault}
+use Rattle.qd_versions.specs.declared.growing.Growing.{Growing}
+use Rattle.qd_versions.specs.declared.published.GrownBlock.{GrownBlock}
 use Rattle.qd_versions.specs.declared.published.NewBlock.{NewBlock}
 use Rattle.qd_versions.specs.Calls.{Creates, IsPublished, IsRepaired, IsSwept, Publishes, Repairs, SweepsFront, is_swept_file, no_tables}
-use Rattle.qd_versions.specs.Publishing.{GivesBefore, GivesWhole, is_published_file}
+use Rattle.qd_versions.specs.Publishing.{AreHeldBy, GivesBefore, GivesWhole, HoldsGrown, KeepsGrown, MayGrow, grown_block, grown_blocks, is_published_file}
 use Rattle.qd_versions.specs.Stores.{IsRooted, Store, current_version}
+use Rattle.qd_versions.specs.Tails.{AreGrowing, AreReady, AreTails, HoldsMore, IsFit, Keeps, blocks_growing}
 use Rattle.qd_versions.specs.Writing.{Clears, IsLaid, LaysDown}
+use Rattle.qd_versions.proofs.Stores.{part_block}
 
 -- what a call of the root answers
 abbrev Answer : Type 0
@@ -25,56 +36,150 @@ Answer = Result (Unit {0}) IoFault
 knows_as : (r : Root) (v w next : Version) (disk : Disk) → v ≡ w → Knows r v next disk → Knows r w next disk
 knows_as r v w next disk same knows = subst (λ (x : Version). Knows r x next disk) same knows
 
-module _ (old new : Store) (v : Version) (blocks : List NewBlock) where
-  laid_failed : {T : Type 0} (fault : PublishFault) (before after : Disk) → current_version new.versions ≡ current_version old.versions → LaysDown {T = T} (Err fault) old.root new.root old.versions.next_block v blocks before after → Publishes {T = ℕ} (Err fault) old new v blocks before after
-  laid_failed {T} fault before after same laid = record {
-    any_moment = λ last rooted. laid.any_moment (current_version old.versions) last rooted.root;
-    behind = λ last rooted. by last (laid.behind (current_version old.versions) last rooted.root);
-    elsewhere = laid.elsewhere;
-    removed = laid.removed;
-  }
-    where
-      rooted : (last : Version) → Knows new.root (current_version old.versions) last after → IsRooted new last after
-      rooted last knows = record { root = knows_as new.root (current_version old.versions) (current_version new.versions) last after (sym same) knows }
+-- ---- what is read of blocks that grow, and what it says of them
 
-      by : (last : Version) → IsLaid {T = T} {E = PublishFault} (Err fault) old.root new.root (current_version old.versions) last v blocks before after → IsPublished {T = ℕ} {E = PublishFault} (Err fault) old new last v blocks before after
-      by last (inl touched) = inl (touched.0, (rooted last touched.1.0, touched.1.1))
-      by last (inr (inl clean)) = inr (inl (rooted last clean.0, clean.1))
-      by last (inr (inr held)) = inr (inr (rooted v held.0, held.1))
+-- a list that reaches past a place has an item
+some_item : {X : Type 0} (xs : List X) (k : ℕ) → k < length xs → X
+some_item [] k less = absurd (omega arith)
+some_item (x ∷ xs) k less = x
 
-  laid_done : {T : Type 0} (done : T) (row : ℕ) (before after : Disk) → current_version new.versions ≡ v → LaysDown {T = T} (Ok done) old.root new.root old.versions.next_block v blocks before after → Publishes {T = ℕ} (Ok row) old new v blocks before after
-  laid_done done row before after is laid = record {
-    any_moment = λ last rooted. laid.any_moment (current_version old.versions) last rooted.root;
-    behind = λ last rooted.
-        let knows = laid.behind (current_version old.versions) last rooted.root in
-        (knows.0, λ later. record { root = knows_as new.root v (current_version new.versions) later after (sym is) (knows.1 later) });
-    elsewhere = laid.elsewhere;
-    removed = tt;
-  }
+module _ (v : Versions) (grown : List GrownBlock) (growing : List Growing) (may : All (MayGrow v) grown) (are : AreGrowing v grown growing) where
+  pub fit_all : All (IsFit v.next_block) growing
+  fit_all k d less =
+      let here : k < length grown = omega (arith, less, are.count) in
+      (are.each k (some_item grown k here) d here).fit
+
+  pub blocks_same : blocks_growing growing ≡ grown_blocks v grown
+  blocks_same =
+      same_lists (blocks_growing growing) (grown_blocks v grown) (length-map growing (λ (x : Growing). x.block) ∙ are.count ∙ sym (length-map grown (grown_block v)))
+      (λ k d less.
+      let here : k < length grown = omega (arith, less, length-map growing (λ (x : Growing). x.block), are.count) in
+      let e = some_item growing k (omega (arith, here, are.count)) in
+      let g = some_item grown k here in
+      get_or-map (λ (x : Growing). x.block) growing k e d (omega (arith, here, are.count))
+      ∙ (are.each k g e here).block
+      ∙ sym (get_or-map (grown_block v) grown k g d here))
+
+  module _ (held : ℕ → Block) where
+    keeps_grown : (image : Image) → Keeps held growing image → KeepsGrown v held grown image
+    keeps_grown image keeps k d less t p at =
+        let there : k < length growing = omega (arith, less, are.count) in
+        let e = some_item growing k there in
+        subst (λ n. HoldsBlock n (held n) image) ((are.each k d e less).block ∙ part_block v (get_or grown k d) t p at) (keeps k e there)
+
+    holds_grown : (image : Image) → HoldsMore held growing image → HoldsGrown v held grown image
+    holds_grown image more k d less t p at =
+        let there : k < length growing = omega (arith, less, are.count) in
+        let e = some_item growing k there in
+        let is = are.each k d e less in
+        subst (λ (b : Block). HoldsBlock p.block (with_rows (held p.block) b.rows) image) is.rows
+        (subst (λ n. HoldsBlock n (with_rows (held n) (arc_value (get_or growing k e).rows).rows) image) (is.block ∙ part_block v (get_or grown k d) t p at) (more k e there))
+
+    -- what is read goes on behind the blocks that the volume holds
+    all_ready : (disk : Disk) → AreTails (length grown) v grown growing (reads_of disk) → AreHeldBy v held grown disk → AreReady held growing disk
+    all_ready disk tails by k e less =
+        let here : k < length grown = omega (arith, less, are.count) in
+        let d = some_item grown k here in
+        let m = may k d here in
+        let is = are.each k d e here in
+        let x = get_or growing k e in
+        let there = by k d here m.t m.p m.there in
+        let goes : GoesOn (held m.p.block) x.tail (arc_value x.rows) = record {
+          kinds = there.0.kinds ∙ sym m.kinds ∙ ap (λ (b : Block). b.kinds) (sym is.rows);
+          time_col = there.0.time_col ∙ sym m.time_col ∙ ap (λ (b : Block). b.time_col) (sym is.rows);
+          goes_on = tails k d e here m.t m.p m.there (held m.p.block) (there.1 (reads_of disk) (reads_left disk)) there.0;
+        } in
+        subst (λ n. GoesOn (held n) x.tail (arc_value x.rows) × EachNow disk (HoldsBlock n (held n))) (sym (is.block ∙ part_block v (get_or grown k d) m.t m.p m.there)) (goes, there.1)
+
+-- ---- a version that is laid down
+
+module _ (old new : Store) (v : Version) (blocks : List NewBlock) (grown : List GrownBlock) (growing : List Growing) (may : All (MayGrow old.versions) grown) (are : AreGrowing old.versions grown growing) where
+  abbrev touched : ℕ → Bool
+  touched = is_published_file old.versions.next_block (grown_blocks old.versions grown)
+
+  same_files : (before after : Disk) → Moves (SameBut (is_published_file old.versions.next_block (blocks_growing growing))) before after → Moves (SameBut (is_published_file old.versions.next_block (grown_blocks old.versions grown))) before after
+  same_files before after moves = subst (λ (bs : List ℕ). Moves (SameBut (is_published_file old.versions.next_block bs)) before after) (blocks_same old.versions grown growing may are) moves
+
+  module _ (before : Disk) (tails : AreTails (length grown) old.versions grown growing (reads_of before)) where
+    ready_by : (held : ℕ → Block) → AreHeldBy old.versions held grown before → AreReady held growing before
+    ready_by held by = all_ready old.versions grown growing may are held before tails by
+
+    module _ {T : Type 0} (result : Result T PublishFault) (after : Disk) (laid : LaysDown result old.root new.root old.versions.next_block v blocks growing before after) where
+      laid_moments : (last : Version) (held : ℕ → Block) → IsRooted old last before → AreHeldBy old.versions held grown before → LeavesOnly before after (λ image. GivesBefore old.root.other (current_version old.versions) last before image ⊎ GivesVersion (current_version old.versions) image ⊎ (GivesWhole v blocks image × HoldsGrown old.versions held grown image))
+      laid_moments last held rooted by =
+          leaves_weaker (λ image. GivesBefore old.root.other (current_version old.versions) last before image ⊎ GivesVersion (current_version old.versions) image ⊎ (GivesWhole v blocks image × HoldsMore held growing image)) (λ image. GivesBefore old.root.other (current_version old.versions) last before image ⊎ GivesVersion (current_version old.versions) image ⊎ (GivesWhole v blocks image × HoldsGrown old.versions held grown image)) before after
+          of (laid.any_moment (current_version old.versions) last held rooted.root (ready_by held by))
+        where
+          of : (image : Image) → GivesBefore old.root.other (current_version old.versions) last before image ⊎ GivesVersion (current_version old.versions) image ⊎ (GivesWhole v blocks image × HoldsMore held growing image) → GivesBefore old.root.other (current_version old.versions) last before image ⊎ GivesVersion (current_version old.versions) image ⊎ (GivesWhole v blocks image × HoldsGrown old.versions held grown image)
+          of image (inl as_before) = inl as_before
+          of image (inr (inl gives)) = inr (inl gives)
+          of image (inr (inr whole)) = inr (inr (whole.0, holds_grown old.versions grown growing may are held image whole.1))
+
+      laid_keeps : (held : ℕ → Block) → AreHeldBy old.versions held grown before → LeavesOnly before after (KeepsGrown old.versions held grown) × EachNow after (KeepsGrown old.versions held grown)
+      laid_keeps held by =
+          let keeps = laid.keeps held (ready_by held by) in (
+            leaves_weaker (Keeps held growing) (KeepsGrown old.versions held grown) before after (λ image k. keeps_grown old.versions grown growing may are held image k) keeps.0,
+            λ image now. keeps_grown old.versions grown growing may are held image (keeps.1 image now),
+          )
+
+    laid_failed : {T : Type 0} (fault : PublishFault) (after : Disk) → current_version new.versions ≡ current_version old.versions → LaysDown {T = T} (Err fault) old.root new.root old.versions.next_block v blocks growing before after → Publishes {T = ℕ} (Err fault) old new v blocks grown before after
+    laid_failed {T} fault after same laid = record {
+      any_moment = laid_moments {T = T} (Err fault) after laid;
+      keeps = laid_keeps {T = T} (Err fault) after laid;
+      behind = λ last held rooted by. of last held (laid.behind (current_version old.versions) last held rooted.root (ready_by held by));
+      elsewhere = same_files before after laid.elsewhere;
+      removed = laid.removed;
+    }
+      where
+        rooted : (last : Version) → Knows new.root (current_version old.versions) last after → IsRooted new last after
+        rooted last knows = record { root = knows_as new.root (current_version old.versions) (current_version new.versions) last after (sym same) knows }
+
+        of : (last : Version) (held : ℕ → Block) → IsLaid {T = T} {E = PublishFault} (Err fault) old.root new.root (current_version old.versions) last v blocks growing held before after → IsPublished {T = ℕ} {E = PublishFault} (Err fault) old new last v blocks grown held before after
+        of last held (inl touched) = inl (touched.0, (rooted last touched.1.0, touched.1.1))
+        of last held (inr (inl clean)) = inr (inl (rooted last clean.0, clean.1))
+        of last held (inr (inr whole)) = inr (inr (rooted v whole.0, λ image now. let h = whole.1 image now in (h.0, holds_grown old.versions grown growing may are held image h.1)))
+
+    laid_done : {T : Type 0} (done : T) (row : ℕ) (after : Disk) → current_version new.versions ≡ v → LaysDown {T = T} (Ok done) old.root new.root old.versions.next_block v blocks growing before after → Publishes {T = ℕ} (Ok row) old new v blocks grown before after
+    laid_done {T} done row after is laid = record {
+      any_moment = laid_moments {T = T} (Ok done) after laid;
+      keeps = laid_keeps {T = T} (Ok done) after laid;
+      behind = λ last held rooted by.
+          let knows = laid.behind (current_version old.versions) last held rooted.root (ready_by held by) in
+          (λ image now. let h = knows.0 image now in (h.0, holds_grown old.versions grown growing may are held image h.1), λ later. record { root = knows_as new.root v (current_version new.versions) later after (sym is) (knows.1 later) });
+      elsewhere = same_files before after laid.elsewhere;
+      removed = tt;
+    }
 
 -- nothing was begun
-publish_none : (fault : PublishFault) (old new : Store) (v : Version) (blocks : List NewBlock) (disk : Disk) → new.root ≡ old.root → current_version new.versions ≡ current_version old.versions → Publishes {T = ℕ} (Err fault) old new v blocks disk disk
-publish_none fault old new v blocks disk root same = record {
-  any_moment = λ last rooted. leaves_still (λ image. GivesBefore old.root.other (current_version old.versions) last disk image ⊎ GivesVersion (current_version old.versions) image ⊎ GivesWhole v blocks image) disk
+publish_none : (fault : PublishFault) (old new : Store) (v : Version) (blocks : List NewBlock) (grown : List GrownBlock) (disk : Disk) → new.root ≡ old.root → current_version new.versions ≡ current_version old.versions → Publishes {T = ℕ} (Err fault) old new v blocks grown disk disk
+publish_none fault old new v blocks grown disk root same = record {
+  any_moment = λ last held rooted by. leaves_still (λ image. GivesBefore old.root.other (current_version old.versions) last disk image ⊎ GivesVersion (current_version old.versions) image ⊎ (GivesWhole v blocks image × HoldsGrown old.versions held grown image)) disk
       (λ image now. inl (known_given old.root (current_version old.versions) last disk rooted.root image now, (image, now, but_same is_version_file image)));
-  behind = λ last rooted. inl (λ dirty. subst (λ (r : Root). IsDirty r.other) root dirty, (record { root = subst (λ (r : Root). Knows r (current_version new.versions) last disk) (sym root) (knows_as old.root (current_version old.versions) (current_version new.versions) last disk (sym same) rooted.root) }, moves_still (SameBut is_version_file) disk (but_same is_version_file)));
-  elsewhere = moves_still (SameBut (is_published_file old.versions.next_block)) disk (but_same (is_published_file old.versions.next_block));
+  keeps = λ held by. (
+    leaves_still (KeepsGrown old.versions held grown) disk (λ image now k d less t p at. (by k d less t p at).1 image now),
+    λ image now k d less t p at. (by k d less t p at).1 image now,
+  );
+  behind = λ last held rooted by. inl (λ dirty. subst (λ (r : Root). IsDirty r.other) root dirty, (record { root = subst (λ (r : Root). Knows r (current_version new.versions) last disk) (sym root) (knows_as old.root (current_version old.versions) (current_version new.versions) last disk (sym same) rooted.root) }, moves_still (SameBut is_version_file) disk (but_same is_version_file)));
+  elsewhere = moves_still (SameBut (is_published_file old.versions.next_block (grown_blocks old.versions grown))) disk (but_same (is_published_file old.versions.next_block (grown_blocks old.versions grown)));
   removed = inl (moves_still (SameBut is_version_file) disk (but_same is_version_file));
 }
 
-module _ (before after : Store) (v : Version) (blocks : List NewBlock) where
-  pub publish_none_told : (fault : PublishFault) (old : Option Disk) → after.root ≡ before.root → current_version after.versions ≡ current_version before.versions → Told old old (Publishes {T = ℕ} (Err fault) before after v blocks)
-  publish_none_told fault old root same = told_still (Publishes {T = ℕ} (Err fault) before after v blocks) old (λ disk. publish_none fault before after v blocks disk root same)
+module _ (before after : Store) (v : Version) (blocks : List NewBlock) (grown : List GrownBlock) where
+  pub publish_none_told : (fault : PublishFault) (old : Option Disk) → after.root ≡ before.root → current_version after.versions ≡ current_version before.versions → Told old old (Publishes {T = ℕ} (Err fault) before after v blocks grown)
+  publish_none_told fault old root same = told_still (Publishes {T = ℕ} (Err fault) before after v blocks grown) old (λ disk. publish_none fault before after v blocks grown disk root same)
 
-  pub publish_failed_told : (fault : PublishFault) (old new : Option Disk) → current_version after.versions ≡ current_version before.versions → Told old new (LaysDown {T = Unit {0}} (Err fault) before.root after.root before.versions.next_block v blocks) → Told old new (Publishes {T = ℕ} (Err fault) before after v blocks)
-  publish_failed_told fault old new same told =
-      told_map (LaysDown {T = Unit {0}} (Err fault) before.root after.root before.versions.next_block v blocks) (Publishes {T = ℕ} (Err fault) before after v blocks) old new
-      (λ a b laid. laid_failed before after v blocks {T = Unit {0}} fault a b same laid) told
+  module _ (growing : List Growing) (may : All (MayGrow before.versions) grown) (are : AreGrowing before.versions grown growing) where
+    -- the blocks' files were read before
+    abbrev WereRead : Option Disk → Type 0
+    WereRead old = IfSome old (λ disk. AreTails (length grown) before.versions grown growing (reads_of disk))
 
-  pub publish_done_told : (done : Unit {0}) (row : ℕ) (old new : Option Disk) → current_version after.versions ≡ v → Told old new (LaysDown (Ok done) before.root after.root before.versions.next_block v blocks) → Told old new (Publishes (Ok row) before after v blocks)
-  publish_done_told done row old new is told =
-      told_map (LaysDown (Ok done) before.root after.root before.versions.next_block v blocks) (Publishes (Ok row) before after v blocks) old new
-      (λ a b laid. laid_done before after v blocks done row a b is laid) told
+    pub publish_failed_told : (fault : PublishFault) (old new : Option Disk) → WereRead old → current_version after.versions ≡ current_version before.versions → Told old new (LaysDown {T = Unit {0}} (Err fault) before.root after.root before.versions.next_block v blocks growing) → Told old new (Publishes {T = ℕ} (Err fault) before after v blocks grown)
+    publish_failed_told fault None new read same told = told
+    publish_failed_told fault (Some a) new read same told = (told.0, told.1, laid_failed before after v blocks grown growing may are a read {T = Unit {0}} fault told.0 same told.2)
+
+    pub publish_done_told : (done : Unit {0}) (row : ℕ) (old new : Option Disk) → WereRead old → current_version after.versions ≡ v → Told old new (LaysDown (Ok done) before.root after.root before.versions.next_block v blocks growing) → Told old new (Publishes (Ok row) before after v blocks grown)
+    publish_done_told done row None new read is told = told
+    publish_done_told done row (Some a) new read is told = (told.0, told.1, laid_done before after v blocks grown growing may are a read done row told.0 is told.2)
 
 -- ---- making, repair and sweeping
 

@@ -1,38 +1,44 @@
 -- What every store of versions keeps, through each change of its catalogue.
-use Rattle.std.proofs.Common.{◌≡◌, ◌≢◌, ◌⊎◌, inl, inr, ℕ, zero, suc, ◌+◌, ◌^◌, ◌<◌, ◌≤◌, Bool, true, false, cond, nat_eq, not, List, [], ◌∷◌, length, get_or, set, replicate, Option, Some, None, is_some, All, Contains, slice_get, ◌||◌, refl, sym, ap, subst, ◌∙◌, arith, true≢false, eq-eqb}
+use Rattle.std.proofs.Common.{◌≡◌, ◌≢◌, ◌⊎◌, inl, inr, ℕ, zero, suc, ◌+◌, ◌^◌, ◌<◌, ◌≤◌, Bool, true, false, cond, nat_eq, not, List, [], ◌∷◌, length, get_or, set, replicate, Option, Some, None, is_some, All, Contains, slice_get, refl, sym, ap, subst, ◌∙◌, arith, true≢false, eq-eqb}
+use Rattle.std.specs.Arc.{arc_value}
 use Rattle.std.specs.List.{list_any}
 use Rattle.std.proofs.lemmas.Bool.{eqb-true, eqb-false}
-use Rattle.std.proofs.lemmas.List.{get_or-set_same, get_or-set_other, length-set}
+use Rattle.std.proofs.lemmas.List.{get_or-set_same, get_or-set_other, length-map, length-set, length-take-le}
 use Rattle.std.proofs.lemmas.List.Elements.{All-nil, All-contains, All-weaker, Contains-append_cases}
 use Rattle.std.proofs.lemmas.Option.{get_or_from_slice_get, none-some, same_Some, slice_get_within}
 use Rattle.std.proofs.lemmas.List.Folds.{list_any-append}
 use Rattle.qd_base.proofs.Lists.{IsDistinct-nil}
 use Rattle.qd_base.specs.Lawful.{IsSchema}
 use Rattle.qd_base.specs.Schemas.{same_name}
+use Rattle.qd_base.specs.declared.limits.TheConstants.{MAX_COLUMNS}
 use Rattle.qd_base.specs.declared.part.Part.{Part}
+use Rattle.qd_base.specs.declared.schema.Col.{Col}
+use Rattle.qd_base.specs.declared.schema.ColType.{ColType}
 use Rattle.qd_base.specs.declared.schema.Schema.{Schema}
+use Rattle.qd_block.specs.Blocks.{Block, kinds_in}
+use Rattle.qd_column_files.specs.Growing.{BlockBehind}
 use Rattle.qd_manifest.specs.declared.shape.TableParts.{TableParts}
 use Rattle.qd_manifest.specs.Spelling.{AreParts, IsManifest, IsPart, blocks_in, blocks_of, rows_shown, schemas_in}
 use Rattle.qd_txnfile.specs.States.{Root}
 use Rattle.qd_catalog.specs.declared.version.Version.{Version}
 use Rattle.qd_catalog.specs.Versions.{Adds, IsListed, IsLive, IsOpened, MayAdd, Retires, SameVersions, Sweeps, Versions, first_row, is_kept, lists, n_of, next_after, rows_in, version_at, written_of}
-use Rattle.qd_versions.specs.Publishing.{MayPublish}
+use Rattle.qd_catalog.proofs.CoverLemmas.{covered}
+use Rattle.qd_versions.specs.declared.growing.Growing.{Growing}
+use Rattle.qd_versions.specs.declared.published.GrownBlock.{GrownBlock}
+use Rattle.qd_versions.specs.Publishing.{MayGrow, MayPublish, block_of_part, grown_block, part_in_table, part_in_version}
 use Rattle.qd_versions.specs.Reading.{IsPartAt}
-use Rattle.qd_versions.specs.Stores.{AreTables, IsCurrent, IsStore, Store, current_version, manifest_in, stored, stored_version}
+use Rattle.qd_versions.specs.Stores.{AreAlike, AreTables, HaveOneKinds, IsCurrent, IsStore, Store, current_version, manifest_in, stored, stored_version}
+use Rattle.qd_versions.specs.Tails.{IsGrowing}
+use Rattle.qd_versions.proofs.Alike.{alike_with, kinds_flip, listed_at, or_either, or_second}
 use Rattle.qd_versions.proofs.Blocks.{after_all, few_new, listed_in, shown_listed, written_kept}
 
 -- two numbers are one or not
-apart_or_same : (a b : ℕ) → (a ≡ b) ⊎ (a ≢ b)
-apart_or_same a b = by (nat_eq a b) refl
+apart_or_second : (a b : ℕ) → (a ≡ b) ⊎ (a ≢ b)
+apart_or_second a b = by (nat_eq a b) refl
   where
     by : (same : Bool) → nat_eq a b ≡ same → (a ≡ b) ⊎ (a ≢ b)
     by true e = inl (eqb-true a b e)
     by false e = inr (eqb-false a b e)
-
--- the version of a row that lists a block
-listed_at : (o : Option Version) (b : ℕ) → lists o b ≡ true → (x : Version) × (o ≡ Some x) × (list_any (nat_eq b) (blocks_of x.shape) ≡ true)
-listed_at None b e = absurd (true≢false (sym e))
-listed_at (Some x) b e = (x, refl, e)
 
 -- versions with the same rows list the same blocks
 listed_same : (v w : Versions) (b : ℕ) → w.versions ≡ v.versions → IsListed w b → IsListed v b
@@ -71,6 +77,8 @@ module _ (old new : Store) (keeps : IsStore old) (same : SameVersions old.versio
     below = λ b listed. subst (λ n. b < n) (sym same.next_block) (keeps.below b (listed_same old.versions new.versions b same.versions listed));
     queued = λ b c. subst (λ n. b < n) (sym same.next_block) (keeps.queued b (subst (λ (l : List ℕ). Contains l b) same.retired c));
     has_rows = λ b listed. subst (λ (l : List (ℕ × ℕ)). 0 < rows_in l b) (sym same.written) (keeps.has_rows b (listed_same old.versions new.versions b same.versions listed));
+    covered = covered.reserved old.versions new.versions keeps.covered same;
+    alike = λ row other x y differ here there. keeps.alike row other x y differ (sym (at_same row) ∙ here) (sym (at_same other) ∙ there);
     apart = λ b listed c. keeps.apart b (listed_same old.versions new.versions b same.versions listed) (subst (λ (l : List ℕ). Contains l b) same.retired c);
     small = omega (arith, keeps.small, same.next_block);
   }
@@ -89,6 +97,10 @@ only_first : (n : ℕ) (shape : List TableParts) (row : ℕ) (x : Version) → g
 only_first n shape zero x e = same_Some _ _ e
 only_first n shape (suc row) x e = absurd (none-some x (sym (no_version 63 row) ∙ e))
 
+one_row : (n : ℕ) (shape : List TableParts) (row : ℕ) (x : Version) → get_or (first_row n shape) row None ≡ Some x → row ≡ 0
+one_row n shape zero x e = refl
+one_row n shape (suc row) x e = absurd (none-some x (sym (no_version 63 row) ∙ e))
+
 module _ (s : Store) (n next : ℕ) (shape : List TableParts) (number : s.root.n ≡ n) (few : n ≤ 2 ^ 30) (sound : IsManifest n (manifest_in next shape)) (opened : IsOpened s.versions n next shape) where
   at_first : (row : ℕ) → version_at s.versions row ≡ get_or (first_row n shape) row None
   at_first row = ap (λ (l : List (Option Version)). get_or l row None) opened.versions
@@ -104,6 +116,10 @@ module _ (s : Store) (n next : ℕ) (shape : List TableParts) (number : s.root.n
   none_queued : (b : ℕ) → Contains s.versions.retired b → ⊥
   none_queued b c = omega (arith, c.1, ap (λ (l : List ℕ). length l) opened.retired)
 
+  -- no other row is live
+  only_row : (row : ℕ) (x : Version) → version_at s.versions row ≡ Some x → row ≡ 0
+  only_row row x e = one_row n shape row x (sym (at_first row) ∙ e)
+
   pub store_opened : IsStore s
   store_opened = record {
     rows = ap (λ (l : List (Option Version)). length l) opened.versions;
@@ -115,6 +131,8 @@ module _ (s : Store) (n next : ℕ) (shape : List TableParts) (number : s.root.n
     below = λ b listed. subst (λ k. b < k) (sym opened.next_block) (All-contains (λ b. b < next) (blocks_of shape) b sound.below (listed_in b (blocks_of shape) (listed_first b listed)));
     queued = λ b c. absurd (none_queued b c);
     has_rows = λ b listed. subst (λ k. 0 < k) (sym (opened.written b)) (shown_listed shape b sound.parts (listed_first b listed));
+    covered = covered.opened s.versions n next shape opened;
+    alike = λ row other x y differ here there. absurd (differ (only_row row x here ∙ sym (only_row other y there)));
     apart = λ b listed c. none_queued b c;
     small = omega (arith, opened.next_block, small_next n next shape few sound);
   }
@@ -186,7 +204,7 @@ module _ (old : Store) (keeps : IsStore old) (n : ℕ) (shape : List TableParts)
 
     -- what is listed now is of the new version, or was listed
     listed_or : (b : ℕ) → IsListed new.versions b → (list_any (nat_eq b) (blocks_of shape) ≡ true) ⊎ IsListed old.versions b
-    listed_or b listed = by (apart_or_same listed.0 row)
+    listed_or b listed = by (apart_or_second listed.0 row)
       where
         by : (listed.0 ≡ row) ⊎ (listed.0 ≢ row) → (list_any (nat_eq b) (blocks_of shape) ≡ true) ⊎ IsListed old.versions b
         by (inl is) = inl (sym (ap (λ (o : Option Version). lists o b) (ap (λ r. version_at new.versions r) is ∙ at_row)) ∙ listed.1)
@@ -197,7 +215,7 @@ module _ (old : Store) (keeps : IsStore old) (n : ℕ) (shape : List TableParts)
         (record { number = sym number; sound = subst (λ k. IsManifest n (manifest_in k shape)) (sym now_next) may.sound })
 
     are_tables : (r : ℕ) (x : Version) → version_at new.versions r ≡ Some x → AreTables x.shape
-    are_tables r x e = by (apart_or_same r row)
+    are_tables r x e = by (apart_or_second r row)
       where
         by : (r ≡ row) ⊎ (r ≢ row) → AreTables x.shape
         by (inl is) = subst (λ (v : Version). AreTables v.shape) (same_Some _ _ (sym at_row ∙ ap (λ k. version_at new.versions k) (sym is) ∙ e)) (tables_of n (next + count) shape may.sound)
@@ -220,6 +238,21 @@ module _ (old : Store) (keeps : IsStore old) (n : ℕ) (shape : List TableParts)
     is_apart b (inl here) c = unqueued b (listed_in b (blocks_of shape) here) (subst (λ (l : List ℕ). Contains l b) adds.retired c)
     is_apart b (inr there) c = keeps.apart b there (was_queued b c)
 
+    alike_new : (r : ℕ) (x : Version) → r ≢ row → version_at new.versions r ≡ Some x → HaveOneKinds shape x.shape
+    alike_new r x other e = alike_with old.versions keeps.alike keeps.below shape may.alike may.old r x (sym (at_other r other) ∙ e)
+
+    are_alike : AreAlike new.versions
+    are_alike r s x y differ here there = by (apart_or_second r row) (apart_or_second s row)
+      where
+        is_added : (k : ℕ) (z : Version) → k ≡ row → version_at new.versions k ≡ Some z → added ≡ z
+        is_added k z is e = same_Some _ _ (sym at_row ∙ ap (λ j. version_at new.versions j) (sym is) ∙ e)
+
+        by : (r ≡ row) ⊎ (r ≢ row) → (s ≡ row) ⊎ (s ≢ row) → HaveOneKinds x.shape y.shape
+        by (inl first) (inl second) = absurd (differ (first ∙ sym second))
+        by (inl first) (inr second) = subst (λ (z : Version). HaveOneKinds z.shape y.shape) (is_added r x first here) (alike_new s y second there)
+        by (inr first) (inl second) = subst (λ (z : Version). HaveOneKinds x.shape z.shape) (is_added s y second there) (kinds_flip shape x.shape (alike_new r x first here))
+        by (inr first) (inr second) = keeps.alike r s x y differ (sym (at_other r first) ∙ here) (sym (at_other s second) ∙ there)
+
     pub store_added : IsStore new
     store_added = record {
       rows = ap (λ (l : List (Option Version)). length l) adds.versions ∙ length-set mid.versions row (Some added) ∙ rows_were;
@@ -230,6 +263,8 @@ module _ (old : Store) (keeps : IsStore old) (n : ℕ) (shape : List TableParts)
       below = λ b listed. is_below b (listed_or b listed);
       queued = λ b c. omega (arith, keeps.queued b (was_queued b c), now_next);
       has_rows = λ b listed. is_shown b (listed_or b listed);
+      covered = covered.added mid new.versions n shape row (covered.reserved old.versions mid keeps.covered same) adds;
+      alike = are_alike;
       apart = λ b listed c. is_apart b (listed_or b listed) c;
       small = omega (arith, now_next, small_next n (next + count) shape may.few may.sound);
     }
@@ -255,14 +290,14 @@ module _ (old new : Store) (row : ℕ) (keeps : IsStore old) (older : row ≢ ol
   left_current = ap (λ r. version_at new.versions r) retires.current ∙ left_other old.versions.current (λ e. older (sym e))
 
   was_listed : (b : ℕ) → IsListed new.versions b → IsListed old.versions b
-  was_listed b listed = by (apart_or_same listed.0 row)
+  was_listed b listed = by (apart_or_second listed.0 row)
     where
       by : (listed.0 ≡ row) ⊎ (listed.0 ≢ row) → IsListed old.versions b
       by (inl is) = absurd (true≢false (sym (sym (ap (λ (o : Option Version). lists o b) (ap (λ r. version_at new.versions r) is ∙ left_row)) ∙ listed.1)))
       by (inr other) = (listed.0, sym (ap (λ (o : Option Version). lists o b) (left_other listed.0 other)) ∙ listed.1)
 
   was_live : (r : ℕ) (x : Version) → version_at new.versions r ≡ Some x → version_at old.versions r ≡ Some x
-  was_live r x e = by (apart_or_same r row)
+  was_live r x e = by (apart_or_second r row)
     where
       by : (r ≡ row) ⊎ (r ≢ row) → version_at old.versions r ≡ Some x
       by (inl is) = absurd (none-some x (sym left_row ∙ ap (λ k. version_at new.versions k) (sym is) ∙ e))
@@ -295,6 +330,8 @@ module _ (old new : Store) (row : ℕ) (keeps : IsStore old) (older : row ≢ ol
     below = λ b listed. omega (arith, keeps.below b (was_listed b listed), retires.next_block);
     queued = λ b c. queue_below b (queued_or b c);
     has_rows = λ b listed. omega (arith, keeps.has_rows b (was_listed b listed), retires.written b);
+    covered = covered.retired old.versions new.versions row keeps.covered retires;
+    alike = λ r s x y differ here there. keeps.alike r s x y differ (was_live r x here) (was_live s y there);
     apart = λ b listed c. queue_apart b listed (queued_or b c);
     small = omega (arith, keeps.small, retires.next_block);
   }
@@ -348,6 +385,8 @@ module _ (old new : Store) (block : ℕ) (keeps : IsStore old) (sweeps : Sweeps 
     below = λ b listed. omega (arith, keeps.below b (still_listed b listed), sweeps.next_block);
     queued = λ b c. omega (arith, keeps.queued b (still_queued b c), sweeps.next_block);
     has_rows = λ b listed. still_shown b (still_listed b listed);
+    covered = covered.swept old.versions new.versions block keeps.covered (λ listed. keeps.apart block listed in_front) sweeps;
+    alike = λ r s x y differ here there. keeps.alike r s x y differ (sym (swept_at r) ∙ here) (sym (swept_at s) ∙ there);
     apart = λ b listed c. keeps.apart b (still_listed b listed) (still_queued b c);
     small = omega (arith, keeps.small, sweeps.next_block);
   }
@@ -389,27 +428,19 @@ pub front_small : (s : Store) (b : ℕ) → IsStore s → Some b ≡ slice_get s
 front_small s b keeps e = omega (arith, keeps.queued b (front_in s.versions.retired b e), keeps.small)
 
 -- a part of a live version, of a table that is there
-or_same : (a b : Bool) → b ≡ true → (a || b) ≡ true
-or_same true b e = refl
-or_same false b e = e
-
-or_first : (a b : Bool) → a ≡ true → (a || b) ≡ true
-or_first true b e = refl
-or_first false b e = absurd (true≢false (sym e))
-
 at_part : (ps : List Part) (k : ℕ) (p : Part) → slice_get ps k ≡ Some p → list_any (nat_eq p.block) (blocks_in ps) ≡ true
 at_part [] k p e = absurd (none-some p e)
-at_part (q ∷ qs) zero p e = or_first (nat_eq p.block q.block) (list_any (nat_eq p.block) (blocks_in qs)) (eq-eqb p.block q.block (ap (λ (x : Part). x.block) (sym (same_Some q p e))))
-at_part (q ∷ qs) (suc k) p e = or_same (nat_eq p.block q.block) (list_any (nat_eq p.block) (blocks_in qs)) (at_part qs k p e)
+at_part (q ∷ qs) zero p e = or_either (nat_eq p.block q.block) (list_any (nat_eq p.block) (blocks_in qs)) (eq-eqb p.block q.block (ap (λ (x : Part). x.block) (sym (same_Some q p e))))
+at_part (q ∷ qs) (suc k) p e = or_second (nat_eq p.block q.block) (list_any (nat_eq p.block) (blocks_in qs)) (at_part qs k p e)
 
 at_table : (ts : List TableParts) (k : ℕ) (t : TableParts) (b : ℕ) → slice_get ts k ≡ Some t → list_any (nat_eq b) (blocks_in t.parts) ≡ true → list_any (nat_eq b) (blocks_of ts) ≡ true
 at_table [] k t b e h = absurd (none-some t e)
 at_table (u ∷ us) zero t b e h =
     list_any-append (nat_eq b) (blocks_in u.parts) (blocks_of us)
-    ∙ or_first (list_any (nat_eq b) (blocks_in u.parts)) (list_any (nat_eq b) (blocks_of us)) (subst (λ (x : TableParts). list_any (nat_eq b) (blocks_in x.parts) ≡ true) (sym (same_Some u t e)) h)
+    ∙ or_either (list_any (nat_eq b) (blocks_in u.parts)) (list_any (nat_eq b) (blocks_of us)) (subst (λ (x : TableParts). list_any (nat_eq b) (blocks_in x.parts) ≡ true) (sym (same_Some u t e)) h)
 at_table (u ∷ us) (suc k) t b e h =
     list_any-append (nat_eq b) (blocks_in u.parts) (blocks_of us)
-    ∙ or_same (list_any (nat_eq b) (blocks_in u.parts)) (list_any (nat_eq b) (blocks_of us)) (at_table us k t b e h)
+    ∙ or_second (list_any (nat_eq b) (blocks_in u.parts)) (list_any (nat_eq b) (blocks_of us)) (at_table us k t b e h)
 
 at_all : {X : Type 0} (P : X → Type 0) (xs : List X) (k : ℕ) (x : X) → All P xs → slice_get xs k ≡ Some x → P x
 at_all P xs k x all e = subst P (get_or_from_slice_get xs k x x e) (all k x (slice_get_within xs k x e))
@@ -435,6 +466,57 @@ part_lawful s row table i t p keeps at =
       schema = at_all IsSchema (schemas_in at.version.shape) table t.schema tables.schemas.each (at_schema at.version.shape table t at.its_table);
       its_part = at_all (IsPart t.schema) t.parts i p parts.each at.its_part;
       small = omega (arith, keeps.below p.block listed, keeps.small);
+    }
+
+pub part_below : (s : Store) (row table i : ℕ) (t : TableParts) (p : Part) → IsStore s → IsPartAt s.versions row table i t p → p.block < s.versions.next_block
+part_below s row table i t p keeps at =
+    let here = at_table at.version.shape table t p.block at.its_table (at_part t.parts i p at.its_part) in
+    keeps.below p.block (row, ap (λ (o : Option Version). lists o p.block) at.live ∙ here)
+
+-- the table and the part that are lent are those of a place
+pub record IsLent (t lent : TableParts) (p given : Part) : Type 0 where
+  pub table_is : t ≡ lent
+  pub part_is : p ≡ given
+
+pub lent_is : (v : Versions) (row table i : ℕ) (t lent : TableParts) (p given : Part) (shape : List TableParts) → IsPartAt v row table i t p → ((x : Version) → version_at v row ≡ Some x → shape ≡ x.shape) → slice_get shape table ≡ Some lent → slice_get lent.parts i ≡ Some given → IsLent t lent p given
+lent_is v row table i t lent p given shape at shown table_at part_at =
+    let table_is : t ≡ lent = same_Some t lent (sym at.its_table ∙ ap (λ (l : List TableParts). slice_get l table) (sym (shown at.version at.live)) ∙ table_at) in
+    record {
+      table_is = table_is;
+      part_is = same_Some p given (sym at.its_part ∙ ap (λ (x : TableParts). slice_get x.parts i) table_is ∙ part_at);
+    }
+
+pub lent_to_grow : (v : Versions) (row : ℕ) (g : GrownBlock) (may : MayGrow v g) (lent : TableParts) (given : Part) (shape : List TableParts) → row ≡ v.current → ((x : Version) → version_at v row ≡ Some x → shape ≡ x.shape) → slice_get shape g.table ≡ Some lent → slice_get lent.parts g.part ≡ Some given → IsLent may.t lent may.p given
+lent_to_grow v row g may lent given shape current shown table_at part_at =
+    lent_is v v.current g.table g.part may.t lent may.p given shape may.there (λ x e. shown x (ap (λ r. version_at v r) current ∙ e)) table_at part_at
+
+pub lent_lawful : (s : Store) (row table i : ℕ) (t lent : TableParts) (p given : Part) → IsStore s → IsPartAt s.versions row table i t p → IsLent t lent p given → IsLawfulPart lent given
+lent_lawful s row table i t lent p given keeps at is =
+    subst (λ (u : TableParts). IsLawfulPart u given) is.table_is (subst (λ (q : Part). IsLawfulPart t q) is.part_is (part_lawful s row table i t p keeps at))
+
+pub part_block : (v : Versions) (g : GrownBlock) (t : TableParts) (p : Part) → IsPartAt v v.current g.table g.part t p → grown_block v g ≡ p.block
+part_block v g t p at =
+    ap (λ (o : Option Version). block_of_part (part_in_version o g.table g.part)) at.live
+    ∙ ap (λ (o : Option TableParts). block_of_part (part_in_table o g.part)) at.its_table
+    ∙ ap block_of_part at.its_part
+
+-- rows that are read for a part of the current version
+pub is_growing : (s : Store) (g : GrownBlock) (lent : TableParts) (given : Part) (tail : BlockBehind) (x : Growing) → IsStore s → (may : MayGrow s.versions g) → IsLent may.t lent may.p given → length tail.columns ≡ given.cols → length (arc_value g.rows).kinds ≤ MAX_COLUMNS
+    → x.block ≡ given.block → x.tail ≡ tail → arc_value x.rows ≡ arc_value g.rows → IsGrowing s.versions g x
+is_growing s g lent given tail x keeps may is columns few block tailed rows =
+    let at = may.there in
+    let lawful = part_lawful s s.versions.current g.table g.part may.t may.p keeps at in
+    let number : x.block ≡ may.p.block = block ∙ ap (λ (q : Part). q.block) (sym is.part_is) in
+    let kinds : length (arc_value g.rows).kinds ≡ may.p.cols =
+    ap (λ (ks : List ColType). length ks) may.kinds ∙ length-take-le may.p.cols (kinds_in may.t.schema.cols) (subst (λ n. may.p.cols ≤ n) (sym (length-map may.t.schema.cols (λ (c : Col). c.kind))) lawful.its_part.columns) in
+    record {
+      block = number ∙ sym (part_block s.versions g may.t may.p at);
+      rows = rows;
+      fit = record {
+        below = subst (λ n. n < s.versions.next_block) (sym number) (part_below s s.versions.current g.table g.part may.t may.p keeps at);
+        columns = ap (λ (b : BlockBehind). length b.columns) tailed ∙ columns ∙ ap (λ (q : Part). q.cols) (sym is.part_is) ∙ sym kinds ∙ ap (λ (b : Block). length b.kinds) (sym rows);
+        few = subst (λ (b : Block). length b.kinds ≤ MAX_COLUMNS) (sym rows) few;
+      };
     }
 
 -- a version that may be published is newer than the root's

@@ -1,5 +1,7 @@
 -- When a publication answers which fault.
 use Rattle.std.specs.Prelude.{◌≡◌, ◌≤◌, ℕ, Result, Ok, Err}
+use Rattle.qd_durable.specs.declared.fault.LogFault.{LogFault}
+use Rattle.qd_durable.specs.declared.fault.LogFault.TheVariants as read
 use Rattle.qd_io.specs.Ends.{Counts, HasRisen}
 use Rattle.qd_io.specs.declared.fault.IoFault.{IoFault}
 use Rattle.qd_io.specs.declared.fault.IoFault.TheVariants as io
@@ -11,6 +13,7 @@ use Rattle.qd_versions.specs.declared.fault.PublishFault.TheVariants as fault
 abbrev pub CountsPublish : {T : Type 0} → ℕ → ℕ → Result T PublishFault → Type 0
 CountsPublish before now (Ok answer) = now ≡ before
 CountsPublish before now (Err fault.NoRow) = now ≡ before
+CountsPublish before now (Err (fault.Damaged file at)) = now ≡ before
 CountsPublish before now (Err fault.Vol) = (before ≤ now) × HasRisen before now
 CountsPublish before now (Err fault.Memory) = now ≡ before
 CountsPublish before now (Err (fault.Unremoved cause)) = Counts {T = Unit {0}} before now (Err cause)
@@ -19,6 +22,12 @@ CountsPublish before now (Err (fault.Unremoved cause)) = Counts {T = Unit {0}} b
 abbrev pub publish_fault : IoFault → PublishFault
 publish_fault io.Failed = fault.Vol
 publish_fault io.Memory = fault.Memory
+
+-- a fault of what is read, as that of a publication
+abbrev pub read_fault : LogFault → PublishFault
+read_fault (read.Damaged file at) = fault.Damaged file at
+read_fault read.Vol = fault.Vol
+read_fault read.Memory = fault.Memory
 
 -- the graver one of two faults: that of a volume
 abbrev pub graver : IoFault → IoFault → IoFault

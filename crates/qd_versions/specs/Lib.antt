@@ -2,6 +2,7 @@
 pub mod Stores
 pub mod Faults
 pub mod Publishing
+pub mod Tails
 pub mod Writing
 pub mod Calls
 pub mod Opening

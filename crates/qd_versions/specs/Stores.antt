@@ -1,7 +1,9 @@
 -- The versions of a store, and what is known of them on a told volume. The rule is this project's own: the
 -- current version stands in the version files, and the columns of its parts in the files of their blocks.
-use Rattle.std.specs.Prelude.{◌≡◌, ℕ, ◌^◌, ◌<◌, ◌≤◌, List, [], length, All, Option, Some, None, Contains}
+use Rattle.std.specs.Prelude.{◌≡◌, ◌≢◌, ℕ, ◌^◌, ◌<◌, ◌≤◌, List, [], length, take, All, Option, Some, None, Contains}
 use Rattle.qd_base.specs.Lawful.{AreSchemas}
+use Rattle.qd_base.specs.declared.part.Part.{Part}
+use Rattle.qd_block.specs.Blocks.{kinds_in}
 use Rattle.qd_volume.specs.Disk.{Disk}
 use Rattle.qd_txnfile.specs.States.{Knows, Root}
 use Rattle.qd_txnfile.specs.Versions.{Version}
@@ -9,6 +11,7 @@ use Rattle.qd_manifest.specs.declared.shape.Manifest.{Manifest}
 use Rattle.qd_manifest.specs.declared.shape.TableParts.{TableParts}
 use Rattle.qd_manifest.specs.Spelling.{AreParts, IsManifest, manifest_bytes, schemas_in}
 use Rattle.qd_catalog.specs.declared.version.Version as shown
+use Rattle.qd_catalog.specs.Laws.{IsCovered}
 use Rattle.qd_catalog.specs.Versions.{IsListed, IsLive, Versions, version_at, written_of}
 
 -- what contracts see of a store of versions: its root, and its live versions with their blocks
@@ -47,6 +50,14 @@ pub record IsCurrent (s : Store) (x : shown.Version) : Type 0 where
   pub number : x.n ≡ s.root.n
   pub sound : IsManifest x.n (manifest_in s.versions.next_block x.shape)
 
+-- parts of two shapes that name one block read its files as columns of the same kinds
+abbrev pub HaveOneKinds : List TableParts → List TableParts → Type 0
+HaveOneKinds one other = (t u : TableParts) (p q : Part) → Contains one t → Contains t.parts p → Contains other u → Contains u.parts q → p.block ≡ q.block → take p.cols (kinds_in t.schema.cols) ≡ take q.cols (kinds_in u.schema.cols)
+
+-- so do those of any two live versions
+abbrev pub AreAlike : Versions → Type 0
+AreAlike v = (row other : ℕ) (x y : shown.Version) → row ≢ other → version_at v row ≡ Some x → version_at v other ≡ Some y → HaveOneKinds x.shape y.shape
+
 -- What every store of versions keeps: a version shows at most 2^30 transactions, and so the numbers of its
 -- blocks are below 2^52.
 pub record IsStore (s : Store) : Type 0 where
@@ -59,5 +70,8 @@ pub record IsStore (s : Store) : Type 0 where
   pub below : (b : ℕ) → IsListed s.versions b → b < s.versions.next_block
   pub queued : (b : ℕ) → Contains s.versions.retired b → b < s.versions.next_block
   pub has_rows : (b : ℕ) → IsListed s.versions b → 0 < written_of s.versions b
+  -- no live version shows more rows of a block than its files hold, and no two read them as other columns
+  pub covered : IsCovered s.versions
+  pub alike : AreAlike s.versions
   pub apart : (b : ℕ) → IsListed s.versions b → Contains s.versions.retired b → ⊥
   pub small : s.versions.next_block ≤ 2 ^ 52

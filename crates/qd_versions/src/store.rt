@@ -16,21 +16,24 @@ ghost use Rattle.qd_txnfile.specs.States.{IsDirty};
 ghost use Rattle.qd_versions.specs.Calls.{Creates, Publishes, Repairs, SweepsFront};
 ghost use Rattle.qd_versions.specs.Faults.{CountsPublish};
 ghost use Rattle.qd_versions.specs.Opening.{Opens};
-ghost use Rattle.qd_versions.specs.Publishing.{AreNumbered, IsFull, MayPublish};
+ghost use Rattle.qd_versions.specs.Publishing.{AreNumbered, IsFull, IsLostWhere, MayGrow, MayPublish, grown_blocks};
 ghost use Rattle.qd_versions.specs.Reading.{IsPartAt};
 ghost use Rattle.qd_versions.specs.Stores.{IsStore, stored};
+ghost use Rattle.qd_versions.specs.Tails.{AreGrowing, AreTailsRead, IsGrowing, IsGrowthRead};
 ghost use Rattle.qd_versions.specs.declared.fault.PublishFault.TheVariants as fault;
 ghost use Rattle.qd_volume.specs.Disk.{reads_of};
-ghost use Rattle.std.specs.Prelude.{◌≡◌, ◌≢◌, ◌↔◌, ℕ, [], ◌+◌, ◌^◌, ◌<◌, ◌≤◌, true, false, length, Err, Ok, Some, Contains, IfErr, IfOk, IfSome, IsTrue, OnErr, OnOk, slice_get};
+ghost use Rattle.std.specs.List.{IsDistinct};
+ghost use Rattle.std.specs.Prelude.{◌≡◌, ◌≢◌, ◌↔◌, ℕ, [], ◌+◌, ◌^◌, ◌<◌, ◌≤◌, true, false, length, nat_eq, All, Err, Ok, Some, Contains, IfErr, IfOk, IfSome, IsTrue, OnErr, OnOk, slice_get};
 
 use crate::catalog::{add_row, has_free_row, prepare};
 use crate::fault::PublishFault;
+use crate::growing::Growing;
 use crate::opening::catalog_of;
-use crate::published::NewBlock;
+use crate::published::{GrownBlock, NewBlock};
 use crate::writing::{clear, lay_down};
 use qd_block::Block;
 use qd_catalog::{Catalog, manifest_of};
-use qd_column_files::read_block;
+use qd_column_files::{read_block, read_tail};
 use qd_durable::LogFault;
 use qd_io::IoFault;
 use qd_manifest::Shape;
@@ -152,19 +155,23 @@ impl VersionStore {
         self.root.repair(volume)
     }
 
-    /// Publishes a version of `n` transactions, with the blocks that are new in it, and gives its row: it is
-    /// live and current then.
+    /// Publishes a version of `n` transactions, with the blocks that are new in it and the rows that go behind
+    /// those of the current version's parts, and gives its row: it is live and current then.
     ///
-    /// It takes all memory of its own first, some 100 bytes a new block, and time and memory linear in the
-    /// shape; a call of the volume follows for what a failed publication left, two for each file of a new
-    /// block, for whose bytes memory is taken a column at a time, and at most seven for the version files.
+    /// It reads what the rows go on with first, as [`read_tail`] says, and takes all memory of its own, some 100
+    /// bytes a new block, and time and memory linear in the shape. A call of the volume follows for what a failed
+    /// publication left, two for each file of a new block, for whose bytes memory is taken a column at a time,
+    /// three for each file of a block that grows, and at most seven for the version files.
     ///
     /// At every moment a crash leaves what it might have left before, or the new version with all of its new
-    /// blocks; after an `Ok` only that. After an `Err` the versions are as before. [`PublishFault::NoRow`]
-    /// comes exactly where all rows are live, and before any call of the volume. Behind the others the call may
-    /// be made again; where the store is [dirty] a crash may leave the new version. Where it isn't, and the call
-    /// came behind the repair, the files of new blocks read as empty: they were removed, at two calls for each of
-    /// 256 columns of a block. [`PublishFault::Unremoved`] says that a removal failed, and some may be left.
+    /// blocks and the rows behind older ones; after an `Ok` only that. Blocks that grow stay as they were for older
+    /// versions, whatever is answered. After an `Err` the versions are as before. [`PublishFault::NoRow`]
+    /// comes exactly where all rows are live, and before any call of the volume. [`PublishFault::Damaged`] says
+    /// that the files of a block that was to grow are damaged, and comes before anything is written. Behind the
+    /// others the call may be made again; where the store is [dirty] a crash may leave the new version. Where it
+    /// isn't, and the call came behind the repair, the files of new blocks read as empty: they were removed, at two
+    /// calls for each of 256 columns of a block. [`PublishFault::Unremoved`] says that a removal failed, and some
+    /// may be left. There may be any bytes behind the rows of blocks that were to grow.
     ///
     /// [dirty]: VersionStore::dirty
     pub fn publish<V: Volume>(
@@ -174,16 +181,21 @@ impl VersionStore {
         n: u64,
         shape: &Shape,
         blocks: &[NewBlock],
+        grown: &[GrownBlock],
     ) -> Result<u8, PublishFault>
         requires numbered { AreNumbered self.old.versions.next_block blocks.now }
         requires may { MayPublish self.old.versions n shape.now (length blocks.now) }
+        requires grows { All (MayGrow self.old.versions) grown.now }
+        requires apart { IsDistinct nat_eq (grown_blocks self.old.versions grown.now) }
         ensures added { IfOk result (λ row. Adds self.old.versions self.new.versions n shape.now row) }
         ensures number { OnOk result (self.new.root.n ≡ n) }
         ensures same { OnErr result (SameVersions self.old.versions self.new.versions) }
         ensures stays { OnErr result (self.new.root.n ≡ self.old.root.n) }
         ensures full { (result ≡ Err fault.NoRow) ↔ IsFull self.old.versions }
         ensures untouched { result ≡ Err fault.NoRow → (V.storage volume.new ≡ V.storage volume.old) × (self.new ≡ self.old) }
-        ensures told { Told (V.storage volume.old).disk (V.storage volume.new).disk (Publishes result self.old self.new (stored n (self.old.versions.next_block + length blocks.now) shape.now) blocks.now) }
+        ensures damaged { IfErr result (λ cause. IfSome (V.storage volume.old).disk (λ disk. IsLostWhere cause self.old.versions grown.now (reads_of disk))) }
+        ensures unwritten { (file at : ℕ) → result ≡ Err (fault.Damaged file at) → ((V.storage volume.new).disk ≡ (V.storage volume.old).disk) × (self.new ≡ self.old) }
+        ensures told { Told (V.storage volume.old).disk (V.storage volume.new).disk (Publishes result self.old self.new (stored n (self.old.versions.next_block + length blocks.now) shape.now) blocks.now grown.now) }
 
         // The count of faults rises exactly where `Vol` is answered, or `Unremoved` with a fault of the volume.
         ensures counted { CountsPublish (V.storage volume.old).faults (V.storage volume.new).faults result }
@@ -191,6 +203,7 @@ impl VersionStore {
         if !has_free_row(&self.catalog) {
             return Err(PublishFault::NoRow);
         }
+        let mut growing = self.read_tails(alloc, volume, grown)?;
         let next = self.catalog.next_block();
         let (manifest, copy) = prepare(alloc, &mut self.catalog, shape, blocks.len())?;
         lay_down(
@@ -201,8 +214,58 @@ impl VersionStore {
             manifest.bytes(),
             next,
             blocks,
+            growing.as_mut_slice(),
         )?;
         Ok(add_row(&mut self.catalog, n, copy))
+    }
+
+    /// Reads what rows behind those of parts of the current version go on with, of each of them.
+    fn read_tails<V: Volume>(
+        &self,
+        alloc: Global,
+        volume: &mut V,
+        grown: &[GrownBlock],
+    ) -> Result<Vec<Growing>, LogFault>
+        requires grows { All (MayGrow self.now.versions) grown.now }
+        ensures growing { IfOk result (λ growing. AreGrowing self.now.versions grown.now growing.items) }
+        ensures told { IfSome (V.storage volume.old).disk (λ disk. AreTailsRead result self.now.versions grown.now (reads_of disk)) }
+        ensures stays { (V.storage volume.new).disk ≡ (V.storage volume.old).disk }
+        ensures counted { CountsVol (V.storage volume.old).faults (V.storage volume.new).faults result }
+    {
+        let mut growing = Vec::with_capacity(alloc, grown.len())?;
+        for added in grown {
+            let one = self.read_growing(alloc, volume, added)?;
+            growing.push(one)?;
+        }
+        Ok(growing)
+    }
+
+    /// Reads what rows behind those of a part of the current version go on with.
+    fn read_growing<V: Volume>(
+        &self,
+        alloc: Global,
+        volume: &mut V,
+        added: &GrownBlock,
+    ) -> Result<Growing, LogFault>
+        requires may { MayGrow self.now.versions added.now }
+        ensures growing { IfOk result (λ growing. IsGrowing self.now.versions added.now growing) }
+        ensures told { IfSome (V.storage volume.old).disk (λ disk. IsGrowthRead result self.now.versions added.now (reads_of disk)) }
+        ensures stays { (V.storage volume.new).disk ≡ (V.storage volume.old).disk }
+        ensures counted { CountsVol (V.storage volume.old).faults (V.storage volume.new).faults result }
+    {
+        added.rows.is_whole();
+        let shown = self
+            .catalog
+            .shape_of(self.catalog.current())
+            .get(added.table);
+        let part = *shown.parts.get(added.part);
+        let tail = read_tail(alloc, volume, &shown.schema, part)?;
+        let rows = added.rows.clone()?;
+        Ok(Growing {
+            block: part.block,
+            tail,
+            rows,
+        })
     }
 
     /// Says whether a row is live and not the current one, in constant time.

@@ -3,9 +3,8 @@ ghost use Rattle.qd_durable.specs.Moments.{Told};
 ghost use Rattle.qd_io.specs.Ends.{Counts};
 ghost use Rattle.qd_versions.specs.Faults.{CountsPublish, graver, together};
 ghost use Rattle.qd_versions.specs.Publishing.{AreNumbered};
-ghost use Rattle.qd_versions.specs.Writing.{GivesUp, RemovesBlocks};
-ghost use Rattle.qd_versions.specs.declared.fault.PublishFault.TheVariants as fault;
-ghost use Rattle.std.specs.Prelude.{◌≡◌, ◌≢◌, ℕ, ◌+◌, ◌^◌, ◌≤◌, length, Err};
+ghost use Rattle.qd_versions.specs.Writing.{GivesUp, IsLate, RemovesBlocks};
+ghost use Rattle.std.specs.Prelude.{◌≡◌, ℕ, ◌+◌, ◌^◌, ◌≤◌, length, Err};
 
 use crate::fault::PublishFault;
 use crate::published::NewBlock;
@@ -62,7 +61,7 @@ pub(crate) fn give_up<V: Volume>(
 ) -> PublishFault
     requires numbered { AreNumbered next blocks.now }
     requires small { next + length blocks.now ≤ 2 ^ 52 }
-    ensures row { result ≢ fault.NoRow }
+    ensures late { IsLate result }
     ensures told { Told (V.storage volume.old).disk (V.storage volume.new).disk (GivesUp result next blocks.now) }
     ensures counted { (before : ℕ) → Counts {T = Unit {0}} before (V.storage volume.old).faults (Err cause) → CountsPublish {T = Unit {0}} before (V.storage volume.new).faults (Err result) }
 {

@@ -71,7 +71,7 @@ snap_held (Some h) owned row x at (disk, next, same, is) = let shown = is.versio
 -- a publication into the current version finds no other one
 pub unmoved : {T : Type 0} (result : Result T PublishFault) (v : Versions) (m : Merging) (cause : PublishFault) → result ≡ Err cause
     → ((n : ℕ) → (result ≡ Err (publish.Moved n)) ↔ IsMoved v m.base n) → IsMergedOver v m → (n : ℕ) → cause ≡ publish.Moved n → ⊥
-unmoved result v m cause is moved (x, at, (es, contents, db, merged)) n by =
+unmoved result v m cause is moved (x, at, (es, contents, db, merged), extends) n by =
     let there = (moved n).0 (is ∙ ap (λ (c : PublishFault). Err c) by) in
     there.1 (same (current_n v) there.0 (ap n_of at) ∙ sym merged.base)
   where
@@ -83,6 +83,7 @@ pub no_row : {T : Type 0} (result : Result T PublishFault) (v : Versions) (base 
     → ((result ≡ Err publish.NoRow) ↔ ((current_n v ≡ Some base) × IsFull v)) → ((n : ℕ) → cause ≡ publish.Moved n → ⊥) → told ≡ fault.NoRow → IsFull v
 no_row result v base (publish.Moved n) told is named full apart none = absurd (apart n refl)
 no_row result v base publish.NoRow told is named full apart none = (full.0 is).1
+no_row result v base (publish.Damaged file at) told is named full apart none = absurd (let a = named in cc (a, none))
 no_row result v base publish.Vol told is named full apart none = absurd (let a = named in cc (a, none))
 no_row result v base publish.Memory told is named full apart none = absurd (let a = named in cc (a, none))
 

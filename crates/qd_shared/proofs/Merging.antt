@@ -19,13 +19,15 @@ use Rattle.qd_score_model.specs.Machine.{AllPresent}
 use Rattle.qd_score_model.specs.Machine as board
 use Rattle.qd_store.specs.declared.fault.PublishFault.{PublishFault}
 use Rattle.qd_store.specs.Calls.{IsPublished}
-use Rattle.qd_store.specs.Drafts.{Drafted, IsDraftedFrom, IsMerged, IsMergedInto, IsMergedOver, IsNextOf, Merging, between}
+use Rattle.qd_store.specs.Drafts.{Drafted, Extends, IsDraftedFrom, IsMerged, IsMergedInto, IsMergedOver, IsNextOf, Merging, between}
+use Rattle.qd_store.specs.declared.fault.PublishFault.TheVariants as publish
+use Rattle.qd_store.specs.Faults.{IsUndamaged}
 use Rattle.qd_store.specs.Merges.{PublishesMerged, next_version}
 use Rattle.qd_store.specs.Owned.{Store}
 use Rattle.qd_store.specs.Stores.{Book, IsStore}
 use Rattle.qd_txnfile.specs.Versions.{Version}
 use Rattle.qd_volume.specs.Disk.{Disk}
-use Rattle.qd_store.proofs.Rounds.{Merges, merged_over, merged_upto}
+use Rattle.qd_store.proofs.Rounds.{Merges, merged_into, merged_upto}
 use Rattle.qd_store_backend.specs.Backs.{IsTold, current, n_in}
 use Rattle.qd_store_backend.proofs.Told.{told_of}
 use Rattle.qd_shared.specs.declared.rounds.RoundFault.{RoundFault}
@@ -34,7 +36,7 @@ use Rattle.qd_shared.specs.declared.item.Item.{Item}
 use Rattle.qd_shared.specs.Desks.{Desk, items_in, version_of, versions_in}
 use Rattle.qd_shared.specs.Holding.{Finds, Grows, MayEnd}
 use Rattle.qd_shared.specs.Passes.{GoesOnTo, Knowing, Pass, history_of, view_of}
-use Rattle.qd_shared.specs.Publishing.{IsDraftFault, IsDraftOf, IsNext, IsNextAt, IsOf, IsRest, IsRound, OnlyCalls, drafts_fault}
+use Rattle.qd_shared.specs.Publishing.{IsDraftFault, IsDraftOf, IsNext, IsNextAt, IsOf, IsRest, IsRound, OnlyCalls, drafts_fault, publishes_fault}
 use Rattle.qd_shared.proofs.Held.{at_table}
 use Rattle.qd_shared.proofs.Rows.{Row, on_board}
 use Rattle.qd_shared.proofs.Turning.{place_with, rest_grows, rest_items}
@@ -53,6 +55,21 @@ published_told result old new m told None is next = tt
 published_told result old new m told (Some h) (disk, last, at, holds) next =
     let by = told_of (PublishesMerged result old.store new.store m) old.storage.disk new.storage.disk disk at told in
     published_store result new h last (next_version old.store m) by.0 by.1 (by.2.behind h last holds next)
+
+-- what is told of a store has no damage that a publication finds
+pub undamaged_told : (result : Result ℕ PublishFault) (old new : Store) (m : Merging) → Told old.storage.disk new.storage.disk (PublishesMerged result old.store new.store m) → (o : Option (List Entry)) → IfSome o (IsTold old)
+    → (cause : PublishFault) (told : RoundFault) → result ≡ Err cause → told ≡ publishes_fault cause → (file at : ℕ) → told ≡ fault.Damaged file at → o ≡ None
+undamaged_told result old new m published None is cause told failed named file at damaged = refl
+undamaged_told result old new m published (Some h) (disk, last, there, holds) cause told failed named file at damaged =
+    let by = told_of (PublishesMerged result old.store new.store m) old.storage.disk new.storage.disk disk there published in
+    absurd (none cause named (subst IsUndamaged failed (by.2.whole h last holds)))
+  where
+    none : (c : PublishFault) → told ≡ publishes_fault c → IsUndamaged {T = ℕ} (Err c) → ⊥
+    none (publish.Moved n) named whole = cc (named, damaged)
+    none publish.NoRow named whole = cc (named, damaged)
+    none publish.Vol named whole = cc (named, damaged)
+    none (publish.Damaged f a) named whole = whole
+    none publish.Memory named whole = cc (named, damaged)
 
 -- what is said of each history is said of the one that is told
 pub of_told : {T : Type 0} (P : List Entry → T → Type 0) (owned : Store) (t : T) → IfSome owned.storage.disk (λ disk. (h : List Entry) (next : Version) → IsStore owned.store h next disk → P h t) → (o : Option (List Entry)) → IfSome o (IsTold owned) → IfSome o (λ h. P h t)
@@ -106,12 +123,12 @@ live_now None n is = absurd (cc)
 live_now (Some x) n is = (x, refl, (let e = is in cc))
 
 -- where the current version and the next block are as at the draft, a merge is of what comes next
-pub next_now : (d : Desk) (m : Merging) (next : ℕ) → IsNextAt d m next → (current_n d.owned.store.versions.versions ≡ Some m.base) × (d.owned.store.versions.versions.next_block ≡ next) → IsNext d m
-next_now d m next is (now, block) =
+pub next_now : (d : Desk) (m : Merging) (next : ℕ) → IsNextAt d m next → (current_n d.owned.store.versions.versions ≡ Some m.base) × (d.owned.store.versions.versions.next_block ≡ next) × Extends d.owned.store.versions.versions m → IsNext d m
+next_now d m next is (now, block, extends) =
     let (x, at, number) = live_now (current d.owned.store) m.base now in
     let known = is x at number in
     record {
-      over = (x, at, subst (λ (b : ℕ). IsMergedInto b x m) (sym block) known.into);
+      over = (x, at, subst (λ (b : ℕ). IsMergedInto b x m) (sym block) known.into, extends);
       told = by d.history x at known.told;
     }
   where
@@ -130,7 +147,7 @@ pub round_of : (p : Pass) (found left : Desk) (draft : Drafted) (m : Merging) (n
     → IsDraftOf found upto draft → next ≡ found.owned.store.versions.versions.next_block → n_in (current found.owned.store) < upto → upto ≤ length (items_in found) → Merges draft m → IfSome (history_of p) (λ h. length (view_of p).seen ≡ length h) → IsRound p m next
 round_of p found left draft m next upto noted seen history calls d is more few merges count =
     let s = found.owned.store in
-    let over = merged_over s.versions.versions draft m d.over merges in
+    let over = merged_into s.versions.versions draft m d.over merges in
     let number : m.upto ≡ upto = merged_upto s.versions.versions draft m upto d.over merges d.number in
     let x = over.0 in
     let at : current s ≡ Some x = over.1 in

@@ -40,9 +40,9 @@ drafted_fault fault.Memory least d from to refused is f = tt
 
 -- a publication that failed
 pub shown_fault : (f : RoundFault) (least : ℕ) (d from to : Desk) (refused : List Refusal) → from ≡ d → ((row : ℕ) → row < 64 → IsThin d refused row) → (f ≡ fault.NoRow → IsFull from.owned.store.versions.versions)
-    → ((file at : ℕ) → f ≡ fault.Damaged file at → ⊥) → (f ≡ fault.Vol → HasRisen from.owned.storage.faults to.owned.storage.faults) → length from.owned.store.versions.versions.versions ≡ 64 → IsApplied least (Err f) d to refused
+    → ((file at : ℕ) → f ≡ fault.Damaged file at → from.history ≡ None) → (f ≡ fault.Vol → HasRisen from.owned.storage.faults to.owned.storage.faults) → length from.owned.store.versions.versions.versions ≡ 64 → IsApplied least (Err f) d to refused
 shown_fault fault.Vol least d from to refused is thin full sound vol count = subst (λ (x : Desk). HasRisen x.owned.storage.faults to.owned.storage.faults) is (vol refl)
-shown_fault (fault.Damaged file at) least d from to refused is thin full sound vol count = absurd (sound file at refl)
+shown_fault (fault.Damaged file at) least d from to refused is thin full sound vol count = subst (λ (x : Desk). x.history ≡ None) is (sound file at refl)
 shown_fault fault.NoRow least d from to refused is thin full sound vol count =
     all_pinned d refused thin (subst (λ (x : Desk). IsFull x.owned.store.versions.versions) is (full refl)) (subst (λ (x : Desk). length x.owned.store.versions.versions.versions ≡ 64) is count)
 shown_fault fault.Memory least d from to refused is thin full sound vol count = tt

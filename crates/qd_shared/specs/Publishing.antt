@@ -40,6 +40,7 @@ abbrev pub publishes_fault : PublishFault → RoundFault
 publishes_fault (publish.Moved n) = fault.NoRow
 publishes_fault publish.NoRow = fault.NoRow
 publishes_fault publish.Vol = fault.Vol
+publishes_fault (publish.Damaged file at) = fault.Damaged file at
 publishes_fault publish.Memory = fault.Memory
 
 -- ---- drafts and merges

@@ -1,5 +1,5 @@
 //! What lies under the lock.
-ghost use Rattle.std.specs.Prelude.{◌≡◌, ◌≢◌, ◌↔◌, ◌<◌, ◌≤◌, ℕ, List, Some, Ok, Err, length, IfErr, IfOk, IfSome, IsTrue, OnErr};
+ghost use Rattle.std.specs.Prelude.{◌≡◌, ◌≢◌, ◌↔◌, ◌<◌, ◌≤◌, ℕ, List, None, Some, Ok, Err, length, IfErr, IfOk, IfSome, IsTrue, OnErr};
 ghost use Rattle.qd_base.specs.Lawful.{AreSchemas};
 ghost use Rattle.qd_prepare.specs.Prepared.{IsRead, IsShort};
 ghost use Rattle.qd_sql_ast.specs.Kinds.{IsWrite};
@@ -15,7 +15,7 @@ ghost use Rattle.qd_io.specs.Ends.{HasRisen};
 ghost use Rattle.qd_base.specs.declared.limits.TheConstants.{MAX_TXNS};
 ghost use Rattle.qd_shared.specs.declared.rounds.RoundFault.TheVariants as fault;
 ghost use Rattle.qd_shared.specs.Publishing.{drafts_fault, publishes_fault, HasRows, IsDraftFault, IsNext, IsRest};
-ghost use Rattle.qd_store.specs.Drafts.{IsDraftOver, IsDraftedFrom, IsMergedOver, IsNextOf};
+ghost use Rattle.qd_store.specs.Drafts.{Extends, IsDraftOver, IsDraftedFrom, IsMergedOver, IsNextOf};
 ghost use Rattle.qd_versions.specs.Publishing.{IsFull};
 ghost use Rattle.qd_shared.specs.Rounds.{IsBegun, IsPurged, Removes};
 ghost use Rattle.qd_store.specs.declared.fault.PublishFault.TheVariants as publish;
@@ -280,11 +280,14 @@ impl<V: Volume + Drop> Desk<V> {
         self.store.next_block()
     }
 
-    /// Says whether a merge, with new blocks from a number on, is into the current version, and its blocks are the next ones.
+    /// Says whether a merge, with new blocks from a number on, is into the current version, its blocks are the next ones, and the parts
+    /// that it puts rows behind show all that was written to their blocks.
     pub(crate) fn fits(&self, merged: &Merged, next_block: u64) -> bool
-        ensures fits { IsTrue result → (current_n self.now.owned.store.versions.versions ≡ Some merged.now.base) × (self.now.owned.store.versions.versions.next_block ≡ next_block) }
+        ensures fits { IsTrue result → (current_n self.now.owned.store.versions.versions ≡ Some merged.now.base) × (self.now.owned.store.versions.versions.next_block ≡ next_block) × Extends self.now.owned.store.versions.versions merged.now }
     {
-        self.shown_n() == merged.base() && self.next_block() == next_block
+        self.shown_n() == merged.base()
+            && self.next_block() == next_block
+            && self.store.extends(merged)
     }
 
     /// Drafts the first `upto` transactions, as [`Store::draft`] does.
@@ -348,7 +351,7 @@ impl<V: Volume + Drop> Desk<V> {
         ensures removed { self.new.removed ≡ self.old.removed }
         ensures present { HasRows self.new }
         ensures full { result ≡ Err fault.NoRow → IsFull self.old.owned.store.versions.versions }
-        ensures whole { (file : ℕ) (at : ℕ) → result ≡ Err (fault.Damaged file at) → ⊥ }
+        ensures whole { (file : ℕ) (at : ℕ) → result ≡ Err (fault.Damaged file at) → self.old.history ≡ None }
         ensures vol { result ≡ Err fault.Vol → HasRisen self.old.owned.storage.faults self.new.owned.storage.faults }
         ensures small { merged.now.upto ≤ MAX_TXNS }
     {
@@ -424,6 +427,7 @@ fn of_publish(cause: PublishFault) -> RoundFault
     match cause {
         PublishFault::NoRow => RoundFault::NoRow,
         PublishFault::Vol => RoundFault::Vol,
+        PublishFault::Damaged { file, at } => RoundFault::Damaged { file, at },
         PublishFault::Memory => RoundFault::Memory,
         PublishFault::Moved { .. } => unreachable!(),
     }

@@ -36,7 +36,7 @@ AreOf s shape tos blocks disk =
     (h : List Entry) (next : Version) → IsStore s h next disk → (x : catalog.Version) → version_at s.versions.versions s.versions.versions.current ≡ Some x
     → (contents : ℕ → Block) → StandsFor contents shape (first h x.n) → blocks ≡ map (block_there contents shape) tos
 
-module _ (s : Book) (shape : List TableParts) (tables : List StoredTable) (tos : List Touched) (is : tos ≡ all_touched 0 shape tables)
+module _ (s : Book) (written : List (List ℕ)) (split : ℕ) (shape : List TableParts) (tables : List StoredTable) (tos : List Touched) (is : tos ≡ all_touched 0 written split shape tables)
     (y : catalog.Version) (found : version_at s.versions.versions s.versions.versions.current ≡ Some y) (same : shape ≡ y.shape) where
   shape_is : (x : catalog.Version) → version_at s.versions.versions s.versions.versions.current ≡ Some x → shape ≡ x.shape
   shape_is x at = same ∙ ap (λ (z : catalog.Version). z.shape) (same_Some y x (sym found ∙ at))
@@ -46,7 +46,7 @@ module _ (s : Book) (shape : List TableParts) (tables : List StoredTable) (tos :
     y,
     found,
     subst (λ (l : List TableParts). IsThere l (get_or tos i d)) same
-        (All-from_recursion (IsThere shape) tos (subst (AllByRecursion (IsThere shape)) (sym is) (all_there shape 0 shape tables refl)) i d lt),
+        (All-from_recursion (IsThere shape) tos (subst (AllByRecursion (IsThere shape)) (sym is) (all_there shape 0 written split shape tables refl)) i d lt),
   )
 
   pub none_of : (o : Option Disk) → IfSome o (AreOf s shape [] [])
@@ -79,28 +79,28 @@ module _ (s : Book) (shape : List TableParts) (tables : List StoredTable) (tos :
 
     pub told_failed : (cause : LogFault) (o now : Option Disk) → now ≡ o
         → IfSome now (λ disk. (h : List Entry) (next : Version) → IsStore s h next disk → (x : catalog.Version) → version_at s.versions.versions s.versions.versions.current ≡ Some x → IsTouchedFrom (Err cause) x.shape (get_or tos i d) h x.n)
-        → IfSome o (λ disk. (h : List Entry) (next : Version) → IsStore s h next disk → (x : catalog.Version) → version_at s.versions.versions s.versions.versions.current ≡ Some x → AreReadFrom (Err cause) shape tables h x.n)
+        → IfSome o (λ disk. (h : List Entry) (next : Version) → IsStore s h next disk → (x : catalog.Version) → version_at s.versions.versions s.versions.versions.current ≡ Some x → AreReadFrom (Err cause) written split shape tables h x.n)
     told_failed cause None now stays one = tt
     told_failed cause (Some disk) now stays one = λ h next store x at. by cause h x.n x.shape (subst (λ (o : Option Disk). IfSome o (Fails cause)) stays one h next store x at)
       where
         Fails : LogFault → Disk → Type 0
         Fails cause disk = (h : List Entry) (next : Version) → IsStore s h next disk → (x : catalog.Version) → version_at s.versions.versions s.versions.versions.current ≡ Some x → IsTouchedFrom (Err cause) x.shape (get_or tos i d) h x.n
 
-        by : (cause : LogFault) (h : List Entry) (n : ℕ) (l : List TableParts) → IsTouchedFrom (Err cause) l (get_or tos i d) h n → AreReadFrom (Err cause) shape tables h n
+        by : (cause : LogFault) (h : List Entry) (n : ℕ) (l : List TableParts) → IsTouchedFrom (Err cause) l (get_or tos i d) h n → AreReadFrom (Err cause) written split shape tables h n
         by (fault.Damaged file at) h n l broken = broken
         by fault.Vol h n l done = tt
         by fault.Memory h n l done = tt
 
-  pub all_are_read : (i : ℕ) (blocks : List Block) → length tos ≤ i → AllZip (IsReadOf shape) (take i tos) blocks → AreRead shape tables blocks
+  pub all_are_read : (i : ℕ) (blocks : List Block) → length tos ≤ i → AllZip (IsReadOf shape) (take i tos) blocks → AreRead written split shape tables blocks
   all_are_read i blocks le all = subst (λ (l : List Touched). AllZip (IsReadOf shape) l blocks) (take_all i tos le ∙ is) all
 
   pub all_told : (i : ℕ) (blocks : List Block) (o : Option Disk) → length tos ≤ i → IfSome o (AreOf s shape (take i tos) blocks)
-      → IfSome o (λ disk. (h : List Entry) (next : Version) → IsStore s h next disk → (x : catalog.Version) → version_at s.versions.versions s.versions.versions.current ≡ Some x → (contents : ℕ → Block) → StandsFor contents shape (first h x.n) → blocks ≡ read_in contents shape tables)
+      → IfSome o (λ disk. (h : List Entry) (next : Version) → IsStore s h next disk → (x : catalog.Version) → version_at s.versions.versions s.versions.versions.current ≡ Some x → (contents : ℕ → Block) → StandsFor contents shape (first h x.n) → blocks ≡ read_in contents written split shape tables)
   all_told i blocks None le told = tt
   all_told i blocks (Some disk) le told = λ h next store x at contents stands.
       told h next store x at contents stands
       ∙ ap (λ (l : List Touched). map (block_there contents shape) l) (take_all i tos le ∙ is)
-      ∙ all_read shape contents 0 shape tables refl
+      ∙ all_read shape contents 0 written split shape tables refl
 
 -- ---- where a block is lost
 

@@ -1,24 +1,26 @@
 -- Drafts of the transactions behind the current version.
-use Rattle.std.proofs.Common.{◌≡◌, ℕ, ◌+◌, ◌*◌, ◌^◌, ◌<◌, ◌≤◌, List, length, map, take, All, Option, Some, None, IfSome, Result, Ok, Err, sym, ap, subst, ◌∙◌, arith, Vec}
+use Rattle.std.proofs.Common.{◌≡◌, ℕ, ◌+◌, ◌*◌, ◌^◌, ◌<◌, ◌≤◌, List, [], ◌∷◌, length, map, take, All, Option, Some, None, IfSome, Result, Ok, Err, refl, sym, ap, ap₂, subst, ◌∙◌, arith, Vec}
 use Rattle.std.specs.Arc.{arc_value}
 use Rattle.std.specs.declared.sync.Arc.{Arc}
 use Rattle.std.specs.declared.alloc.Global.{Global}
-use Rattle.std.proofs.lemmas.List.{length-drop, length-take}
+use Rattle.std.proofs.lemmas.List.{length-drop, length-map, length-take}
 use Rattle.std.proofs.lemmas.List.Elements.{All-weaker}
 use Rattle.qd_base.specs.declared.op.Entry.{Entry}
+use Rattle.qd_base.specs.declared.part.Part.{Part}
 use Rattle.qd_base.specs.declared.schema.Schema.{Schema}
 use Rattle.qd_base.specs.Database.{StoredTable}
 use Rattle.qd_base.specs.Lawful.{LawfulFrom}
 use Rattle.qd_base.specs.Replay.{first}
 use Rattle.qd_block.specs.Blocks.{Block}
 use Rattle.qd_catalog.specs.declared.version.Version.{Version}
-use Rattle.qd_catalog.specs.Versions.{current_n, n_of, version_at}
-use Rattle.qd_apply.specs.Drafts.{Drafting}
-use Rattle.qd_apply.specs.Laws.{RowsAreFew}
+use Rattle.qd_catalog.specs.Versions.{current_n, n_of, version_at, written_of, Versions}
+use Rattle.qd_apply.specs.Drafts.{Drafting, Planning}
+use Rattle.qd_apply.specs.Laws.{CountsParts, RowsAreFew}
 use Rattle.qd_apply.specs.Plans.{all_touched, read_in, with_batch}
 use Rattle.qd_apply.specs.Stands.{StandsFor}
 use Rattle.qd_durable.specs.declared.fault.LogFault.{LogFault}
 use Rattle.qd_durable.specs.declared.fault.LogFault.TheVariants as fault
+use Rattle.qd_manifest.specs.declared.shape.TableParts.{TableParts}
 use Rattle.qd_manifest.specs.declared.shape.TheConstants.{BLOCKS_PER_TRANSACTION}
 use Rattle.qd_txnfile.specs.Versions as root
 use Rattle.qd_versions.specs.Stores as versions
@@ -26,6 +28,7 @@ use Rattle.qd_volume.specs.Disk.{Disk, Image, reads_of}
 use Rattle.qd_store.specs.Damage.{IsDamagedOver, IsDraftDamage, LosesBlock}
 use Rattle.qd_store.specs.Drafting.{AreArrived, AreRead, AreReadFrom, HasArrived, IsArrived, IsArrivedFrom}
 use Rattle.qd_store.specs.Drafts.{Drafted, IsDraftOver, IsDraftedFrom, between, plan_of}
+use Rattle.qd_store.specs.Grown.{rows_written}
 use Rattle.qd_store.specs.Prefixes.{IsShown}
 use Rattle.qd_store.specs.Stores.{Book, IsStore}
 use Rattle.qd_store.proofs.Arrived.{shown_now}
@@ -34,40 +37,68 @@ use Rattle.qd_store.proofs.BlocksRead.{same_cause}
 use Rattle.qd_store.proofs.Fills.{drafted}
 use Rattle.qd_store.proofs.FewRows.{rows_few}
 
+-- what is planned of what has arrived
+abbrev pub planning : Drafting → List (List ℕ) → ℕ → Planning
+planning d written split = record {
+  base = d.base;
+  upto = d.upto;
+  next_block = d.next_block;
+  shape = d.shape;
+  tables = map with_batch d.tables;
+  written = written;
+  split_rows = split;
+}
+
 -- the plan of what has arrived
-planned : (next : ℕ) (x : Version) (es : List Entry) (upto : ℕ) (arrived plan : Drafting) → HasArrived next x es upto arrived
-    → plan ≡ record arrived { tables = map with_batch arrived.tables } → plan ≡ plan_of next x es
-planned next x es upto arrived plan has is =
+planned : (written : List (List ℕ)) (split next : ℕ) (x : Version) (es : List Entry) (upto : ℕ) (arrived : Drafting) (plan : Planning) → HasArrived next x es upto arrived
+    → plan ≡ planning arrived written split → plan ≡ plan_of written split next x es
+planned written split next x es upto arrived plan has is =
     is
-    ∙ ap (λ (d : Drafting). let p : Drafting = record d { tables = map with_batch d.tables } in p) has.draft
-    ∙ ap (λ (n : ℕ). let p : Drafting = record (plan_of next x es) { upto = n } in p) (sym has.counted)
+    ∙ ap (λ (d : Drafting). planning d written split) has.draft
+    ∙ ap (λ (n : ℕ). let p : Planning = record (plan_of written split next x es) { upto = n } in p) (sym has.counted)
+
+-- there is a count for each part
+pub counts_parts : (s : Book) (upto : ℕ) (arrived : Drafting) → IsArrived s.versions.versions upto arrived → (written : List (List ℕ))
+    → ((x : Version) → version_at s.versions.versions s.versions.versions.current ≡ Some x → written ≡ rows_written s.versions.versions x.shape) → CountsParts arrived.shape written
+counts_parts s upto arrived (x, es, at, has) written rows =
+    subst (λ (l : List TableParts). CountsParts l written) (sym (ap (λ (d : Drafting). d.shape) has.draft))
+    (subst (CountsParts x.shape) (sym (rows x at)) (counts s.versions.versions x.shape))
+  where
+    counts : (v : Versions) (shape : List TableParts) → CountsParts shape (rows_written v shape)
+    counts v [] = refl
+    counts v (t ∷ ts) = ap₂ (λ (n : ℕ) (ns : List ℕ). n ∷ ns) (length-map t.parts (λ (p : Part). written_of v p.block)) (counts v ts)
 
 -- ---- whatever the files hold
 
-module _ (v : versions.Store) (law : versions.IsStore v) (upto : ℕ) (arrived : Drafting) (is : IsArrived v.versions upto arrived) where
-  module _ (plan : Drafting) (plan_is : plan ≡ record arrived { tables = map with_batch arrived.tables }) where
+module _ (v : versions.Store) (law : versions.IsStore v) (written : List (List ℕ)) (split upto : ℕ) (arrived : Drafting) (is : IsArrived v.versions upto arrived) where
+  module _ (plan : Planning) (plan_is : plan ≡ planning arrived written split) where
     pub drafted_over : (few : upto ≤ 2 ^ 30) (more : (n : ℕ) → current_n v.versions ≡ Some n → n < upto) (blocks : List Block)
-        → AreRead plan.shape plan.tables blocks → IsDraftOver v.versions (record { plan = plan; blocks = blocks })
-    drafted_over few more blocks read =
+        → ((x : Version) → version_at v.versions v.versions.current ≡ Some x → written ≡ rows_written v.versions x.shape)
+        → AreRead plan.written plan.split_rows plan.shape plan.tables blocks → IsDraftOver v.versions (record { plan = plan; blocks = blocks })
+    drafted_over few more blocks rows read =
         let x = is.0 in
         let es = is.1 in
         let next = v.versions.next_block in
         let counted : x.n + length es ≡ upto = is.3.counted in
         let room : x.n + length es ≤ 2 ^ 30 = omega (arith, counted, few) in
-        let so : plan ≡ plan_of next x es = planned next x es upto arrived plan is.3 plan_is in
+        let so : plan ≡ plan_of written split next x es = planned written split next x es upto arrived plan is.3 plan_is in
         let some : 0 < length es = omega (arith, counted, more x.n (ap n_of is.2)) in
-        let same : AreRead x.shape (plan_of next x es).tables blocks = subst (λ (p : Drafting). AreRead p.shape p.tables blocks) so read in
-        (x, is.2, drafted next x es (record { plan = plan; blocks = blocks }) (law.current x is.2).sound is.3.lawful some room so same)
+        let same : AreRead written split x.shape (plan_of written split next x es).tables blocks = subst (λ (p : Planning). AreRead p.written p.split_rows p.shape p.tables blocks) so read in (
+          x,
+          is.2,
+          drafted written split next x es (record { plan = plan; blocks = blocks }) (law.current x is.2).sound is.3.lawful some room so same,
+          ap (λ (p : Planning). p.written) so ∙ rows x is.2,
+        )
 
 -- ---- of a history
 
 module _ (s : Book) (law : versions.IsStore s.versions) (rows : RowsAreFew) (upto : ℕ) (h : List Entry) (next : root.Version) (disk : Disk) (is : IsStore s h next disk) where
-  pub drafted_from : (few : upto ≤ 2 ^ 30) (more : (n : ℕ) → current_n s.versions.versions ≡ Some n → n < upto) (arrived plan : Drafting)
-      → IsArrivedFrom (Ok arrived) s h upto → plan ≡ record arrived { tables = map with_batch arrived.tables }
+  pub drafted_from : (few : upto ≤ 2 ^ 30) (more : (n : ℕ) → current_n s.versions.versions ≡ Some n → n < upto) (written : List (List ℕ)) (split : ℕ) (arrived : Drafting) (plan : Planning)
+      → IsArrivedFrom (Ok arrived) s h upto → plan ≡ planning arrived written split
       → (list : Vec (Arc Block Global) Global)
-      → ((x : Version) → version_at s.versions.versions s.versions.versions.current ≡ Some x → AreReadFrom (Ok list) plan.shape plan.tables h x.n)
+      → ((x : Version) → version_at s.versions.versions s.versions.versions.current ≡ Some x → AreReadFrom (Ok list) plan.written plan.split_rows plan.shape plan.tables h x.n)
       → IsDraftedFrom (Ok (record { plan = plan; blocks = map arc_value list.items })) s h upto
-  drafted_from few more arrived plan (x, at, has) plan_is list read =
+  drafted_from few more written split arrived plan (x, at, has) plan_is list read =
       let shown : IsShown h x.n x.shape disk = shown_now s h next disk is x at in
       let es : List Entry = between h x.n upto in
       let above : x.n < upto = more x.n (ap n_of at) in
@@ -75,7 +106,7 @@ module _ (s : Book) (law : versions.IsStore s.versions) (rows : RowsAreFew) (upt
       let counted : x.n + length es ≡ upto = has.counted in
       let room : x.n + length es ≤ 2 ^ 30 = omega (arith, counted, few) in
       let within : upto ≤ length h = omega (arith, counted, low, length-drop x.n (take upto h), length-take upto h) in
-      let so : plan ≡ plan_of s.versions.versions.next_block x es = planned s.versions.versions.next_block x es upto arrived plan has plan_is in
+      let so : plan ≡ plan_of written split s.versions.versions.next_block x es = planned written split s.versions.versions.next_block x es upto arrived plan has plan_is in
       let stands : StandsFor shown.blocks x.shape (first h x.n) = shown.stands in (
         x,
         shown.blocks,
@@ -91,31 +122,33 @@ module _ (s : Book) (law : versions.IsStore s.versions) (rows : RowsAreFew) (upt
                 (All-weaker (λ (t : StoredTable). length t.rows ≤ upto * BLOCKS_PER_TRANSACTION) (λ (t : StoredTable). length t.rows < 2 ^ 64)
                 (λ t le. omega (arith, le, few)) (first h upto) (rows_few rows h upto is.sequence.lawful within));
           };
+          written = written;
+          split = split;
           plan = so;
-          read = subst (λ (p : Drafting). StandsFor shown.blocks p.shape (first h x.n) → map arc_value list.items ≡ read_in shown.blocks p.shape p.tables) so (read x at shown.blocks) stands;
+          read = subst (λ (p : Planning). StandsFor shown.blocks p.shape (first h x.n) → map arc_value list.items ≡ read_in shown.blocks p.written p.split_rows p.shape p.tables) so (read x at shown.blocks) stands;
         },
       )
 
   -- where the blocks aren't read
-  pub none_read : (cause : LogFault) (arrived plan : Drafting) → IsArrivedFrom (Ok arrived) s h upto
-      → ((x : Version) → version_at s.versions.versions s.versions.versions.current ≡ Some x → AreReadFrom (Err cause) plan.shape plan.tables h x.n)
+  pub none_read : (cause : LogFault) (arrived : Drafting) (plan : Planning) → IsArrivedFrom (Ok arrived) s h upto
+      → ((x : Version) → version_at s.versions.versions s.versions.versions.current ≡ Some x → AreReadFrom (Err cause) plan.written plan.split_rows plan.shape plan.tables h x.n)
       → IsDraftedFrom (Err cause) s h upto
   none_read cause arrived plan (x, at, has) read = by cause (read x at)
     where
-      by : (cause : LogFault) → AreReadFrom (Err cause) plan.shape plan.tables h x.n → IsDraftedFrom (Err cause) s h upto
+      by : (cause : LogFault) → AreReadFrom (Err cause) plan.written plan.split_rows plan.shape plan.tables h x.n → IsDraftedFrom (Err cause) s h upto
       by (fault.Damaged file place) none = none
       by fault.Vol none = tt
       by fault.Memory none = tt
 
 -- the same of a volume that may tell nothing
 module _ (s : Book) (law : versions.IsStore s.versions) (rows : RowsAreFew) (upto : ℕ) (few : upto ≤ 2 ^ 30) (more : (n : ℕ) → current_n s.versions.versions ≡ Some n → n < upto)
-    (arrived plan : Drafting) (plan_is : plan ≡ record arrived { tables = map with_batch arrived.tables }) where
+    (written : List (List ℕ)) (split : ℕ) (arrived : Drafting) (plan : Planning) (plan_is : plan ≡ planning arrived written split) where
   abbrev pub HasTold : Disk → Type 0
   HasTold disk = (h : List Entry) (next : root.Version) → IsStore s h next disk → IsArrivedFrom (Ok arrived) s h upto
 
   abbrev pub ReadsTold : Result (Vec (Arc Block Global) Global) LogFault → Disk → Type 0
   ReadsTold result disk = (h : List Entry) (next : root.Version) → IsStore s h next disk → (x : Version)
-      → version_at s.versions.versions s.versions.versions.current ≡ Some x → AreReadFrom result plan.shape plan.tables h x.n
+      → version_at s.versions.versions s.versions.versions.current ≡ Some x → AreReadFrom result plan.written plan.split_rows plan.shape plan.tables h x.n
 
   abbrev pub DraftsTold : Result Drafted LogFault → Disk → Type 0
   DraftsTold result disk = (h : List Entry) (next : root.Version) → IsStore s h next disk → IsDraftedFrom result s h upto
@@ -125,7 +158,7 @@ module _ (s : Book) (law : versions.IsStore s.versions) (rows : RowsAreFew) (upt
   drafted_told list None now same has read = tt
   drafted_told list (Some disk) now same has read =
       let told : ReadsTold (Ok list) disk = subst (λ (o : Option Disk). IfSome o (ReadsTold (Ok list))) same read in
-      λ h next is. drafted_from s law rows upto h next disk is few more arrived plan (has h next is) plan_is list (told h next is)
+      λ h next is. drafted_from s law rows upto h next disk is few more written split arrived plan (has h next is) plan_is list (told h next is)
 
   pub undrafted_told : (cause : LogFault) (o now : Option Disk) → now ≡ o → IfSome o HasTold → IfSome now (ReadsTold (Err cause)) → IfSome o (DraftsTold (Err cause))
   undrafted_told cause None now same has read = tt
@@ -144,20 +177,22 @@ module _ {T : Type 0} (result : Result T LogFault) (cause : LogFault) (failed : 
       subst (λ (f : LogFault). AreArrived (Err f) s upto (reads_of disk)) (same_cause result cause (fault.Damaged file at) failed damaged) read
 
   -- behind that
-  module _ {B : Type 0} (blocks : Result B LogFault) (lost : blocks ≡ Err cause) (arrived plan : Drafting) (plan_is : plan ≡ record arrived { tables = map with_batch arrived.tables }) where
-    in_blocks : (image : Image) (file at : ℕ) → AreArrived (Ok arrived) s upto image → LosesBlock (all_touched 0 plan.shape plan.tables) plan.shape image file at → IsDraftDamage s upto image file at
+  module _ {B : Type 0} (blocks : Result B LogFault) (lost : blocks ≡ Err cause) (written : List (List ℕ)) (arrived : Drafting) (plan : Planning) (plan_is : plan ≡ planning arrived written s.limits.split_rows)
+      (rows : (x : Version) → version_at s.versions.versions s.versions.versions.current ≡ Some x → written ≡ rows_written s.versions.versions x.shape) where
+    in_blocks : (image : Image) (file at : ℕ) → AreArrived (Ok arrived) s upto image → LosesBlock (all_touched 0 plan.written plan.split_rows plan.shape plan.tables) plan.shape image file at → IsDraftDamage s upto image file at
     in_blocks image file at (x, es, current, spelled, has) loses = (
       x,
       current,
       IsDamagedOver.InBlocks es file at spelled has.lawful
-          (subst (λ (p : Drafting). LosesBlock (all_touched 0 p.shape p.tables) p.shape image file at) (planned s.versions.versions.next_block x es upto arrived plan has plan_is) loses),
+          (subst (λ (w : List (List ℕ)). LosesBlock (all_touched 0 w s.limits.split_rows x.shape (plan_of w s.limits.split_rows s.versions.versions.next_block x es).tables) x.shape image file at) (rows x current)
+          (subst (λ (p : Planning). LosesBlock (all_touched 0 p.written p.split_rows p.shape p.tables) p.shape image file at) (planned written s.limits.split_rows s.versions.versions.next_block x es upto arrived plan has plan_is) loses)),
     )
 
     pub reads_damaged : (o now : Option Disk) → now ≡ o → IfSome o (λ disk. AreArrived (Ok arrived) s upto (reads_of disk))
-        → IfSome now (λ disk. (file at : ℕ) → blocks ≡ Err (fault.Damaged file at) → LosesBlock (all_touched 0 plan.shape plan.tables) plan.shape (reads_of disk) file at)
+        → IfSome now (λ disk. (file at : ℕ) → blocks ≡ Err (fault.Damaged file at) → LosesBlock (all_touched 0 plan.written plan.split_rows plan.shape plan.tables) plan.shape (reads_of disk) file at)
         → IfSome o (λ disk. (file at : ℕ) → result ≡ Err (fault.Damaged file at) → IsDraftDamage s upto (reads_of disk) file at)
     reads_damaged None now same has loses = tt
     reads_damaged (Some disk) now same has loses = λ file at damaged.
         in_blocks (reads_of disk) file at has
-        (subst (λ (p : Option Disk). IfSome p (λ disk. (file at : ℕ) → blocks ≡ Err (fault.Damaged file at) → LosesBlock (all_touched 0 plan.shape plan.tables) plan.shape (reads_of disk) file at)) same loses
+        (subst (λ (p : Option Disk). IfSome p (λ disk. (file at : ℕ) → blocks ≡ Err (fault.Damaged file at) → LosesBlock (all_touched 0 plan.written plan.split_rows plan.shape plan.tables) plan.shape (reads_of disk) file at)) same loses
         file at (subst (λ (f : LogFault). blocks ≡ Err f) (same_cause result cause (fault.Damaged file at) failed damaged) lost))

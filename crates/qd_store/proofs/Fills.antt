@@ -43,16 +43,16 @@ zip_map R S f h [] (z ∷ zs) zip = absurd zip
 zip_map R S f h (x ∷ xs) [] zip = absurd zip
 zip_map R S f h (x ∷ xs) (z ∷ zs) zip = (h x z zip.0, zip_map R S f h xs zs zip.1)
 
-module _ (shape : List TableParts) (apart : IsDistinct nat_eq (map number (placed shape))) where
+module _ (written : List (List ℕ)) (split : ℕ) (shape : List TableParts) (apart : IsDistinct nat_eq (map number (placed shape))) where
   read_serves : (to : Touched) (b : Block) → IsReadOf shape to b → Serves (placed shape) (number_at shape to) b
   read_serves to b is =
       subst (λ (n : ℕ). Serves (placed shape) n b) (sym (number_there shape to is.table is.part is.its_table is.its_part))
       (one_serves (placed shape) (place is.table.schema is.part) b apart (among_tables shape to.table to.part is.table is.part is.its_table is.its_part) (record { of = is.of; whole = is.whole }))
 
-  reads_serve : (ts : List StoredTable) (blocks : List Block) → AreRead shape ts blocks → AllZip (Serves (placed shape)) (numbers_read shape ts) blocks
+  reads_serve : (ts : List StoredTable) (blocks : List Block) → AreRead written split shape ts blocks → AllZip (Serves (placed shape)) (numbers_read written split shape ts) blocks
   reads_serve ts blocks read =
-      subst (λ (ns : List ℕ). AllZip (Serves (placed shape)) ns blocks) (numbers_at shape ts)
-      (zip_map (IsReadOf shape) (Serves (placed shape)) (number_at shape) read_serves (all_touched 0 shape ts) blocks read)
+      subst (λ (ns : List ℕ). AllZip (Serves (placed shape)) ns blocks) (numbers_at written split shape ts)
+      (zip_map (IsReadOf shape) (Serves (placed shape)) (number_at shape) read_serves (all_touched 0 written split shape ts) blocks read)
 
 -- blocks that serve for all numbers fit each part by its own
 own_fits : (contents : ℕ → Block) (list : List Placed) → ((n : ℕ) → Serves list n (contents n))
@@ -108,26 +108,26 @@ have_fillers shape schemas parts =
 
 -- A version whose manifest is sound may have blocks: those of the parts that a merge reads are the ones at hand. The database that it
 -- then stands for has room for the transactions.
-pub filled : (next : ℕ) (x : Version) (es : List Entry) (blocks : List Block)
+pub filled : (written : List (List ℕ)) (split next : ℕ) (x : Version) (es : List Entry) (blocks : List Block)
     → IsManifest x.n (manifest_in next x.shape) → LawfulFrom (schemas_in x.shape) es
     → x.n + length es ≤ 2 ^ 30
-    → AreRead x.shape (plan_of next x es).tables blocks
-    → (contents : ℕ → Block) × (db : Database) × StandsFor contents x.shape db × (schemas_of db ≡ schemas_in x.shape) × (blocks ≡ read_in contents x.shape (plan_of next x es).tables) × All (λ (t : StoredTable). length t.rows < 2 ^ 64) (replay db es)
-filled next x es blocks manifest lawful room read =
+    → AreRead written split x.shape (plan_of written split next x es).tables blocks
+    → (contents : ℕ → Block) × (db : Database) × StandsFor contents x.shape db × (schemas_of db ≡ schemas_in x.shape) × (blocks ≡ read_in contents written split x.shape (plan_of written split next x es).tables) × All (λ (t : StoredTable). length t.rows < 2 ^ 64) (replay db es)
+filled written split next x es blocks manifest lawful room read =
     let shape : List TableParts = x.shape in
     let list : List Placed = placed shape in
-    let ts : List StoredTable = (plan_of next x es).tables in
-    let ns : List ℕ = numbers_read shape ts in
+    let ts : List StoredTable = (plan_of written split next x es).tables in
+    let ns : List ℕ = numbers_read written split shape ts in
     let contents : ℕ → Block = chosen ns blocks (fillers list) in
     let db : Database = shown contents shape in
     let apart : IsDistinct nat_eq (map number list) = subst (IsDistinct nat_eq) (sym (numbers_are shape)) manifest.distinct in
     let fill = have_fillers shape manifest.schemas manifest.parts in
-    let zip : AllZip (Serves list) ns blocks = reads_serve shape apart ts blocks read in
+    let zip : AllZip (Serves list) ns blocks = reads_serve written split shape apart ts blocks read in
     let serve : (n : ℕ) → Serves list n (contents n) = chosen_serve list ns blocks (fillers list) zip (λ n. fillers_serve list n apart fill) in
     let have : HaveBlocks contents shape = of_each (λ (y : Placed). Fits y.schema y.part (contents (number y))) shape (own_fits contents list serve) in
     let stands : StandsFor contents shape db = stand contents shape manifest.parts have in
     let same : schemas_of db ≡ schemas_in shape = sym stands.schemas in
-    let are : map contents ns ≡ blocks = chosen_are (Serves list) ns blocks (fillers list) (numbers_apart shape ts manifest.distinct) zip in
+    let are : map contents ns ≡ blocks = chosen_are (Serves list) ns blocks (fillers list) (numbers_apart written split shape ts manifest.distinct) zip in
     let most : ℕ = x.n * BLOCKS_PER_TRANSACTION in
     let few = shown_few most contents shape manifest.few have in
     let grown = replay_few most db es (subst AreSchemas (sym same) manifest.schemas) (subst (λ (l : List Schema). LawfulFrom l es) (sym same) lawful) few in (
@@ -135,18 +135,18 @@ filled next x es blocks manifest lawful room read =
       db,
       stands,
       same,
-      sym (read_by_number contents shape ts ∙ are),
+      sym (read_by_number contents written split shape ts ∙ are),
       (λ k d lt. let le = All-from_recursion (λ (t : StoredTable). length t.rows ≤ most + length es * BLOCKS_PER_TRANSACTION) (replay db es) grown k d lt in omega (arith, le, room)),
     )
 
 -- So transactions that come behind such a version, planned, with the blocks that their merge reads, are a draft into it.
-pub drafted : (next : ℕ) (x : Version) (es : List Entry) (d : Drafted)
+pub drafted : (written : List (List ℕ)) (split next : ℕ) (x : Version) (es : List Entry) (d : Drafted)
     → IsManifest x.n (manifest_in next x.shape) → LawfulFrom (schemas_in x.shape) es
     → 0 < length es → x.n + length es ≤ 2 ^ 30
-    → d.plan ≡ plan_of next x es → AreRead x.shape (plan_of next x es).tables d.blocks
+    → d.plan ≡ plan_of written split next x es → AreRead written split x.shape (plan_of written split next x es).tables d.blocks
     → IsDraftInto next x d
-drafted next x es d manifest lawful some room plan read =
-    let found = filled next x es d.blocks manifest lawful room read in (
+drafted written split next x es d manifest lawful some room plan read =
+    let found = filled written split next x es d.blocks manifest lawful room read in (
       es,
       found.0,
       found.1,
@@ -159,6 +159,8 @@ drafted next x es d manifest lawful some room plan read =
           room = room;
           few = found.5;
         };
+        written = written;
+        split = split;
         plan = plan;
         read = found.4;
       },

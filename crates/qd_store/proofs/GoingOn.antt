@@ -1,5 +1,5 @@
 -- Writers that are kept go on.
-use Rattle.std.proofs.Common.{◌≡◌, ℕ, suc, ◌==◌, Bool, true, false, cond, List, [], ◌∷◌, length, Option, None, Some, find, is_some, unwrap_or, refl, sym, ap, subst, ◌∙◌}
+use Rattle.std.proofs.Common.{◌≡◌, ℕ, suc, ◌==◌, Bool, true, false, cond, List, [], ◌∷◌, length, None, Some, find, is_some, unwrap_or, refl, sym, ap, subst, ◌∙◌}
 use Rattle.std.proofs.lemmas.Bool.{eq-eqb, eqb-true}
 use Rattle.qd_sequencer.specs.Sequences.{chosen, fresh, with_writer}
 use Rattle.qd_wal.specs.declared.writer.WalWriter.{WalWriter}

@@ -8,6 +8,9 @@ pub mod Sweeping
 pub mod Opened
 pub mod OpenedStore
 pub mod Unique
+pub mod Fronts
+pub mod GrownFiles
+pub mod GrownParts
 pub mod Publishing
 pub mod Whole
 pub mod OpenTold
@@ -34,8 +37,8 @@ pub mod NewNumbers
 pub mod GrownTables
 pub mod Served
 pub mod MergedNext
-pub mod NextBlocks
 pub mod MergedVersion
+pub mod Lost
 pub mod PublishedMerged
 pub mod Books
 pub mod Settled

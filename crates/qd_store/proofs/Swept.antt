@@ -28,7 +28,8 @@ use Rattle.qd_store.proofs.Sides.{Shows, Spares, made_now, shown_kept, versions_
 use Rattle.qd_versions.specs.Calls.{SweepsFront, is_swept_file}
 use Rattle.qd_store.specs.Calls.{Stands}
 use Rattle.qd_store.proofs.Sweeping.{given_known, left_spared, live_spared, sweep_elsewhere, swept, zero_spared}
-use Rattle.qd_store.proofs.Publishing.{no_version_high, version_spares}
+use Rattle.qd_store.proofs.Publishing.{version_spares}
+use Rattle.qd_store.proofs.GrownFiles.{no_version_high}
 use Rattle.std.proofs.Common.{slice_get, Result}
 
 -- what a call changes of the catalogue, where it adds and retires no version

@@ -7,27 +7,22 @@ use Rattle.qd_base.specs.declared.op.Entry.{Entry}
 use Rattle.qd_base.specs.declared.part.Part.{Part}
 use Rattle.qd_base.specs.Database.{StoredTable}
 use Rattle.qd_base.specs.Replay.{first}
-use Rattle.qd_base.specs.Rows.{time_of}
 use Rattle.qd_block.specs.Blocks.{Block, IsWhole}
 use Rattle.qd_catalog.specs.declared.version.Version as catalog
 use Rattle.qd_catalog.specs.Versions.{version_at}
 use Rattle.qd_apply.specs.declared.plans.Touched.{Touched}
 use Rattle.qd_apply.specs.Arrivals.{rest}
-use Rattle.qd_apply.specs.Given.{touched, IsMergeAct}
-use Rattle.qd_apply.specs.Next.{acts_of, batch_of, first_parts}
+use Rattle.qd_apply.specs.Given.{touched}
+use Rattle.qd_apply.specs.Next.{first_counts, first_parts, shares_of}
 use Rattle.qd_apply.specs.Plans.{all_touched, block_at, read_in, touch}
 use Rattle.qd_apply.specs.Stands.{StandsFor}
-use Rattle.qd_apply.proofs.PlanLemmas.{merge_acts}
 use Rattle.qd_durable.specs.declared.fault.LogFault.{LogFault}
 use Rattle.qd_durable.specs.declared.fault.LogFault.TheVariants as fault
 use Rattle.qd_column_files.specs.Laws.{OneBlockIsHeld}
 use Rattle.qd_column_files.specs.Reading.{IsBlockRead}
 use Rattle.qd_manifest.specs.declared.shape.TableParts.{TableParts}
 use Rattle.qd_manifest.specs.Spelling.{blocks_of, no_part}
-use Rattle.qd_merge.specs.declared.plan.Act.{Act}
-use Rattle.qd_merge.specs.declared.plan.Act.TheVariants as act
 use Rattle.qd_scan.specs.Sources.{IsBlockOf}
-use Rattle.qd_time.specs.Units.{unit_of}
 use Rattle.qd_txnfile.specs.Versions.{Version}
 use Rattle.qd_versions.specs.Reading.{IsPartAt}
 use Rattle.qd_volume.specs.Disk.{Disk, reads_of}
@@ -37,22 +32,13 @@ use Rattle.qd_store.specs.Prefixes.{IsShown}
 use Rattle.qd_store.specs.Stores.{Book, IsStore}
 use Rattle.qd_store.proofs.Opened.{in_shape}
 use Rattle.qd_store.proofs.PartsRead.{got, read_is}
+use Rattle.qd_store.proofs.Touching.{rises_low, table_rises}
 use Rattle.qd_store.proofs.Unique.{stands_one}
 
 -- ---- the parts of a table
 
-touched_low : (count : ℕ) (acts : List Act) → AllByRecursion (IsMergeAct count) acts → AllByRecursion (λ n. n < count) (touched acts)
-touched_low count [] h = tt
-touched_low count (act.Keep part ∷ acts) h = touched_low count acts h.1
-touched_low count (act.Append part from to ∷ acts) h = absurd h.0
-touched_low count (act.Shorten part rows ∷ acts) h = absurd h.0
-touched_low count (act.Write None skip from to ∷ acts) h = touched_low count acts h.1
-touched_low count (act.Write (Some part) skip from to ∷ acts) h = (h.0.0, touched_low count acts h.1)
-
-parts_low : (parts : List Part) (t : StoredTable) → AllByRecursion (λ n. n < length parts) (touched (acts_of parts t))
-parts_low parts t =
-    touched_low (length parts) (acts_of parts t)
-    (merge_acts (length parts) (unit_of t.schema.unit) (map (time_of t.schema.time_col) (batch_of t)) 0 0 parts (omega arith))
+parts_low : (counts : List ℕ) (split : ℕ) (parts : List Part) (t : StoredTable) → AllByRecursion (λ n. n < length parts) (touched (shares_of counts split parts t))
+parts_low counts split parts t = rises_low (length parts) 0 (touched (shares_of counts split parts t)) (table_rises counts split parts t)
 
 -- ---- the parts of all tables
 
@@ -88,15 +74,15 @@ module _ (whole : List TableParts) where
   none_in_table n [] low = tt
   none_in_table n (k ∷ ks) low = absurd (omega (arith, low.0))
 
-  one_table : (n : ℕ) (shape : List TableParts) → drop n whole ≡ shape → (t : StoredTable) → AllByRecursion (IsThere whole) (map (touch n) (touched (acts_of (first_parts shape) t)))
-  one_table n [] e t = none_in_table n (touched (acts_of [] t)) (parts_low [] t)
-  one_table n (u ∷ us) e t = in_table n u us e (touched (acts_of u.parts t)) (parts_low u.parts t)
+  one_table : (n : ℕ) (counts : List ℕ) (split : ℕ) (shape : List TableParts) → drop n whole ≡ shape → (t : StoredTable) → AllByRecursion (IsThere whole) (map (touch n) (touched (shares_of counts split (first_parts shape) t)))
+  one_table n counts split [] e t = none_in_table n (touched (shares_of counts split [] t)) (parts_low counts split [] t)
+  one_table n counts split (u ∷ us) e t = in_table n u us e (touched (shares_of counts split u.parts t)) (parts_low counts split u.parts t)
 
-  pub all_there : (n : ℕ) (shape : List TableParts) (tables : List StoredTable) → drop n whole ≡ shape → AllByRecursion (IsThere whole) (all_touched n shape tables)
-  all_there n shape [] e = tt
-  all_there n shape (t ∷ ts) e =
-      each_joined (IsThere whole) (map (touch n) (touched (acts_of (first_parts shape) t))) (all_touched (n + 1) (rest shape) ts)
-      (one_table n shape e t) (all_there (n + 1) (rest shape) ts (drop_rest n whole shape e))
+  pub all_there : (n : ℕ) (written : List (List ℕ)) (split : ℕ) (shape : List TableParts) (tables : List StoredTable) → drop n whole ≡ shape → AllByRecursion (IsThere whole) (all_touched n written split shape tables)
+  all_there n written split shape [] e = tt
+  all_there n written split shape (t ∷ ts) e =
+      each_joined (IsThere whole) (map (touch n) (touched (shares_of (first_counts written) split (first_parts shape) t))) (all_touched (n + 1) (rest written) split (rest shape) ts)
+      (one_table n (first_counts written) split shape e t) (all_there (n + 1) (rest written) split (rest shape) ts (drop_rest n whole shape e))
 
   -- their blocks, by their numbers
   module _ (contents : ℕ → Block) where
@@ -109,12 +95,12 @@ module _ (whole : List TableParts) where
     joined_map [] ys = refl
     joined_map (x ∷ xs) ys = ap (λ (l : List Block). block_there contents whole x ∷ l) (joined_map xs ys)
 
-    pub all_read : (n : ℕ) (shape : List TableParts) (tables : List StoredTable) → drop n whole ≡ shape → map (block_there contents whole) (all_touched n shape tables) ≡ read_in contents shape tables
-    all_read n shape [] e = refl
-    all_read n shape (t ∷ ts) e =
-        let numbers = touched (acts_of (first_parts shape) t) in
-        joined_map (map (touch n) numbers) (all_touched (n + 1) (rest shape) ts)
-        ∙ ap₂ (λ (a b : List Block). a ++ b) (blocks_in_table n shape e numbers) (all_read (n + 1) (rest shape) ts (drop_rest n whole shape e))
+    pub all_read : (n : ℕ) (written : List (List ℕ)) (split : ℕ) (shape : List TableParts) (tables : List StoredTable) → drop n whole ≡ shape → map (block_there contents whole) (all_touched n written split shape tables) ≡ read_in contents written split shape tables
+    all_read n written split shape [] e = refl
+    all_read n written split shape (t ∷ ts) e =
+        let numbers = touched (shares_of (first_counts written) split (first_parts shape) t) in
+        joined_map (map (touch n) numbers) (all_touched (n + 1) (rest written) split (rest shape) ts)
+        ∙ ap₂ (λ (a b : List Block). a ++ b) (blocks_in_table n shape e numbers) (all_read (n + 1) (rest written) split (rest shape) ts (drop_rest n whole shape e))
 
 -- ---- one part
 

@@ -1,5 +1,5 @@
 -- The parts that a merge reads: none of them twice, so that no two have one number.
-use Rattle.std.proofs.Common.{◌≡◌, ℕ, zero, suc, ◌+◌, ◌<◌, ◌≤◌, max, Bool, true, false, cond, eqb, leb, nat_eq, List, [], ◌∷◌, ◌++◌, Some, length, map, get_or, slice_get, refl, sym, ap, ap₂, ◌∙◌, arith}
+use Rattle.std.proofs.Common.{◌≡◌, ℕ, zero, suc, ◌+◌, ◌<◌, ◌≤◌, Bool, true, false, cond, leb, nat_eq, List, [], ◌∷◌, ◌++◌, Some, length, map, get_or, slice_get, refl, sym, ap, ap₂, ◌∙◌, arith}
 use Rattle.std.specs.List.{AllByRecursion, IsDistinct, filter}
 use Rattle.std.proofs.lemmas.List.{map-append}
 use Rattle.std.proofs.lemmas.List.Elements.{All-from_recursion}
@@ -7,25 +7,27 @@ use Rattle.std.proofs.lemmas.Option.{get_or_from_slice_get}
 use Rattle.qd_base.specs.declared.part.Part.{Part}
 use Rattle.qd_base.specs.declared.unit.TimeUnit.{TimeUnit}
 use Rattle.qd_base.specs.Database.{StoredTable}
-use Rattle.qd_base.specs.Rows.{time_of}
 use Rattle.qd_base.proofs.Lists.{each-from_map, IsDistinct-append, IsDistinct-cons, IsDistinct-nil}
-use Rattle.qd_time.specs.Units.{start_of, unit_of}
+use Rattle.qd_time.specs.Units.{unit_of}
 use Rattle.qd_block.specs.Blocks.{Block}
 use Rattle.qd_manifest.specs.declared.shape.TableParts.{TableParts}
 use Rattle.qd_manifest.specs.Spelling.{blocks_in, blocks_of, no_part}
-use Rattle.qd_merge.specs.declared.plan.Act.{Act}
-use Rattle.qd_merge.specs.declared.plan.Act.TheVariants as act
-use Rattle.qd_merge.specs.Acts.{acts_from, before, between, new_part, on_part, part_end, partitions}
+use Rattle.qd_merge.specs.declared.shares.Rules.{Rules}
+use Rattle.qd_merge.specs.declared.shares.Share.{Share}
+use Rattle.qd_merge.specs.declared.shares.Share.TheVariants as share
+use Rattle.qd_merge.specs.Acts.{between, partitions}
+use Rattle.qd_merge.specs.Owners.{is_number, owned, owner, strays}
+use Rattle.qd_merge.specs.Shares.{goes_behind, new_share, place_of, share_of, share_on, shares_behind}
 use Rattle.qd_merge.proofs.Wide.{map-map}
 use Rattle.qd_scan.specs.Sources.{no_schema}
 use Rattle.qd_apply.specs.declared.plans.Touched.{Touched}
 use Rattle.qd_apply.specs.Arrivals.{rest}
 use Rattle.qd_apply.specs.Given.{touched}
-use Rattle.qd_apply.specs.Next.{acts_of, batch_of, first_parts}
+use Rattle.qd_apply.specs.Next.{batch_of, first_counts, first_parts, rules_of, shares_of, times_in}
 use Rattle.qd_apply.specs.Plans.{all_touched, read_in, touch}
 use Rattle.qd_apply.proofs.EachLemmas.{each_append, each_back, each_front, each_then}
 
--- ---- acts read parts upwards
+-- ---- shares read parts upwards
 
 -- numbers from one on and below a count, each above the one before it
 abbrev pub Rises : ℕ → ℕ → List ℕ → Type 0
@@ -36,35 +38,44 @@ rises_from : (count from low : ℕ) (ns : List ℕ) → low ≤ from → Rises c
 rises_from count from low [] le up = tt
 rises_from count from low (n ∷ ns) le up = (let ge = up.0 in omega (arith, le, ge), up.1, up.2)
 
-rise_new : (count from : ℕ) (u : TimeUnit) (times starts : List ℕ) (acts : List Act) → Rises count from (touched acts)
-    → Rises count from (touched (map (new_part u times) starts ++ acts))
-rise_new count from u times [] acts up = up
-rise_new count from u times (t ∷ starts) acts up = rise_new count from u times starts acts up
+rise_new : (count from : ℕ) (u : TimeUnit) (times starts : List ℕ) (list : List Share) → Rises count from (touched list)
+    → Rises count from (touched (map (new_share u times) starts ++ list))
+rise_new count from u times [] list up = up
+rise_new count from u times (t ∷ starts) list up = rise_new count from u times starts list up
 
-rise_last : (count from : ℕ) (u : TimeUnit) (times starts : List ℕ) → Rises count from (touched (map (new_part u times) starts))
+rise_last : (count from : ℕ) (u : TimeUnit) (times starts : List ℕ) → Rises count from (touched (map (new_share u times) starts))
 rise_last count from u times [] = tt
 rise_last count from u times (t ∷ starts) = rise_last count from u times starts
 
-rise_on : (count number i j : ℕ) (acts : List Act) → number < count → Rises count (suc number) (touched acts)
-    → Rises count number (touched (on_part number i j ∷ acts))
-rise_on count number i j acts lt up = step (eqb i j)
+rise_on : (count number : ℕ) (r : Rules) (p : Part) (written : ℕ) (times : List ℕ) (i j : ℕ) (list : List Share) → number < count → Rises count (suc number) (touched list)
+    → Rises count number (touched (share_on r number p written times i j ∷ list))
+rise_on count number r p written times i j list lt up = step (leb j i) (goes_behind r p written (get_or times i 0))
   where
-    step : (b : Bool) → Rises count number (touched (cond b (act.Keep number) (act.Write (Some number) 0 i j) ∷ acts))
-    step true = rises_from count (suc number) number (touched acts) (omega arith) up
-    step false = (omega arith, lt, up)
+    passed : Rises count number (touched list)
+    passed = rises_from count (suc number) number (touched list) (omega arith) up
 
-acts_rise : (count : ℕ) (u : TimeUnit) (times : List ℕ) (done number : ℕ) (parts : List Part) → number + length parts ≤ count
-    → Rises count number (touched (acts_from u times done number parts))
-acts_rise count u times done number [] few = rise_last count number u times (partitions u (filter (λ t. leb done t) times))
-acts_rise count u times done number (p ∷ ps) few =
-    let from : ℕ = max done (start_of u p.lo) in
-    let to : ℕ = part_end u p ps in
-    rise_new count number u times (partitions u (between done from times)) (on_part number (before from times) (before to times) ∷ acts_from u times to (suc number) ps)
-    (rise_on count number (before from times) (before to times) (acts_from u times to (suc number) ps) (omega (arith, few))
-    (acts_rise count u times to (suc number) ps (omega (arith, few))))
+    step : (none behind : Bool) → Rises count number (touched (cond none (share.Keep number) (cond behind (share.Append number i j) (share.Merge number i j)) ∷ list))
+    step true behind = passed
+    step false true = passed
+    step false false = (omega arith, lt, up)
 
-table_rises : (parts : List Part) (t : StoredTable) → Rises (length parts) 0 (touched (acts_of parts t))
-table_rises parts t = acts_rise (length parts) (unit_of t.schema.unit) (map (time_of t.schema.time_col) (batch_of t)) 0 0 parts (omega arith)
+shares_rise : (count : ℕ) (r : Rules) (all : List Part) (written times : List ℕ) (low number : ℕ) (parts : List Part) → number + length parts ≤ count
+    → Rises count number (touched (shares_behind r all written times low number parts))
+shares_rise count r all written times low number [] few =
+    rise_last count number (unit_of r.unit) times (partitions (unit_of r.unit) (filter (leb low) (strays (unit_of r.unit) all times)))
+shares_rise count r all written times low number (p ∷ ps) few =
+    let u = unit_of r.unit in
+    let from = place_of (λ (t : ℕ). is_number number (owner u all t)) times in
+    rise_new count number u times (partitions u (between low p.lo (strays u all times))) (share_of r all written times number p ∷ shares_behind r all written times p.lo (suc number) ps)
+    (rise_on count number r p (get_or written number 0) times from (from + length (owned u all number times)) (shares_behind r all written times p.lo (suc number) ps) (omega (arith, few))
+    (shares_rise count r all written times p.lo (suc number) ps (omega (arith, few))))
+
+pub table_rises : (counts : List ℕ) (split : ℕ) (parts : List Part) (t : StoredTable) → Rises (length parts) 0 (touched (shares_of counts split parts t))
+table_rises counts split parts t = shares_rise (length parts) (rules_of split t.schema) parts counts (times_in t.schema (batch_of t)) 0 0 parts (omega arith)
+
+pub rises_low : (count from : ℕ) (ns : List ℕ) → Rises count from ns → AllByRecursion (λ (n : ℕ). n < count) ns
+rises_low count from [] up = tt
+rises_low count from (n ∷ ns) up = (up.1, rises_low count (suc n) ns up.2)
 
 -- ---- the numbers of the parts' blocks
 
@@ -72,17 +83,17 @@ abbrev pub named : List Part → ℕ → ℕ
 named parts i = (get_or parts i no_part).block
 
 -- those of all parts that a merge reads, in order
-abbrev pub numbers_read : List TableParts → List StoredTable → List ℕ
-numbers_read shape [] = []
-numbers_read shape (t ∷ ts) = map (named (first_parts shape)) (touched (acts_of (first_parts shape) t)) ++ numbers_read (rest shape) ts
+abbrev pub numbers_read : List (List ℕ) → ℕ → List TableParts → List StoredTable → List ℕ
+numbers_read written split shape [] = []
+numbers_read written split shape (t ∷ ts) = map (named (first_parts shape)) (touched (shares_of (first_counts written) split (first_parts shape) t)) ++ numbers_read (rest written) split (rest shape) ts
 
-pub read_by_number : (contents : ℕ → Block) (shape : List TableParts) (ts : List StoredTable) → read_in contents shape ts ≡ map contents (numbers_read shape ts)
-read_by_number contents shape [] = refl
-read_by_number contents shape (t ∷ ts) =
+pub read_by_number : (contents : ℕ → Block) (written : List (List ℕ)) (split : ℕ) (shape : List TableParts) (ts : List StoredTable) → read_in contents written split shape ts ≡ map contents (numbers_read written split shape ts)
+read_by_number contents written split shape [] = refl
+read_by_number contents written split shape (t ∷ ts) =
     let parts : List Part = first_parts shape in
-    let these : List ℕ = touched (acts_of parts t) in
-    ap₂ (λ (a b : List Block). a ++ b) (sym (map-map contents (named parts) these)) (read_by_number contents (rest shape) ts)
-    ∙ sym (map-append contents (map (named parts) these) (numbers_read (rest shape) ts))
+    let these : List ℕ = touched (shares_of (first_counts written) split parts t) in
+    ap₂ (λ (a b : List Block). a ++ b) (sym (map-map contents (named parts) these)) (read_by_number contents (rest written) split (rest shape) ts)
+    ∙ sym (map-append contents (map (named parts) these) (numbers_read (rest written) split (rest shape) ts))
 
 -- ---- no two are one
 
@@ -104,13 +115,13 @@ module _ (Q : ℕ → Type 0) where
   rest_each (t ∷ ts) h = each_back Q (blocks_in t.parts) (blocks_of ts) h
 
   -- what holds of the numbers of all parts holds of those that are read
-  numbers_each : (shape : List TableParts) (ts : List StoredTable) → AllByRecursion Q (blocks_of shape) → AllByRecursion Q (numbers_read shape ts)
-  numbers_each shape [] h = tt
-  numbers_each shape (t ∷ ts) h =
+  numbers_each : (written : List (List ℕ)) (split : ℕ) (shape : List TableParts) (ts : List StoredTable) → AllByRecursion Q (blocks_of shape) → AllByRecursion Q (numbers_read written split shape ts)
+  numbers_each written split shape [] h = tt
+  numbers_each written split shape (t ∷ ts) h =
       let parts : List Part = first_parts shape in
-      each_append Q (map (named parts) (touched (acts_of parts t))) (numbers_read (rest shape) ts)
-      (parts_named parts 0 (touched (acts_of parts t)) (first_each shape h) (table_rises parts t))
-      (numbers_each (rest shape) ts (rest_each shape h))
+      each_append Q (map (named parts) (touched (shares_of (first_counts written) split parts t))) (numbers_read (rest written) split (rest shape) ts)
+      (parts_named parts 0 (touched (shares_of (first_counts written) split parts t)) (first_each shape h) (table_rises (first_counts written) split parts t))
+      (numbers_each (rest written) split (rest shape) ts (rest_each shape h))
 
 parts_apart : (parts : List Part) (i j : ℕ) → IsDistinct nat_eq (blocks_in parts) → i < j → j < length parts → nat_eq (named parts i) (named parts j) ≡ false
 unfolding IsDistinct
@@ -154,19 +165,19 @@ tables_apart : (shape : List TableParts) → IsDistinct nat_eq (blocks_of shape)
 tables_apart [] apart = record { front = IsDistinct-nil nat_eq; back = IsDistinct-nil nat_eq; across = tt }
 tables_apart (t ∷ ts) apart = split_apart (blocks_in t.parts) (blocks_of ts) apart
 
-pub numbers_apart : (shape : List TableParts) (ts : List StoredTable) → IsDistinct nat_eq (blocks_of shape) → IsDistinct nat_eq (numbers_read shape ts)
-numbers_apart shape [] apart = IsDistinct-nil nat_eq
-numbers_apart shape (t ∷ ts) apart =
+pub numbers_apart : (written : List (List ℕ)) (split : ℕ) (shape : List TableParts) (ts : List StoredTable) → IsDistinct nat_eq (blocks_of shape) → IsDistinct nat_eq (numbers_read written split shape ts)
+numbers_apart written split shape [] apart = IsDistinct-nil nat_eq
+numbers_apart written split shape (t ∷ ts) apart =
     let parts : List Part = first_parts shape in
-    let these : List ℕ = touched (acts_of parts t) in
-    let later : List ℕ = numbers_read (rest shape) ts in
-    let up = table_rises parts t in
+    let these : List ℕ = touched (shares_of (first_counts written) split parts t) in
+    let later : List ℕ = numbers_read (rest written) split (rest shape) ts in
+    let up = table_rises (first_counts written) split parts t in
     let are = tables_apart shape apart in
     let Q : ℕ → Type 0 = λ x. AllByRecursion (λ (y : ℕ). nat_eq x y ≡ false) later in
     let across : AllByRecursion Q (blocks_in parts) =
     each_then (λ (x : ℕ). AllByRecursion (λ (y : ℕ). nat_eq x y ≡ false) (blocks_of (rest shape))) Q
-    (λ x h. numbers_each (λ (y : ℕ). nat_eq x y ≡ false) (rest shape) ts h) (blocks_in parts) are.across in
-    IsDistinct-append nat_eq (map (named parts) these) later (named_apart parts 0 these are.front up) (numbers_apart (rest shape) ts are.back) (parts_named Q parts 0 these across up)
+    (λ x h. numbers_each (λ (y : ℕ). nat_eq x y ≡ false) (rest written) split (rest shape) ts h) (blocks_in parts) are.across in
+    IsDistinct-append nat_eq (map (named parts) these) later (named_apart parts 0 these are.front up) (numbers_apart (rest written) split (rest shape) ts are.back) (parts_named Q parts 0 these across up)
 
 -- ---- the same by the parts' places
 
@@ -198,18 +209,18 @@ rest_from n shape left are i =
     next [] k = refl
     next (x ∷ xs) k = refl
 
-places_from : (n : ℕ) (shape left : List TableParts) (ts : List StoredTable) → AreFrom n shape left
-    → map (number_at shape) (all_touched n left ts) ≡ numbers_read left ts
-places_from n shape left [] are = refl
-places_from n shape left (t ∷ ts) are =
-    let these : List ℕ = touched (acts_of (first_parts left) t) in
-    map-append (number_at shape) (map (touch n) these) (all_touched (n + 1) (rest left) ts)
+places_from : (n : ℕ) (written : List (List ℕ)) (split : ℕ) (shape left : List TableParts) (ts : List StoredTable) → AreFrom n shape left
+    → map (number_at shape) (all_touched n written split left ts) ≡ numbers_read written split left ts
+places_from n written split shape left [] are = refl
+places_from n written split shape left (t ∷ ts) are =
+    let these : List ℕ = touched (shares_of (first_counts written) split (first_parts left) t) in
+    map-append (number_at shape) (map (touch n) these) (all_touched (n + 1) (rest written) split (rest left) ts)
     ∙ ap₂ (λ (a b : List ℕ). a ++ b)
     (map-map (number_at shape) (touch n) these ∙ ap (λ (parts : List Part). map (named parts) these) (first_from n shape left are))
-    (places_from (n + 1) shape (rest left) ts (rest_from n shape left are))
+    (places_from (n + 1) (rest written) split shape (rest left) ts (rest_from n shape left are))
 
-pub numbers_at : (shape : List TableParts) (ts : List StoredTable) → map (number_at shape) (all_touched 0 shape ts) ≡ numbers_read shape ts
-numbers_at shape ts = places_from 0 shape shape ts (λ i. let e : 0 + i ≡ i = omega arith in ap (λ (k : ℕ). get_or shape k no_parts) e)
+pub numbers_at : (written : List (List ℕ)) (split : ℕ) (shape : List TableParts) (ts : List StoredTable) → map (number_at shape) (all_touched 0 written split shape ts) ≡ numbers_read written split shape ts
+numbers_at written split shape ts = places_from 0 written split shape shape ts (λ i. let e : 0 + i ≡ i = omega arith in ap (λ (k : ℕ). get_or shape k no_parts) e)
 
 -- the number of a part that is there
 pub number_there : (shape : List TableParts) (to : Touched) (t : TableParts) (p : Part) → slice_get shape to.table ≡ Some t

@@ -1,22 +1,26 @@
 -- What each call makes of a told volume: at every moment inside it, and behind it.
-use Rattle.std.specs.Prelude.{◌≡◌, ◌⊎◌, ℕ, ◌<◌, ◌≤◌, true, List, [], ◌∷◌, ◌++◌, length, All, Some, Result, Ok, Err}
+use Rattle.std.specs.Prelude.{◌≡◌, ◌⊎◌, ℕ, ◌<◌, ◌≤◌, true, List, [], ◌∷◌, ◌++◌, length, map, All, Contains, Some, Result, Ok, Err}
 use Rattle.std.specs.Arc.{arc_value}
 use Rattle.qd_base.specs.declared.op.Entry.{Entry}
 use Rattle.qd_base.specs.Replay.{first}
 use Rattle.qd_block.specs.Blocks.{Block}
 use Rattle.qd_catalog.specs.declared.version.Version as catalog
 use Rattle.qd_catalog.specs.Versions.{lists, version_at}
+use Rattle.qd_apply.specs.Laws.{GoesOnFrom}
 use Rattle.qd_apply.specs.Stands.{StandsFor}
 use Rattle.qd_durable.specs.Moments.{EachNow, LeavesOnly}
 use Rattle.qd_manifest.specs.declared.shape.TableParts.{TableParts}
+use Rattle.qd_manifest.specs.Spelling.{blocks_of}
 use Rattle.qd_sequencer.specs.Calls.{PendsAsBefore, PendsOwn}
 use Rattle.qd_sequencer.specs.Histories as histories
 use Rattle.qd_txnfile.specs.States.{IsDirty}
 use Rattle.qd_txnfile.specs.Versions.{Version}
+use Rattle.qd_versions.specs.declared.published.GrownBlock.{GrownBlock}
 use Rattle.qd_versions.specs.declared.published.NewBlock.{NewBlock}
 use Rattle.qd_versions.specs.Stores.{current_version}
 use Rattle.qd_volume.specs.Disk.{Disk, Image}
 use Rattle.qd_store.specs.Marks.{IsMade}
+use Rattle.qd_store.specs.Grown.{growth_of}
 use Rattle.qd_store.specs.Found.{Finds, Found, IsUnmade, nothing, version_of}
 use Rattle.qd_store.specs.Stores.{Book, IsStore}
 
@@ -67,13 +71,14 @@ pub record Commits {T E : Type 0} (result : Result T E) (old new : Book) (Own : 
 
 -- ---- a version is published
 
--- The parts of the next version stand for the first n transactions: over the blocks of the current version, and the new ones at
--- their numbers.
-pub record StandsNext (old : Book) (h : List Entry) (n : ℕ) (shape : List TableParts) (blocks : List NewBlock) : Type 0 where
+-- The parts of the next version stand for the first n transactions: over the blocks of the current version, of which each goes on
+-- with its first rows, or with all and those that are put behind them; and over the new ones at their numbers.
+pub record StandsNext (old : Book) (h : List Entry) (n : ℕ) (shape : List TableParts) (blocks : List NewBlock) (grown : List GrownBlock) : Type 0 where
   pub few : n ≤ length h
   pub contents : ℕ → Block
   pub stands : StandsFor contents shape (first h n)
-  pub kept : (x : catalog.Version) (held : ℕ → Block) → version_at old.versions.versions old.versions.versions.current ≡ Some x → StandsFor held x.shape (first h x.n) → (b : ℕ) → lists (Some x) b ≡ true → b < old.versions.versions.next_block → contents b ≡ held b
+  pub kept : (x : catalog.Version) (held : ℕ → Block) → version_at old.versions.versions old.versions.versions.current ≡ Some x → StandsFor held x.shape (first h x.n)
+      → (b : ℕ) → lists (Some x) b ≡ true → Contains (blocks_of shape) b → b < old.versions.versions.next_block → GoesOnFrom x.shape held (map growth_of grown) contents b
   pub made : All (λ new. contents new.block ≡ arc_value new.of) blocks
 
 -- Behind an Ok any image gives the new version; behind an Err the current one, or one that this call or an earlier one left.
@@ -83,10 +88,10 @@ IsPublished (Err fault) new h last v after = IsStore new h last after ⊎ IsStor
 
 -- A version is published: at each moment a crash leaves a whole store with the history, and the version that it might have left
 -- before, or the new one.
-pub record Publishes {T E : Type 0} (result : Result T E) (old new : Book) (n : ℕ) (shape : List TableParts) (blocks : List NewBlock) (v : Version) (before after : Disk) : Type 0 where
-  pub any_moment : (h : List Entry) (last : Version) → IsStore old h last before → StandsNext old h n shape blocks
+pub record Publishes {T E : Type 0} (result : Result T E) (old new : Book) (n : ℕ) (shape : List TableParts) (blocks : List NewBlock) (grown : List GrownBlock) (v : Version) (before after : Disk) : Type 0 where
+  pub any_moment : (h : List Entry) (last : Version) → IsStore old h last before → StandsNext old h n shape blocks grown
       → LeavesOnly before after (ShowsOneOf h (histories.IsPending old.sequence.pending before) (λ w. MayShow old last w ⊎ (w ≡ v)))
-  pub behind : (h : List Entry) (last : Version) → IsStore old h last before → StandsNext old h n shape blocks → IsPublished result new h last v after
+  pub behind : (h : List Entry) (last : Version) → IsStore old h last before → StandsNext old h n shape blocks grown → IsPublished result new h last v after
   pub pending : (h : List Entry) (last : Version) → IsStore old h last before → PendsAsBefore old.sequence.pending new.sequence.pending before after
 
 -- ---- a call that changes neither the history nor what versions show

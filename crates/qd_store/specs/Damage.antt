@@ -18,6 +18,7 @@ use Rattle.qd_manifest.specs.Spelling.{schemas_in}
 use Rattle.qd_sequencer.specs.Histories.{AreSpelled}
 use Rattle.qd_sequencer.specs.Reading.{BreaksOff}
 use Rattle.qd_volume.specs.Disk.{Image}
+use Rattle.qd_store.specs.Grown.{rows_written}
 use Rattle.qd_store.specs.Stores.{Book}
 
 -- ---- the blocks of parts
@@ -42,12 +43,13 @@ LosesBlock (to ∷ more) shape image file at = IsPartRead shape to (Err (fault.D
 -- ---- drafts
 
 -- The damage that a draft over a version finds, in the order in which it is looked for: of the transactions at the references: the
--- first of them that is not spelled, or not lawful over the schemas before it; of the blocks of the parts that their merge reads.
-pub data IsDamagedOver (x : Version) (refs : List WalRef) (image : Image) : (file at : ℕ) → Type 0 where
-  InEntries : (file at : ℕ) → BreaksOff refs (schemas_in x.shape) image file at → IsDamagedOver x refs image file at
+-- first of them that is not spelled, or not lawful over the schemas before it; of the blocks of the parts that their merge reads, by
+-- how many rows the files of the version's blocks hold.
+pub data IsDamagedOver (written : List (List ℕ)) (split : ℕ) (x : Version) (refs : List WalRef) (image : Image) : (file at : ℕ) → Type 0 where
+  InEntries : (file at : ℕ) → BreaksOff refs (schemas_in x.shape) image file at → IsDamagedOver written split x refs image file at
   InBlocks : (es : List Entry) (file at : ℕ) → AreSpelled refs es image → LawfulFrom (schemas_in x.shape) es
-      → LosesBlock (all_touched 0 x.shape (map with_batch (arrivals (schemas_in x.shape) es))) x.shape image file at → IsDamagedOver x refs image file at
+      → LosesBlock (all_touched 0 written split x.shape (map with_batch (arrivals (schemas_in x.shape) es))) x.shape image file at → IsDamagedOver written split x refs image file at
 
 -- that of a draft of the transactions behind a store's current version, up to a number
 abbrev pub IsDraftDamage : Book → ℕ → Image → ℕ → ℕ → Type 0
-IsDraftDamage s upto image file at = (x : Version) × (version_at s.versions.versions s.versions.versions.current ≡ Some x) × IsDamagedOver x (slice_range s.sequence.refs x.n upto) image file at
+IsDraftDamage s upto image file at = (x : Version) × (version_at s.versions.versions s.versions.versions.current ≡ Some x) × IsDamagedOver (rows_written s.versions.versions x.shape) s.limits.split_rows x (slice_range s.sequence.refs x.n upto) image file at

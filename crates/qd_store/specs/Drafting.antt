@@ -102,12 +102,12 @@ pub record IsReadOf (shape : List TableParts) (to : Touched) (b : Block) : Type 
   pub whole : IsWhole b
 
 -- those of all parts that a merge of these tables reads
-abbrev pub AreRead : List TableParts → List StoredTable → List Block → Type 0
-AreRead shape tables blocks = AllZip (IsReadOf shape) (all_touched 0 shape tables) blocks
+abbrev pub AreRead : List (List ℕ) → ℕ → List TableParts → List StoredTable → List Block → Type 0
+AreRead written split shape tables blocks = AllZip (IsReadOf shape) (all_touched 0 written split shape tables) blocks
 
 -- over blocks by which the version stands for a history, they are the ones that the merge reads
-abbrev pub AreReadFrom : Result (Vec (Arc Block Global) Global) LogFault → List TableParts → List StoredTable → List Entry → ℕ → Type 0
-AreReadFrom (Ok list) shape tables h n = (contents : ℕ → Block) → StandsFor contents shape (first h n) → map arc_value list.items ≡ read_in contents shape tables
-AreReadFrom (Err (fault.Damaged file at)) shape tables h n = ⊥
-AreReadFrom (Err fault.Vol) shape tables h n = Unit {0}
-AreReadFrom (Err fault.Memory) shape tables h n = Unit {0}
+abbrev pub AreReadFrom : Result (Vec (Arc Block Global) Global) LogFault → List (List ℕ) → ℕ → List TableParts → List StoredTable → List Entry → ℕ → Type 0
+AreReadFrom (Ok list) written split shape tables h n = (contents : ℕ → Block) → StandsFor contents shape (first h n) → map arc_value list.items ≡ read_in contents written split shape tables
+AreReadFrom (Err (fault.Damaged file at)) written split shape tables h n = ⊥
+AreReadFrom (Err fault.Vol) written split shape tables h n = Unit {0}
+AreReadFrom (Err fault.Memory) written split shape tables h n = Unit {0}

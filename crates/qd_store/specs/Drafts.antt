@@ -9,31 +9,34 @@ use Rattle.qd_block.specs.Blocks.{Block}
 use Rattle.qd_catalog.specs.declared.version.Version.{Version}
 use Rattle.qd_catalog.specs.Versions.{Versions, version_at}
 use Rattle.qd_apply.specs.Arrivals.{arrivals}
-use Rattle.qd_apply.specs.Drafts.{Drafting}
-use Rattle.qd_apply.specs.Next.{made_after, manifest_after}
+use Rattle.qd_apply.specs.Drafts.{Planning}
+use Rattle.qd_apply.specs.Next.{grown_after, made_after, manifest_after}
 use Rattle.qd_apply.specs.Plans.{read_in, with_batch}
 use Rattle.qd_apply.specs.Stands.{StandsFor}
 use Rattle.qd_durable.specs.declared.fault.LogFault.{LogFault}
 use Rattle.qd_durable.specs.declared.fault.LogFault.TheVariants as fault
 use Rattle.qd_manifest.specs.declared.shape.TableParts.{TableParts}
 use Rattle.qd_manifest.specs.Spelling.{IsManifest, schemas_in}
+use Rattle.qd_versions.specs.declared.published.GrownBlock.{GrownBlock}
 use Rattle.qd_versions.specs.declared.published.NewBlock.{NewBlock}
 use Rattle.qd_versions.specs.Publishing.{AreNumbered}
 use Rattle.qd_versions.specs.Stores.{manifest_in}
+use Rattle.qd_store.specs.Grown.{growth_of, rows_written, AreShownWhole}
 use Rattle.qd_store.specs.Stores.{Book}
 
 -- what contracts see of a draft: its plan, and the blocks of the parts that its merge reads, in order
 pub record Drafted : Type 0 where
-  pub plan : Drafting
+  pub plan : Planning
   pub blocks : List Block
 
 -- what they see of one that is merged: of how many transactions the version is that was merged into, and the next one; the tables of
--- the next one, and its new blocks
+-- the next one, its new blocks, and the rows that go behind those of parts of the version that was merged into
 pub record Merging : Type 0 where
   pub base : ℕ
   pub upto : ℕ
   pub shape : List TableParts
   pub blocks : List NewBlock
+  pub grown : List GrownBlock
 
 -- Transactions may follow a version: it has a manifest, and over blocks by their numbers it stands for a database that they go on
 -- with lawfully; and there is room. `next` is above the numbers of all blocks so far.
@@ -45,30 +48,37 @@ pub record MayFollow (next : ℕ) (x : Version) (es : List Entry) (contents : �
   pub room : x.n + length es ≤ 2 ^ 30
   pub few : All (λ t. length t.rows < 2 ^ 64) (replay db es)
 
--- the plan of their merge
-abbrev pub plan_of : ℕ → Version → List Entry → Drafting
-plan_of next x es = record {
+-- the plan of their merge, by how many rows the files of the version's blocks hold, and how many rows may stay where they lie
+abbrev pub plan_of : List (List ℕ) → ℕ → ℕ → Version → List Entry → Planning
+plan_of written split next x es = record {
   base = x.n;
   upto = x.n + length es;
   next_block = next;
   shape = x.shape;
   tables = map with_batch (arrivals (schemas_in x.shape) es);
+  written = written;
+  split_rows = split;
 }
 
 -- a draft of transactions that follow a version
 pub record IsDraft (next : ℕ) (x : Version) (es : List Entry) (contents : ℕ → Block) (db : Database) (d : Drafted) : Type 0 where
   pub follows : MayFollow next x es contents db
-  pub plan : d.plan ≡ plan_of next x es
-  pub read : d.blocks ≡ read_in contents x.shape (plan_of next x es).tables
+  pub written : List (List ℕ)
+  pub split : ℕ
+  pub plan : d.plan ≡ plan_of written split next x es
+  pub read : d.blocks ≡ read_in contents written split x.shape (plan_of written split next x es).tables
 
--- the same, merged: the next version's tables, and its new blocks at their numbers
+-- the same, merged: the next version's tables, its new blocks at their numbers, and the rows that go behind those of parts
 pub record IsMerged (next : ℕ) (x : Version) (es : List Entry) (contents : ℕ → Block) (db : Database) (m : Merging) : Type 0 where
   pub follows : MayFollow next x es contents db
+  pub written : List (List ℕ)
+  pub split : ℕ
   pub base : m.base ≡ x.n
   pub upto : m.upto ≡ x.n + length es
-  pub shape : m.shape ≡ (manifest_after contents (manifest_in next x.shape) es).shape
+  pub shape : m.shape ≡ (manifest_after contents written split (manifest_in next x.shape) es).shape
   pub numbered : AreNumbered next m.blocks
-  pub blocks : map (λ b. arc_value b.of) m.blocks ≡ made_after contents x.shape es
+  pub blocks : map (λ b. arc_value b.of) m.blocks ≡ made_after contents written split x.shape es
+  pub grown : map growth_of m.grown ≡ grown_after contents written split x.shape es
 
 -- ---- over some version
 
@@ -84,12 +94,16 @@ IsSomeDraft d = (next : ℕ) × (x : Version) × IsDraftInto next x d
 abbrev pub IsSomeMerged : Merging → Type 0
 IsSomeMerged m = (next : ℕ) × (x : Version) × IsMergedInto next x m
 
--- of the current version
+-- Of the current version: a draft has how many rows were written to its blocks, and a merge puts rows only behind those of parts
+-- that show all of them.
 abbrev pub IsDraftOver : Versions → Drafted → Type 0
-IsDraftOver v d = (x : Version) × (version_at v v.current ≡ Some x) × IsDraftInto v.next_block x d
+IsDraftOver v d = (x : Version) × (version_at v v.current ≡ Some x) × IsDraftInto v.next_block x d × (d.plan.written ≡ rows_written v x.shape)
+
+abbrev pub Extends : Versions → Merging → Type 0
+Extends v m = AreShownWhole v m.grown
 
 abbrev pub IsMergedOver : Versions → Merging → Type 0
-IsMergedOver v m = (x : Version) × (version_at v v.current ≡ Some x) × IsMergedInto v.next_block x m
+IsMergedOver v m = (x : Version) × (version_at v v.current ≡ Some x) × IsMergedInto v.next_block x m × Extends v m
 
 -- ---- of a history
 

@@ -76,12 +76,19 @@ CountsPublish before now (Ok answer) = now ≡ before
 CountsPublish before now (Err (publish.Moved n)) = now ≡ before
 CountsPublish before now (Err publish.NoRow) = now ≡ before
 CountsPublish before now (Err publish.Vol) = (before ≤ now) × HasRisen before now
+CountsPublish before now (Err (publish.Damaged file at)) = now ≡ before
 CountsPublish before now (Err publish.Memory) = now ≡ before
+
+-- no answer says that a file is damaged
+abbrev pub IsUndamaged : {T : Type 0} → Result T PublishFault → Type 0
+IsUndamaged (Err (publish.Damaged file at)) = ⊥
+IsUndamaged _ = Unit {0}
 
 -- the fault of a publication, as that of a store
 abbrev pub root_fault : root.PublishFault → PublishFault
 root_fault rooted.NoRow = publish.NoRow
 root_fault rooted.Vol = publish.Vol
+root_fault (rooted.Damaged file at) = publish.Damaged file at
 root_fault rooted.Memory = publish.Memory
 root_fault (rooted.Unremoved io.Failed) = publish.Vol
 root_fault (rooted.Unremoved io.Memory) = publish.Memory

@@ -3,6 +3,7 @@ pub mod Marks
 pub mod Prefixes
 pub mod Found
 pub mod Stores
+pub mod Grown
 pub mod Faults
 pub mod Arriving
 pub mod Calls

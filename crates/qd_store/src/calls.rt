@@ -12,23 +12,26 @@ ghost use Rattle.qd_io.specs.Ends.{Counts};
 ghost use Rattle.qd_versions.specs.declared.fault.PublishFault.TheVariants as full;
 ghost use Rattle.qd_versions.specs.Calls.{IsSwept};
 ghost use Rattle.qd_versions.specs.Faults.{CountsPublish};
-ghost use Rattle.qd_versions.specs.Publishing.{AreNumbered, IsFull, MayPublish};
+ghost use Rattle.qd_versions.specs.Publishing.{AreNumbered, IsFull, IsLostWhere, MayGrow, MayPublish, grown_blocks};
 ghost use Rattle.qd_versions.specs.Stores.{stored};
 ghost use Rattle.qd_store.specs.Arriving.{IsPlaced};
 ghost use Rattle.qd_store.specs.Calls.{Commits, Publishes, Stands};
 ghost use Rattle.qd_store.specs.Faults.{IsSettled};
 ghost use Rattle.qd_store.specs.Stores.{IsStore};
 ghost use Rattle.qd_txnfile.specs.Versions.{Version};
-ghost use Rattle.qd_volume.specs.Disk.{Disk};
-ghost use Rattle.std.specs.Prelude.{◌≡◌, ◌≢◌, ◌↔◌, ◌+◌, ◌<◌, ◌≤◌, ℕ, [], true, false, List, length, fold, unwrap_or, None, Err, Ok, IfErr, IfOk, IfSome, OnErr, OnOk};
+ghost use Rattle.qd_volume.specs.Disk.{Disk, reads_of};
+ghost use Rattle.std.specs.List.{IsDistinct};
+ghost use Rattle.std.specs.Prelude.{◌≡◌, ◌≢◌, ◌↔◌, ◌+◌, ◌<◌, ◌≤◌, ℕ, [], true, false, nat_eq, All, List, length, fold, unwrap_or, None, Err, Ok, IfErr, IfOk, IfSome, OnErr, OnOk};
 
 use crate::book::Book;
 use crate::laws::stores_are_whole;
 use qd_base::Schemas;
+use qd_column_files::laws::first_rows_are_held;
+use qd_column_format::laws::one_column_is_spelled;
 use qd_io::IoFault;
 use qd_manifest::Shape;
 use qd_sequencer::{CommitFault, Committed, other_files_leave_the_sequence};
-use qd_versions::{NewBlock, PublishFault};
+use qd_versions::{GrownBlock, NewBlock, PublishFault};
 use qd_volume::Volume;
 use std::alloc::Global;
 
@@ -105,7 +108,7 @@ impl Book {
         self.versions.sweep(volume)
     }
 
-    /// Publishes a version of the first `n` transactions, with its new blocks.
+    /// Publishes a version of the first `n` transactions, with its new blocks and the rows behind those of the current version's parts.
     pub(crate) fn publish<V: Volume>(
         &mut self,
         alloc: Global,
@@ -113,21 +116,29 @@ impl Book {
         n: u64,
         shape: &Shape,
         blocks: &[NewBlock],
+        grown: &[GrownBlock],
     ) -> Result<u8, PublishFault>
         requires few { n ≤ length self.old.sequence.refs }
         requires numbered { AreNumbered self.old.versions.versions.next_block blocks.now }
         requires may { MayPublish self.old.versions.versions n shape.now (length blocks.now) }
+        requires grows { All (MayGrow self.old.versions.versions) grown.now }
+        requires apart { IsDistinct nat_eq (grown_blocks self.old.versions.versions grown.now) }
         ensures limits { self.new.limits ≡ self.old.limits }
         ensures sequence { self.new.sequence ≡ self.old.sequence }
         ensures added { IfOk result (λ row. Adds self.old.versions.versions self.new.versions.versions n shape.now row) }
         ensures same { OnErr result (SameVersions self.old.versions.versions self.new.versions.versions) }
         ensures full { (result ≡ Err full.NoRow) ↔ IsFull self.old.versions.versions }
+        ensures damaged { IfErr result (λ cause. IfSome (V.storage volume.old).disk (λ disk. IsLostWhere cause self.old.versions.versions grown.now (reads_of disk))) }
+        ensures unwritten { (file at : ℕ) → result ≡ Err (full.Damaged file at) → ((V.storage volume.new).disk ≡ (V.storage volume.old).disk) × (self.new ≡ self.old) }
         ensures told { Told (V.storage volume.old).disk (V.storage volume.new).disk
-            (Publishes result self.old self.new n shape.now blocks.now (stored n (self.old.versions.versions.next_block + length blocks.now) shape.now)) }
+            (Publishes result self.old self.new n shape.now blocks.now grown.now (stored n (self.old.versions.versions.next_block + length blocks.now) shape.now)) }
         ensures counted { CountsPublish (V.storage volume.old).faults (V.storage volume.new).faults result }
     {
+        first_rows_are_held();
+        one_column_is_spelled();
         other_files_leave_the_sequence();
         self.versions.keeps_its_law();
-        self.versions.publish(alloc, volume, n, shape, blocks)
+        self.versions
+            .publish(alloc, volume, n, shape, blocks, grown)
     }
 }

@@ -9,6 +9,7 @@ ghost use Rattle.qd_seq.specs.Layout.{AreInSegments};
 ghost use Rattle.qd_store.specs.Damage.{IsDraftDamage, IsThere, LosesBlock};
 ghost use Rattle.qd_store.specs.Drafting.{AreArrived, AreRead, AreReadFrom, AreSomeTaken, AreTaken, IsArrived, IsArrivedFrom, IsReadOf, IsTouchedFrom, IsTouchedRead};
 ghost use Rattle.qd_store.specs.Drafts.{IsDraftOver, IsDraftedFrom};
+ghost use Rattle.qd_store.specs.Grown.{rows_written, written_to};
 ghost use Rattle.qd_store.specs.Stores.{IsStore};
 ghost use Rattle.qd_txnfile.specs.Versions.{Version};
 ghost use Rattle.qd_volume.specs.Disk.{reads_of};
@@ -17,7 +18,7 @@ ghost use Rattle.std.specs.Prelude.{◌≡◌, ◌+◌, ◌^◌, ◌<◌, ◌≤
 
 use crate::book::Book;
 use qd_apply::{Draft as Arrivals, Plan, Touched, rows_are_few};
-use qd_base::WalRef;
+use qd_base::{Memory, Part, WalRef};
 use qd_block::Block;
 use qd_column_files::laws::one_block_is_held;
 use qd_durable::LogFault;
@@ -60,6 +61,7 @@ impl Book {
         requires few { upto ≤ length self.now.sequence.refs }
         ensures over { IfOk result (λ d. IsDraftOver self.now.versions.versions d) }
         ensures upto { IfOk result (λ d. d.plan.upto ≡ upto) }
+        ensures split { IfOk result (λ d. d.plan.split_rows ≡ self.now.limits.split_rows) }
         ensures told { IfSome (V.storage volume.old).disk (λ disk. (h : List Entry) (next : Version) → IsStore self.now h next disk → IsDraftedFrom result self.now h upto) }
         ensures damaged { IfSome (V.storage volume.old).disk (λ disk. (file at : ℕ) → result ≡ Err (damage.Damaged file at) → IsDraftDamage self.now upto (reads_of disk) file at) }
         ensures stays { (V.storage volume.new).disk ≡ (V.storage volume.old).disk }
@@ -68,7 +70,8 @@ impl Book {
         rows_are_few();
         self.versions.keeps_its_law();
         let arrived = self.arrived(alloc, volume, upto)?;
-        let plan = arrived.plan(alloc)?;
+        let written = self.rows_written(alloc)?;
+        let plan = arrived.plan(alloc, written, self.limits.split_rows)?;
         let blocks = self.blocks_of(alloc, volume, &plan)?;
         Ok(Draft { plan, blocks })
     }
@@ -98,6 +101,31 @@ impl Book {
         take_all(alloc, volume, refs, draft)
     }
 
+    /// Gives how many rows the files of the blocks of the current version's parts hold.
+    fn rows_written(&self, alloc: Global) -> Result<Vec<Vec<u64>>, Memory>
+        ensures written { IfOk result (λ list. (x : shown.Version) → version_at self.now.versions.versions self.now.versions.versions.current ≡ Some x → map (λ rows. rows.items) list.items ≡ rows_written self.now.versions.versions x.shape) }
+    {
+        self.versions.keeps_its_law();
+        let shape = self.versions.shape_of(self.versions.current());
+        let mut list = Vec::with_capacity(alloc, shape.len())?;
+        for table in shape.as_slice() {
+            let rows = self.written_to(alloc, table.parts.as_slice())?;
+            list.push(rows)?;
+        }
+        Ok(list)
+    }
+
+    /// Gives how many rows the files of the blocks of parts hold.
+    fn written_to(&self, alloc: Global, parts: &[Part]) -> Result<Vec<u64>, Memory>
+        ensures written { IfOk result (λ list. list.items ≡ written_to self.now.versions.versions parts.now) }
+    {
+        let mut list = Vec::with_capacity(alloc, parts.len())?;
+        for part in parts {
+            list.push(self.versions.written(part.block))?;
+        }
+        Ok(list)
+    }
+
     /// Reads the blocks of the parts that a plan's merge reads, in order.
     fn blocks_of<V: Volume>(
         &self,
@@ -106,9 +134,9 @@ impl Book {
         plan: &Plan,
     ) -> Result<Vec<Arc<Block<SymbolMap>>>, LogFault>
         requires of { (x : shown.Version) × (version_at self.now.versions.versions self.now.versions.versions.current ≡ Some x) × (plan.now.shape ≡ x.shape) }
-        ensures read { IfOk result (λ list. AreRead plan.now.shape plan.now.tables (map arc_value list.items)) }
-        ensures told { IfSome (V.storage volume.old).disk (λ disk. (h : List Entry) (next : Version) → IsStore self.now h next disk → (x : shown.Version) → version_at self.now.versions.versions self.now.versions.versions.current ≡ Some x → AreReadFrom result plan.now.shape plan.now.tables h x.n) }
-        ensures damaged { IfSome (V.storage volume.old).disk (λ disk. (file at : ℕ) → result ≡ Err (damage.Damaged file at) → LosesBlock (all_touched 0 plan.now.shape plan.now.tables) plan.now.shape (reads_of disk) file at) }
+        ensures read { IfOk result (λ list. AreRead plan.now.written plan.now.split_rows plan.now.shape plan.now.tables (map arc_value list.items)) }
+        ensures told { IfSome (V.storage volume.old).disk (λ disk. (h : List Entry) (next : Version) → IsStore self.now h next disk → (x : shown.Version) → version_at self.now.versions.versions self.now.versions.versions.current ≡ Some x → AreReadFrom result plan.now.written plan.now.split_rows plan.now.shape plan.now.tables h x.n) }
+        ensures damaged { IfSome (V.storage volume.old).disk (λ disk. (file at : ℕ) → result ≡ Err (damage.Damaged file at) → LosesBlock (all_touched 0 plan.now.written plan.now.split_rows plan.now.shape plan.now.tables) plan.now.shape (reads_of disk) file at) }
         ensures stays { (V.storage volume.new).disk ≡ (V.storage volume.old).disk }
         ensures counted { CountsVol (V.storage volume.old).faults (V.storage volume.new).faults result }
     {

@@ -84,6 +84,14 @@ pub enum PublishFault {
     /// The volume failed: its count of faults has risen in the call.
     #[error("the volume failed")]
     Vol,
+    /// The files of a block that rows are put behind break their layout.
+    #[error("file {file} is damaged at byte {at}")]
+    Damaged {
+        /// The number of the file.
+        file: u64,
+        /// The first byte of the field that breaks the layout, or the file's length where bytes are missing.
+        at: u64,
+    },
     /// There was no memory.
     #[error("out of memory")]
     Memory,
@@ -100,6 +108,7 @@ impl From<versions::PublishFault> for PublishFault {
             versions::PublishFault::Vol | versions::PublishFault::Unremoved(IoFault::Failed) => {
                 PublishFault::Vol
             }
+            versions::PublishFault::Damaged { file, at } => PublishFault::Damaged { file, at },
             versions::PublishFault::Memory | versions::PublishFault::Unremoved(IoFault::Memory) => {
                 PublishFault::Memory
             }

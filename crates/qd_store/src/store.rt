@@ -23,7 +23,7 @@ ghost use Rattle.qd_store.specs.declared.fault.PublishFault.TheVariants as fault
 ghost use Rattle.qd_store.specs.Arriving.{IsBehind, IsPlaced, IsReady, SaysLines, SaysStmt};
 ghost use Rattle.qd_store.specs.Calls.{Commits, Creates, Stands};
 ghost use Rattle.qd_store.specs.Damage.{IsDraftDamage};
-ghost use Rattle.qd_store.specs.Drafts.{IsDraftOver, IsDraftedFrom, IsMergedOver};
+ghost use Rattle.qd_store.specs.Drafts.{Extends, IsDraftOver, IsDraftedFrom, IsMergedOver};
 ghost use Rattle.qd_store.specs.Faults.{Causes, CountsOpen, CountsPublish, IsFullFor, IsMoved, IsSettled};
 ghost use Rattle.qd_store.specs.Merges.{PublishesMerged};
 ghost use Rattle.qd_store.specs.Opening.{HasFirstRow, Opens};
@@ -32,7 +32,7 @@ ghost use Rattle.qd_store.specs.Reading.{IsShownPart};
 ghost use Rattle.qd_store.specs.Stores.{AreLimits, IsBook, IsStore};
 ghost use Rattle.qd_txnfile.specs.Versions.{Version};
 ghost use Rattle.qd_versions.specs.Calls.{IsSwept};
-ghost use Rattle.qd_versions.specs.Publishing.{IsFull};
+ghost use Rattle.qd_versions.specs.Publishing.{IsFull, IsGrownLost};
 ghost use Rattle.qd_versions.specs.Reading.{IsPartAt};
 ghost use Rattle.qd_versions.specs.Stores as versions;
 ghost use Rattle.qd_volume.specs.Disk.{Disk, reads_of};
@@ -233,6 +233,7 @@ impl<V: Volume> Store<V> {
         requires few { upto ≤ length self.old.store.sequence.refs }
         ensures over { IfOk result (λ d. IsDraftOver self.old.store.versions.versions d) }
         ensures upto { IfOk result (λ d. d.plan.upto ≡ upto) }
+        ensures split { IfOk result (λ d. d.plan.split_rows ≡ self.old.store.limits.split_rows) }
         ensures told { IfSome self.old.storage.disk (λ disk. (h : List Entry) (next : Version) → IsStore self.old.store h next disk → IsDraftedFrom result self.old.store h upto) }
         ensures damaged { IfSome self.old.storage.disk (λ disk. (file at : ℕ) → result ≡ Err (damage.Damaged file at) → IsDraftDamage self.old.store upto (reads_of disk) file at) }
         ensures store { self.new.store ≡ self.old.store }
@@ -242,14 +243,25 @@ impl<V: Volume> Store<V> {
         self.book.draft(alloc, &mut self.volume, upto)
     }
 
+    /// Says whether a merge still fits the files: each part that it puts rows behind is one of the current version, and shows all rows
+    /// that were written to its block. It takes time linear in the parts that the merge puts rows behind, on average.
+    pub fn extends(&self, merged: &Merged) -> bool
+        ensures extends { IsTrue result ↔ Extends self.now.store.versions.versions merged.now }
+    {
+        self.book.extends(merged)
+    }
+
     /// Publishes a merge, whose transactions are the next ones of the history, and gives the row of its version: it is live and the
-    /// current one then. It writes the files of the new blocks, two writes and two syncs for each, and then the version, and costs
-    /// time and memory linear in them and in the lists of parts.
+    /// current one then. It reads what the rows that go behind those of parts go on with, writes the files of the new blocks and those
+    /// rows, two writes and two syncs for each file, and then the version, and costs time and memory linear in them and in the lists
+    /// of parts.
     ///
     /// At each moment a crash leaves a whole store with the history, and the version that it might have left before, or the new one;
     /// after an `Ok` only that. After an `Err` the versions are as before. [`PublishFault::Moved`] comes exactly where the current
     /// version isn't of as many transactions as the one that was merged into, and then [`PublishFault::NoRow`], exactly where all 64
-    /// rows are live. Behind [`PublishFault::Vol`] and [`PublishFault::Memory`] the call may be made again.
+    /// rows are live. [`PublishFault::Damaged`] comes only where the files of a block that rows are put behind are damaged at that byte,
+    /// and never where `IsStore` holds; what the volume holds is as before then. Behind [`PublishFault::Vol`] and
+    /// [`PublishFault::Memory`] the call may be made again.
     pub fn publish(&mut self, alloc: Global, merged: &Merged) -> Result<u8, PublishFault>
         requires few { merged.now.upto ≤ length self.old.store.sequence.refs }
         requires over { current_n self.old.store.versions.versions ≡ Some merged.now.base → IsMergedOver self.old.store.versions.versions merged.now }
@@ -259,6 +271,8 @@ impl<V: Volume> Store<V> {
         ensures same { OnErr result (SameVersions self.old.store.versions.versions self.new.store.versions.versions) }
         ensures moved { (n : ℕ) → (result ≡ Err (fault.Moved n)) ↔ IsMoved self.old.store.versions.versions merged.now.base n }
         ensures full { (result ≡ Err fault.NoRow) ↔ ((current_n self.old.store.versions.versions ≡ Some merged.now.base) × IsFull self.old.store.versions.versions) }
+        ensures damaged { IfSome self.old.storage.disk (λ disk. (file at : ℕ) → result ≡ Err (fault.Damaged file at) → IsGrownLost self.old.store.versions.versions merged.now.grown file at (reads_of disk)) }
+        ensures unwritten { (file at : ℕ) → result ≡ Err (fault.Damaged file at) → (self.new.storage.disk ≡ self.old.storage.disk) × (self.new.store ≡ self.old.store) }
         ensures told { Told self.old.storage.disk self.new.storage.disk (PublishesMerged result self.old.store self.new.store merged.now) }
         ensures counted { CountsPublish self.old.storage.faults self.new.storage.faults result }
     {

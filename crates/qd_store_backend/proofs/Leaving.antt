@@ -11,6 +11,7 @@ use Rattle.qd_sequencer.specs.Sequences.{Sequence}
 use Rattle.qd_session.specs.Alone.{MayLeave, MayPend}
 use Rattle.qd_session.specs.Looks.{Look}
 use Rattle.qd_store.specs.Calls.{Commits, Stands}
+use Rattle.qd_store.specs.declared.fault.PublishFault.{PublishFault}
 use Rattle.qd_store.specs.Merges.{PublishesMerged}
 use Rattle.qd_store.specs.Drafts.{IsNextOf, Merging}
 use Rattle.qd_store.specs.Owned.{Store}
@@ -132,8 +133,8 @@ pub committed_leaves : (T E : Type 0) (r : Result T E) (old new : Store) (Own : 
 committed_leaves T E r old new Own told h next disk later at holds there = (changed_to (Commits r old.store new.store Own) old new told disk later at there).pending h next holds
 
 -- a publication, and a version that is let go behind it
-pub turned_leaves : (T E : Type 0) (r : Result T E) (old mid new : Store) (m : Merging) → Told old.storage.disk mid.storage.disk (PublishesMerged r old.store mid.store m) → new.storage.disk ≡ mid.storage.disk → new.store.sequence ≡ mid.store.sequence → LeavesNoOther old new
-turned_leaves T E r old mid new m told disk sequence h next d later at holds there =
+pub turned_leaves : (T : Type 0) (r : Result T PublishFault) (old mid new : Store) (m : Merging) → Told old.storage.disk mid.storage.disk (PublishesMerged r old.store mid.store m) → new.storage.disk ≡ mid.storage.disk → new.store.sequence ≡ mid.store.sequence → LeavesNoOther old new
+turned_leaves T r old mid new m told disk sequence h next d later at holds there =
     subst (λ (s : Sequence). PendsAsBefore old.store.sequence.pending s.pending d later) (sym sequence)
     ((changed_to (PublishesMerged r old.store mid.store m) old mid told d later at (sym disk ∙ there)).pending h next holds)
 

@@ -1,5 +1,5 @@
 -- What a round makes of a store.
-use Rattle.std.proofs.Common.{◌≡◌, ◌↔◌, ◌∙◌, ℕ, ◌<◌, ◌≤◌, inl, inr, true, false, List, [], length, get_or, All, Option, None, Some, is_some, Result, Ok, Err, Bool, IfOk, IfSome, OnErr, refl, sym, ap, ap₂, subst, arith}
+use Rattle.std.proofs.Common.{◌≡◌, ◌⊎◌, ◌↔◌, ◌∙◌, ℕ, ◌<◌, ◌≤◌, inl, inr, true, false, List, [], length, get_or, All, Option, None, Some, is_some, Result, Ok, Err, Bool, IfOk, IfSome, OnErr, refl, sym, ap, ap₂, subst, arith}
 use Rattle.std.proofs.lemmas.List.Elements.{All-get_or}
 use Rattle.qd_base.specs.declared.op.Entry.{Entry}
 use Rattle.qd_catalog.specs.declared.version.Version as catalog
@@ -12,18 +12,21 @@ use Rattle.qd_io.specs.declared.fault.IoFault.TheVariants as io
 use Rattle.qd_store.specs.declared.fault.PublishFault.{PublishFault}
 use Rattle.qd_store.specs.declared.fault.PublishFault.TheVariants as publish
 use Rattle.qd_store.specs.Calls.{Stands}
+use Rattle.qd_store.specs.Damage.{IsDraftDamage}
 use Rattle.qd_store.specs.Drafts.{Drafted, IsDraftedFrom, IsMerged, IsMergedOver, IsNextOf, Merging, between}
-use Rattle.qd_store.specs.Faults.{IsMoved}
-use Rattle.qd_store.specs.Merges.{PublishesMerged}
+use Rattle.qd_durable.specs.declared.fault.LogFault.{LogFault}
+use Rattle.qd_durable.specs.declared.fault.LogFault.TheVariants as log
+use Rattle.qd_store.specs.Faults.{IsMoved, IsUndamaged}
+use Rattle.qd_store.specs.Merges.{PublishesMerged, next_version}
 use Rattle.qd_store.specs.Owned.{Store}
 use Rattle.qd_store.specs.Stores.{IsStore, Book}
 use Rattle.qd_store.proofs.Rounds.{Merges}
 use Rattle.qd_txnfile.specs.Versions.{Version}
-use Rattle.qd_versions.specs.Publishing.{IsFull}
+use Rattle.qd_versions.specs.Publishing.{IsFull, IsGrownLost}
 use Rattle.qd_volume.specs.Calls.{Storage}
-use Rattle.qd_volume.specs.Disk.{Disk}
-use Rattle.qd_store_backend.specs.Backs.{IsTold, LeavesNoOther, current}
-use Rattle.qd_store_backend.specs.Rounds.{IsNextFrom, IsOfVolume, IsOnlyOne, IsSwept, StaysTold}
+use Rattle.qd_volume.specs.Disk.{Disk, Image, reads_of}
+use Rattle.qd_store_backend.specs.Backs.{IsDamageTold, IsGrowthDamaged, IsRoundDamaged, IsTailDamage, IsTold, LeavesNoOther, current}
+use Rattle.qd_store_backend.specs.Rounds.{fault_of, IsNextFrom, IsOfVolume, IsOnlyOne, IsSwept, StaysTold}
 use Rattle.qd_store_backend.proofs.Leaving.{leaves_both, leaves_here, swept_leaves}
 use Rattle.qd_store_backend.proofs.Told.{told_of}
 
@@ -105,11 +108,11 @@ module _ (first old new : Store) (before : Keeps first old) where
 
 -- ---- publications
 
--- nothing stands against the publication of a merge of the one live version but the volume and memory
+-- nothing stands against the publication of a merge of the one live version but the volume, its files and memory
 pub of_volume : {T : Type 0} (result : Result T PublishFault) (v : Versions) (m : Merging) (cause : PublishFault) → result ≡ Err cause
     → ((n : ℕ) → (result ≡ Err (publish.Moved n)) ↔ IsMoved v m.base n) → ((result ≡ Err publish.NoRow) ↔ ((current_n v ≡ Some m.base) × IsFull v))
     → IsMergedOver v m → IsOnlyOne v → length v.versions ≡ 64 → IsOfVolume cause
-of_volume result v m (publish.Moved n) is moved full (x, at, (es, contents, db, merged)) alone rows =
+of_volume result v m (publish.Moved n) is moved full (x, at, (es, contents, db, merged), extends) alone rows =
     let there = (moved n).0 is in
     there.1 (same (current_n v) there.0 (ap n_of at) ∙ sym merged.base)
   where
@@ -120,15 +123,27 @@ of_volume result v m publish.NoRow is moved full over alone rows =
     let row : (i : ℕ) → i < 2 → i ≡ v.current = λ i low. alone i (All-get_or (λ (o : Option catalog.Version). is_some o ≡ true) v.versions i None (omega (arith, low, rows)) live) in
     absurd (omega (arith, row 0 (omega arith), row 1 (omega arith)))
 of_volume result v m publish.Vol is moved full over alone rows = tt
+of_volume result v m (publish.Damaged file place) is moved full over alone rows = tt
 of_volume result v m publish.Memory is moved full over alone rows = tt
 
 -- a history stays told where its merge is published, and a version is let go
-pub turned_told : (T E : Type 0) (old mid new : Store) (row : T) (m : Merging) → Told old.storage.disk mid.storage.disk (PublishesMerged {T = T} {E = E} (Ok row) old.store mid.store m)
+pub turned_told : (T : Type 0) (old mid new : Store) (row : T) (m : Merging) → Told old.storage.disk mid.storage.disk (PublishesMerged {T = T} (Ok row) old.store mid.store m)
     → new.storage ≡ mid.storage → ((h : List Entry) (next : Version) (disk : Disk) → IsStore mid.store h next disk → IsStore new.store h next disk)
     → (h : List Entry) → IsTold old h → IsNextOf old.store h m → IsTold new h
-turned_told T E old mid new row m told storage holds h (disk, next, is, stands) merged =
-    let by = told_of (PublishesMerged {T = T} {E = E} (Ok row) old.store mid.store m) old.storage.disk mid.storage.disk disk is told in
+turned_told T old mid new row m told storage holds h (disk, next, is, stands) merged =
+    let by = told_of (PublishesMerged {T = T} (Ok row) old.store mid.store m) old.storage.disk mid.storage.disk disk is told in
     (by.0, next, ap (λ (s : Storage). s.disk) storage ∙ by.1, holds h next by.0 (by.2.behind h next stands merged next))
+
+-- nor is anything else told where it isn't
+pub failed_told : (old new : Store) (cause : PublishFault) (m : Merging) → Told old.storage.disk new.storage.disk (PublishesMerged {T = ℕ} (Err cause) old.store new.store m)
+    → (h : List Entry) → IsTold old h → IsNextOf old.store h m → IsTold new h
+failed_told old new cause m told h (disk, next, is, stands) merged =
+    let by = told_of (PublishesMerged {T = ℕ} (Err cause) old.store new.store m) old.storage.disk new.storage.disk disk is told in
+    either by.0 by.1 next (by.2.behind h next stands merged)
+  where
+    either : (after : Disk) → new.storage.disk ≡ Some after → (next : Version) → IsStore new.store h next after ⊎ IsStore new.store h (next_version old.store m) after → IsTold new h
+    either after at next (inl is) = (after, next, at, is)
+    either after at next (inr is) = (after, next_version old.store m, at, is)
 
 -- ---- drafts
 
@@ -143,3 +158,48 @@ FromEach P s o = IfSome o (λ disk. (h : List Entry) (next : Version) → IsStor
 pub from_each : (P Q : List Entry → Type 0) (s : Book) (o : Option Disk) → ((h : List Entry) → P h → Q h) → FromEach P s o → FromEach Q s o
 from_each P Q s None weaker is = tt
 from_each P Q s (Some disk) weaker is = λ h next holds. weaker h (is h next holds)
+
+-- ---- damage of what rows are put behind
+
+-- the fault of a round, and that of the publication from which it comes
+damage_from : (cause : PublishFault) (answer : LogFault) (file at : ℕ) → answer ≡ fault_of cause → answer ≡ log.Damaged file at → cause ≡ publish.Damaged file at
+damage_from (publish.Moved n) answer file at is same = cc
+damage_from publish.NoRow answer file at is same = cc
+damage_from publish.Vol answer file at is same = cc
+damage_from (publish.Damaged other place) answer file at is same = cc
+damage_from publish.Memory answer file at is same = cc
+
+module _ (old : Store) (m : Merging) (result : Result ℕ PublishFault) (cause : PublishFault) (failed : result ≡ Err cause) (answer : LogFault) (from : answer ≡ fault_of cause) where
+  module _ (file at : ℕ) (answered : answer ≡ log.Damaged file at) where
+    published : result ≡ Err (publish.Damaged file at)
+    published = failed ∙ ap Err (damage_from cause answer file at from answered)
+
+    text_lost : (image : Image) → IsGrownLost old.store.versions.versions m.grown file at image → IsTailDamage old.store file at image
+    text_lost image lost = record { table = lost.g.table; i = lost.g.part; of = lost.t; part = lost.p; there = lost.there; lost = lost.lost; none = lost.none }
+
+    pub rows_damaged : IfSome old.storage.disk (λ disk. (file at : ℕ) → result ≡ Err (publish.Damaged file at) → IsGrownLost old.store.versions.versions m.grown file at (reads_of disk)) → IsGrowthDamaged old file at
+    rows_damaged lost = by old.storage.disk lost
+      where
+        by : (o : Option Disk) → IfSome o (λ disk. (file at : ℕ) → result ≡ Err (publish.Damaged file at) → IsGrownLost old.store.versions.versions m.grown file at (reads_of disk)) → IfSome o (λ disk. IsTailDamage old.store file at (reads_of disk))
+        by None lost = tt
+        by (Some disk) lost = text_lost (reads_of disk) (lost file at published)
+
+    -- which is never where the history is told
+    pub never_damaged : (new : Store) (h : List Entry) → IsTold old h → Told old.storage.disk new.storage.disk (PublishesMerged result old.store new.store m) → ⊥
+    never_damaged new h (disk, next, is, holds) told =
+        let by = told_of (PublishesMerged result old.store new.store m) old.storage.disk new.storage.disk disk is told in
+        subst IsUndamaged published (by.2.whole h next holds)
+
+-- the same of a store that only was read meanwhile
+pub rows_same : (a b : Store) → b.store ≡ a.store → b.storage.disk ≡ a.storage.disk → (file at : ℕ) → IsGrowthDamaged b file at → IsGrowthDamaged a file at
+rows_same a b store disk file at damaged =
+    subst (λ (s : Book). IfSome a.storage.disk (λ d. IsTailDamage s file at (reads_of d))) store
+    (subst (λ (o : Option Disk). IfSome o (λ d. IsTailDamage b.store file at (reads_of d))) disk damaged)
+
+pub untold : (o : Option (List Entry)) (owned : Store) → IfSome o (IsTold owned) → ((h : List Entry) → IsTold owned h → ⊥) → o ≡ None
+untold None owned told never = refl
+untold (Some h) owned told never = absurd (never h told)
+
+-- that of a draft of all transactions is one of a round
+pub draft_damaged : (owned : Store) (upto : ℕ) → upto ≡ length owned.store.sequence.refs → (file at : ℕ) → IsDamageTold owned (IsDraftDamage owned.store upto) file at → IsRoundDamaged owned file at
+draft_damaged owned upto all file at damaged = inl (subst (λ (n : ℕ). IsDamageTold owned (IsDraftDamage owned.store n) file at) all damaged)

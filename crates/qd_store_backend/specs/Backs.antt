@@ -1,5 +1,5 @@
 -- What a backend over a store keeps, and what it shows of it.
-use Rattle.std.specs.Prelude.{◌≡◌, ℕ, ◌+◌, ◌-◌, ◌≤◌, true, List, [], ◌∷◌, ◌++◌, length, map, Option, Some, None, IfSome, Result, Ok, Err}
+use Rattle.std.specs.Prelude.{◌≡◌, ◌⊎◌, ℕ, ◌+◌, ◌-◌, ◌≤◌, true, List, [], ◌∷◌, ◌++◌, length, map, Option, Some, None, IfSome, Result, Ok, Err}
 use Rattle.std.specs.List.{range_with_len}
 use Rattle.qd_base.specs.declared.op.Entry.{Entry}
 use Rattle.qd_base.specs.declared.limits.Limits.{Limits}
@@ -9,6 +9,8 @@ use Rattle.qd_base.specs.Replay.{after, first}
 use Rattle.qd_base.specs.declared.part.Part.{Part}
 use Rattle.qd_catalog.specs.declared.version.Version as catalog
 use Rattle.qd_catalog.specs.Versions.{IsLive, version_at}
+use Rattle.qd_column_files.specs.Damage.{HoldsNone}
+use Rattle.qd_column_files.specs.Growing.{IsTailLost}
 use Rattle.qd_column_files.specs.Reading.{IsBlockRead}
 use Rattle.qd_durable.specs.declared.fault.LogFault.TheVariants as fault
 use Rattle.qd_manifest.specs.declared.shape.TableParts.{TableParts}
@@ -115,6 +117,24 @@ IsPartDamaged owned file at = IsDamageTold owned (IsPartDamage owned.store) file
 -- that of a draft of all transactions
 abbrev pub IsDraftDamaged : Store → ℕ → ℕ → Type 0
 IsDraftDamaged owned file at = IsDamageTold owned (IsDraftDamage owned.store (length owned.store.sequence.refs)) file at
+
+-- The files of a part of the current version, behind whose rows others are put, are damaged at a byte, and hold no block
+-- that is the part's.
+pub record IsTailDamage (s : Book) (file at : ℕ) (image : Image) : Type 0 where
+  pub table : ℕ
+  pub i : ℕ
+  pub of : TableParts
+  pub part : Part
+  pub there : IsPartAt s.versions.versions s.versions.versions.current table i of part
+  pub lost : IsTailLost of.schema part file at image
+  pub none : HoldsNone of.schema part image
+
+abbrev pub IsGrowthDamaged : Store → ℕ → ℕ → Type 0
+IsGrowthDamaged owned file at = IsDamageTold owned (λ image f a. IsTailDamage owned.store f a image) file at
+
+-- that of a round: of its draft, or of what it puts rows behind
+abbrev pub IsRoundDamaged : Store → ℕ → ℕ → Type 0
+IsRoundDamaged owned file at = IsDraftDamaged owned file at ⊎ IsGrowthDamaged owned file at
 
 -- the last damage that was found is there still
 abbrev pub IsLastDamage : Store → Option (ℕ × ℕ) → Type 0

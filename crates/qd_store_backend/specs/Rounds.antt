@@ -26,18 +26,19 @@ IsNextFrom (Err (fault.Damaged file at)) s h = ⊥
 IsNextFrom (Err fault.Vol) s h = Unit {0}
 IsNextFrom (Err fault.Memory) s h = Unit {0}
 
--- A merge is the current version, or that is as it was: the volume failed, or there was no memory.
+-- A merge is the current version, or that is as it was: the volume failed, a file is damaged, or there was no memory.
 abbrev pub IsTurned : {T : Type 0} → Result T LogFault → Book → Book → Merging → Type 0
 IsTurned (Ok done) old new m = current new ≡ Some (record { n = m.upto; shape = m.shape })
-IsTurned (Err (fault.Damaged file at)) old new m = ⊥
+IsTurned (Err (fault.Damaged file at)) old new m = current new ≡ current old
 IsTurned (Err fault.Vol) old new m = current new ≡ current old
 IsTurned (Err fault.Memory) old new m = current new ≡ current old
 
--- the volume failed, or there was no memory
+-- the volume failed, a file is damaged, or there was no memory
 abbrev pub IsOfVolume : PublishFault → Type 0
 IsOfVolume (publish.Moved n) = ⊥
 IsOfVolume publish.NoRow = ⊥
 IsOfVolume publish.Vol = Unit {0}
+IsOfVolume (publish.Damaged file at) = Unit {0}
 IsOfVolume publish.Memory = Unit {0}
 
 -- such a fault, as that of a file
@@ -45,6 +46,7 @@ abbrev pub fault_of : PublishFault → LogFault
 fault_of (publish.Moved n) = fault.Memory
 fault_of publish.NoRow = fault.Memory
 fault_of publish.Vol = fault.Vol
+fault_of (publish.Damaged file at) = fault.Damaged file at
 fault_of publish.Memory = fault.Memory
 
 -- what is told of a store is told of it behind a call

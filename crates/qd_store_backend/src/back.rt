@@ -5,7 +5,7 @@ ghost use Rattle.qd_base.specs.declared.request.Reply.TheVariants as reply;
 ghost use Rattle.qd_base.specs.declared.request.Request.TheVariants as request;
 ghost use Rattle.qd_catalog.specs.Versions.{IsLive};
 ghost use Rattle.qd_base.specs.declared.op.Entry.{Entry};
-ghost use Rattle.qd_store_backend.specs.Backs.{back_shown, left_of, writer_behind, AreUsual, BeginsWith, GoesOn, IsDraftDamaged, IsLeftOf, IsPartDamaged, IsTold};
+ghost use Rattle.qd_store_backend.specs.Backs.{back_shown, left_of, writer_behind, AreUsual, BeginsWith, GoesOn, IsRoundDamaged, IsLeftOf, IsPartDamaged, IsTold};
 ghost use Rattle.qd_store_backend.specs.Replies.{RepliesWith};
 ghost use Rattle.qd_store_backend.specs.Rounds.{number_in};
 ghost use Rattle.qd_store_backend.specs.Volumes.{KeepsTold};
@@ -207,7 +207,7 @@ impl<V: Volume> Backend for StoreBack<V> {
         ensures handled { Handles AllowedAlone (back_shown self.old) (back_shown self.new) 0 request.Apply result }
         ensures one_writer { GoesOn self.old self.new }
         ensures damaged { (file : ℕ) (at : ℕ) → result ≡ Ok (reply.Damaged file at)
-            → IsDraftDamaged self.old.parts.owned file at }
+            → IsRoundDamaged self.old.parts.owned file at }
     {
         one_entry_is_read();
         self.parts.is_told();

@@ -1,6 +1,6 @@
 //! The current version of a store, as a source of the parts of tables.
 ghost use Rattle.std.specs.Prelude.{◌≡◌, ◌≢◌, ◌≤◌, ℕ, [], Err, None, length, IfErr, IfOk, IfSome, OnErr, OnOk};
-ghost use Rattle.qd_store_backend.specs.Backs.{current, kept_of, n_in, shape_in, shown_by, source_of, AreToldCount, AreToldSchemas, CommitsTo, IsAlone, IsDraftDamaged, IsLastDamage, IsTold, IsToldWhole, LeavesNoOther, LeavesOwn, ShowsAll};
+ghost use Rattle.qd_store_backend.specs.Backs.{current, kept_of, n_in, shape_in, shown_by, source_of, AreToldCount, AreToldSchemas, CommitsTo, IsAlone, IsRoundDamaged, IsLastDamage, IsTold, IsToldWhole, LeavesNoOther, LeavesOwn, ShowsAll};
 ghost use Rattle.qd_store_backend.specs.Rounds.{IsSwept, StaysTold, number_in};
 ghost use Rattle.qd_sequencer.specs.Sequences.{IsAsBefore, chosen};
 ghost use Rattle.qd_durable.specs.declared.fault.LogFault.TheVariants as fault;
@@ -168,7 +168,7 @@ impl<V: Volume> StoreParts<V> {
         ensures swept { IfOk result (λ round. IsSwept round.swept self.old.owned self.new.owned) }
         ensures left { LeavesNoOther self.old.owned self.new.owned }
         ensures sound { (file : ℕ) (at : ℕ) → result ≡ Err (fault.Damaged file at) → self.old.history ≡ None }
-        ensures damaged { (file : ℕ) (at : ℕ) → result ≡ Err (fault.Damaged file at) → IsDraftDamaged self.old.owned file at }
+        ensures damaged { (file : ℕ) (at : ℕ) → result ≡ Err (fault.Damaged file at) → IsRoundDamaged self.old.owned file at }
         ensures vol { result ≡ Err fault.Vol → HasRisen self.old.owned.storage.faults self.new.owned.storage.faults }
         ensures faults { self.old.owned.storage.faults ≤ self.new.owned.storage.faults }
     {
@@ -185,7 +185,7 @@ impl<V: Volume> StoreParts<V> {
         ensures stays { StaysTold self.old.owned self.new.owned }
         ensures left { LeavesNoOther self.old.owned self.new.owned }
         ensures sound { (file : ℕ) (at : ℕ) → result ≡ Err (fault.Damaged file at) → self.old.history ≡ None }
-        ensures damaged { (file : ℕ) (at : ℕ) → result ≡ Err (fault.Damaged file at) → IsDraftDamaged self.old.owned file at }
+        ensures damaged { (file : ℕ) (at : ℕ) → result ≡ Err (fault.Damaged file at) → IsRoundDamaged self.old.owned file at }
         ensures vol { result ≡ Err fault.Vol → HasRisen self.old.owned.storage.faults self.new.owned.storage.faults }
         ensures faults { self.old.owned.storage.faults ≤ self.new.owned.storage.faults }
     {
@@ -207,7 +207,7 @@ impl<V: Volume> StoreParts<V> {
         ensures stays { StaysTold self.old.owned self.new.owned }
         ensures left { LeavesNoOther self.old.owned self.new.owned }
         ensures sound { (file : ℕ) (at : ℕ) → result ≡ Err (fault.Damaged file at) → self.old.history ≡ None }
-        ensures damaged { (file : ℕ) (at : ℕ) → result ≡ Err (fault.Damaged file at) → IsDraftDamaged self.old.owned file at }
+        ensures damaged { (file : ℕ) (at : ℕ) → result ≡ Err (fault.Damaged file at) → IsRoundDamaged self.old.owned file at }
         ensures vol { result ≡ Err fault.Vol → HasRisen self.old.owned.storage.faults self.new.owned.storage.faults }
         ensures faults { self.old.owned.storage.faults ≤ self.new.owned.storage.faults }
     {

@@ -1,6 +1,6 @@
 //! A round: the transactions behind the current version of a store are merged, and shown in place of it.
-ghost use Rattle.std.specs.Prelude.{◌≡◌, ◌<◌, ◌≤◌, ℕ, Err, List, Some, length, IfOk, IfSome};
-ghost use Rattle.qd_store_backend.specs.Backs.{current, IsDamageTold, IsTold, LeavesNoOther};
+ghost use Rattle.std.specs.Prelude.{◌≡◌, ◌≢◌, ◌<◌, ◌≤◌, ℕ, Err, List, Some, length, IfOk, IfSome};
+ghost use Rattle.qd_store_backend.specs.Backs.{current, IsDamageTold, IsGrowthDamaged, IsTold, LeavesNoOther};
 ghost use Rattle.qd_store_backend.specs.Rounds.{fault_of, IsNextFrom, IsOfVolume, IsOnlyOne, IsSwept, IsTurned, StaysTold};
 ghost use Rattle.qd_base.specs.declared.op.Entry.{Entry};
 ghost use Rattle.qd_catalog.specs.Versions.{current_n};
@@ -54,6 +54,8 @@ pub(crate) fn turn_to<V: Volume>(
     ensures limits { store.new.store.limits ≡ store.old.store.limits }
     ensures told { (h : List Entry) → IsTold store.old h → IsNextOf store.old.store h merged.now → IsTold store.new h }
     ensures left { LeavesNoOther store.old store.new }
+    ensures damaged { (file : ℕ) (at : ℕ) → result ≡ Err (damage.Damaged file at) → IsGrowthDamaged store.old file at }
+    ensures whole { (h : List Entry) → IsTold store.old h → (file : ℕ) (at : ℕ) → result ≢ Err (damage.Damaged file at) }
     ensures counted { CountsVol store.old.storage.faults store.new.storage.faults result }
 {
     store.keeps_its_law();
@@ -68,13 +70,14 @@ pub(crate) fn turn_to<V: Volume>(
     }
 }
 
-/// The fault of a publication that nothing stood against but the volume and memory, as that of a file.
+/// The fault of a publication that nothing stood against but the volume, its files and memory, as that of a file.
 fn of_publish(cause: PublishFault) -> LogFault
     requires of_volume { IsOfVolume cause }
     ensures fault { result ≡ fault_of cause }
 {
     match cause {
         PublishFault::Vol => LogFault::Vol,
+        PublishFault::Damaged { file, at } => LogFault::Damaged { file, at },
         PublishFault::Memory => LogFault::Memory,
         PublishFault::Moved { .. } | PublishFault::NoRow => unreachable!(),
     }

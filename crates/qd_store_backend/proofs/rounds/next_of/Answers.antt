@@ -8,7 +8,7 @@ use Rattle.qd_store_backend.proofs.rounds.next_of.Goals as goal
 
 pub returns-clause-over : goal.returns-clause-over
 returns-clause-over g c =
-    merged_over c.args.store.now.store.versions.versions c.in_ok-draft.draft c.in_ok-merged.merged c.in_ok-draft.ensures.over c.in_ok-merged.ensures.merged
+    merged_over c.args.store.now.store.versions.versions c.in_ok-draft.draft c.in_ok-merged.merged c.in_ok-draft.ensures.over c.in_ok-merged.ensures.merged c.in_ok-merged.ensures.grows
 
 pub returns-clause-upto : goal.returns-clause-upto
 returns-clause-upto g c =

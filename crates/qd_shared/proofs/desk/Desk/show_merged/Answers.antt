@@ -1,11 +1,11 @@
-use Rattle.std.proofs.Common.{subst, sym}
+use Rattle.std.proofs.Common.{◌≡◌, None, subst, sym}
 use Rattle.qd_base.specs.declared.limits.Limits.{Limits}
 use Rattle.qd_store_backend.specs.Backs.{AreUsual}
 use Rattle.qd_versions.specs.Publishing.{IsFull}
 use Rattle.qd_shared.specs.Desks.{Desk}
 use Rattle.qd_shared.specs.Publishing.{IsNext}
 use Rattle.qd_shared.proofs.Desking.{no_row, unmoved}
-use Rattle.qd_shared.proofs.Merging.{published_told}
+use Rattle.qd_shared.proofs.Merging.{published_told, undamaged_told}
 use Rattle.qd_shared.proofs.desk.Desk.show_merged.Goals as goal
 
 pub of_publish-requires : goal.of_publish-requires
@@ -36,3 +36,9 @@ returns-in-Err-clause-full g c =
     subst (λ (d : Desk). IsFull d.owned.store.versions.versions) c.self.view_is
     (no_row c.publish-shown.result v c.args.merged.now.base c.in-Err.cause c.of_publish.result c.in-Err.is c.of_publish.ensures c.publish-shown.ensures.full
     (unmoved c.publish-shown.result v c.args.merged.now c.in-Err.cause c.in-Err.is c.publish-shown.ensures.moved next.over) (let e = none in cc))
+
+pub returns-in-Err-clause-whole : goal.returns-in-Err-clause-whole
+returns-in-Err-clause-whole g c file at damaged =
+    let i = c.self.inside in
+    subst (λ (d : Desk). d.history ≡ None) c.self.view_is
+    (undamaged_told c.publish-shown.result i.store c.publish-shown.new.self c.args.merged.now c.publish-shown.ensures.told i.telling.history c.self.invariant.told c.in-Err.cause c.of_publish.result c.in-Err.is c.of_publish.ensures file at (let e = damaged in cc))

@@ -21,19 +21,19 @@ loop-to-init g c =
       counted = refl;
       read = subst (λ (l : List Block). AllZip (IsReadOf c.args.plan.now.shape) [] l) (sym none) tt;
       told = subst (λ (l : List Block). IfSome (g.V.Volume.storage c.args.volume.now).disk (AreOf c.args.self.now c.args.plan.now.shape [] l)) (sym none)
-          (none_of c.args.self.now c.args.plan.now.shape c.args.plan.now.tables c.touched-to-items.result.now c.touched-to-items.ensures.touched c.requires.of.0 c.requires.of.1 c.requires.of.2 (g.V.Volume.storage c.args.volume.now).disk);
+          (none_of c.args.self.now c.args.plan.now.written c.args.plan.now.split_rows c.args.plan.now.shape c.args.plan.now.tables c.touched-to-items.result.now c.touched-to-items.ensures.touched c.requires.of.0 c.requires.of.1 c.requires.of.2 (g.V.Volume.storage c.args.volume.now).disk);
       behind = λ disk is file at lost. lost;
     }
 
 pub block_at-requires : goal.block_at-requires
 block_at-requires g c = record {
-  there = next_there c.args.self.now c.args.plan.now.shape c.args.plan.now.tables c.touched-to-items.result.now c.touched-to-items.ensures.touched c.requires.of.0 c.requires.of.1 c.requires.of.2 c.loop-to.to-index no_part c.loop-to-test.true;
+  there = next_there c.args.self.now c.args.plan.now.written c.args.plan.now.split_rows c.args.plan.now.shape c.args.plan.now.tables c.touched-to-items.result.now c.touched-to-items.ensures.touched c.requires.of.0 c.requires.of.1 c.requires.of.2 c.loop-to.to-index no_part c.loop-to-test.true;
 }
 
 pub returns-in_err-block-clause-told : goal.returns-in_err-block-clause-told
 returns-in_err-block-clause-told g c =
     let p = err_from_is_err_and c.from_residual.result c.from_residual.ensures.1 in
-    rw p.1 (rw p.2 (told_failed c.args.self.now c.args.plan.now.shape c.args.plan.now.tables c.touched-to-items.result.now c.touched-to-items.ensures.touched c.requires.of.0 c.requires.of.1 c.requires.of.2 c.loop-to.to-index no_part c.loop-to-test.true
+    rw p.1 (rw p.2 (told_failed c.args.self.now c.args.plan.now.written c.args.plan.now.split_rows c.args.plan.now.shape c.args.plan.now.tables c.touched-to-items.result.now c.touched-to-items.ensures.touched c.requires.of.0 c.requires.of.1 c.requires.of.2 c.loop-to.to-index no_part c.loop-to-test.true
     c.in_err-block.field-0.0 _ _ c.loop-to.invariant.stays c.in_err-block.ensures.told))
 
 pub returns-in_err-block-clause-damaged : goal.returns-in_err-block-clause-damaged
@@ -57,17 +57,17 @@ loop-to-preserved g c =
       stays = c.block_at.ensures.stays ∙ c.loop-to.invariant.stays;
       counted = c.in_ok-block.ensures.counted ∙ c.loop-to.invariant.counted;
       read = subst (λ (l : List Block). AllZip (IsReadOf c.args.plan.now.shape) (take (c.loop-to.to-index + 1) c.touched-to-items.result.now) l) (sym more)
-          (read_more c.args.self.now c.args.plan.now.shape c.args.plan.now.tables c.touched-to-items.result.now c.touched-to-items.ensures.touched c.requires.of.0 c.requires.of.1 c.requires.of.2 c.loop-to.to-index no_part c.loop-to-test.true
+          (read_more c.args.self.now c.args.plan.now.written c.args.plan.now.split_rows c.args.plan.now.shape c.args.plan.now.tables c.touched-to-items.result.now c.touched-to-items.ensures.touched c.requires.of.0 c.requires.of.1 c.requires.of.2 c.loop-to.to-index no_part c.loop-to-test.true
           _ _ c.loop-to.invariant.read c.in_ok-block.ensures.read);
       told = subst (λ (l : List Block). IfSome (g.V.Volume.storage c.args.volume.now).disk (AreOf c.args.self.now c.args.plan.now.shape (take (c.loop-to.to-index + 1) c.touched-to-items.result.now) l)) (sym more)
-          (told_more c.args.self.now c.args.plan.now.shape c.args.plan.now.tables c.touched-to-items.result.now c.touched-to-items.ensures.touched c.requires.of.0 c.requires.of.1 c.requires.of.2 c.loop-to.to-index no_part c.loop-to-test.true
+          (told_more c.args.self.now c.args.plan.now.written c.args.plan.now.split_rows c.args.plan.now.shape c.args.plan.now.tables c.touched-to-items.result.now c.touched-to-items.ensures.touched c.requires.of.0 c.requires.of.1 c.requires.of.2 c.loop-to.to-index no_part c.loop-to-test.true
           _ _ _ _ c.loop-to.invariant.stays c.loop-to.invariant.told c.in_ok-block.ensures.told);
       behind = loses_next c.touched-to-items.result.now c.args.plan.now.shape c.loop-to.to-index (g.V.Volume.storage c.args.volume.now).disk c.loop-to.invariant.behind no_part c.loop-to-test.true
           (g.V.Volume.storage c.loop-to.volume).disk c.loop-to.invariant.stays c.requires.of.0.shape c.requires.of.2 (arc_value c.in_ok-block.block) (c.in_ok-block.ensures.files c.requires.of.0 c.requires.of.1);
     }
 
 pub returns-clause-read : goal.returns-clause-read
-returns-clause-read g c = all_are_read c.args.self.now c.args.plan.now.shape c.args.plan.now.tables c.touched-to-items.result.now c.touched-to-items.ensures.touched c.requires.of.0 c.requires.of.1 c.requires.of.2 c.loop-to.to-index _ c.loop-to-test.false c.loop-to.invariant.read
+returns-clause-read g c = all_are_read c.args.self.now c.args.plan.now.written c.args.plan.now.split_rows c.args.plan.now.shape c.args.plan.now.tables c.touched-to-items.result.now c.touched-to-items.ensures.touched c.requires.of.0 c.requires.of.1 c.requires.of.2 c.loop-to.to-index _ c.loop-to-test.false c.loop-to.invariant.read
 
 pub returns-clause-told : goal.returns-clause-told
-returns-clause-told g c = all_told c.args.self.now c.args.plan.now.shape c.args.plan.now.tables c.touched-to-items.result.now c.touched-to-items.ensures.touched c.requires.of.0 c.requires.of.1 c.requires.of.2 c.loop-to.to-index _ _ c.loop-to-test.false c.loop-to.invariant.told
+returns-clause-told g c = all_told c.args.self.now c.args.plan.now.written c.args.plan.now.split_rows c.args.plan.now.shape c.args.plan.now.tables c.touched-to-items.result.now c.touched-to-items.ensures.touched c.requires.of.0 c.requires.of.1 c.requires.of.2 c.loop-to.to-index _ _ c.loop-to-test.false c.loop-to.invariant.told

@@ -1,11 +1,16 @@
-use Rattle.std.proofs.Common.{List, sym, subst, ◌∙◌, ap}
+use Rattle.std.proofs.Common.{◌≡◌, inr, None, Err, List, length, sym, subst, ◌∙◌, ap}
+use Rattle.std.proofs.lemmas.Result.{err_from_is_err_and}
 use Rattle.qd_base.specs.Lawful.{AreSchemas}
+use Rattle.qd_durable.specs.declared.fault.LogFault.{LogFault}
+use Rattle.qd_durable.specs.declared.fault.LogFault.TheVariants as log
 use Rattle.qd_manifest.specs.declared.shape.TableParts.{TableParts}
 use Rattle.qd_manifest.specs.Spelling.{schemas_in}
+use Rattle.qd_store.proofs.BlocksRead.{same_cause}
 use Rattle.qd_store.proofs.MergedVersion.{may_over}
-use Rattle.qd_store_backend.specs.Backs.{LeavesNoOther, Parts}
+use Rattle.qd_store_backend.specs.Backs.{IsGrowthDamaged, IsRoundDamaged, LeavesNoOther, Parts}
 use Rattle.qd_store_backend.specs.Rounds.{StaysTold}
 use Rattle.qd_store_backend.proofs.Leaving.{leaves_same, leaves_still, told_next, told_still}
+use Rattle.qd_store_backend.proofs.Turns.{draft_damaged, rows_same, untold}
 use Rattle.qd_store_backend.proofs.parts.StoreParts.show.Goals as goal
 
 pub schemas_of-requires : goal.schemas_of-requires
@@ -47,3 +52,30 @@ pub returns-clause-stays : goal.returns-clause-stays
 returns-clause-stays g c =
     subst (λ (p : Parts). StaysTold p.owned c.turn_to.new.store) c.self.view_is
     (told_next c.self.inside.store c.next_of.new.store c.turn_to.new.store c.in_ok-merged.merged c.in_ok-merged.ensures.told c.next_of.ensures.store c.next_of.ensures.stays c.turn_to.ensures.told)
+
+pub returns-in_err-turn_to-clause-damaged : goal.returns-in_err-turn_to-clause-damaged
+returns-in_err-turn_to-clause-damaged g c file at damaged =
+    let r = c.from_residual-in_err-turn_to.result in
+    let p = err_from_is_err_and r c.from_residual-in_err-turn_to.ensures.1 in
+    let same = same_cause r c.in_err-turn_to.field-0.0 (log.Damaged file at) (subst (λ (f : LogFault). r ≡ Err f) p.2 p.1) damaged in
+    inr
+    (subst (λ (p : Parts). IsGrowthDamaged p.owned file at) c.self.view_is
+    (rows_same c.self.inside.store c.next_of.new.store c.next_of.ensures.store c.next_of.ensures.stays file at (c.in_err-turn_to.ensures.damaged file at (ap Err same))))
+
+pub returns-in_err-turn_to-clause-sound : goal.returns-in_err-turn_to-clause-sound
+returns-in_err-turn_to-clause-sound g c file at damaged =
+    let r = c.from_residual-in_err-turn_to.result in
+    let p = err_from_is_err_and r c.from_residual-in_err-turn_to.ensures.1 in
+    let same = same_cause r c.in_err-turn_to.field-0.0 (log.Damaged file at) (subst (λ (f : LogFault). r ≡ Err f) p.2 p.1) damaged in
+    subst (λ (p : Parts). p.history ≡ None) c.self.view_is
+    (untold c.self.inside.telling.history c.self.inside.store c.self.invariant.parts.told
+    (λ h told. c.in_err-turn_to.ensures.whole h (told_still c.self.inside.store c.next_of.new.store c.next_of.ensures.store c.next_of.ensures.stays h told) file at (ap Err same)))
+
+pub returns-in_err-merged-clause-damaged : goal.returns-in_err-merged-clause-damaged
+returns-in_err-merged-clause-damaged g c file at damaged =
+    let r = c.from_residual.result in
+    let p = err_from_is_err_and r c.from_residual.ensures.1 in
+    let same = same_cause r c.in_err-merged.field-0.0 (log.Damaged file at) (subst (λ (f : LogFault). r ≡ Err f) p.2 p.1) damaged in
+    let all : c.args.upto ≡ length c.self.inside.store.store.sequence.refs = subst (λ (p : Parts). c.args.upto ≡ length p.owned.store.sequence.refs) (sym c.self.view_is) c.requires.all in
+    subst (λ (p : Parts). IsRoundDamaged p.owned file at) c.self.view_is
+    (draft_damaged c.self.inside.store c.args.upto all file at (c.in_err-merged.ensures.damaged file at (ap Err same)))

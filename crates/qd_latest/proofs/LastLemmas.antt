@@ -1,8 +1,8 @@
 -- Rows whose number stands last at them.
-use Rattle.std.proofs.Common.{◌≡◌, ◌≢◌, ℕ, zero, suc, ◌+◌, ◌-◌, ◌<◌, ◌≤◌, Bool, true, false, cond, eqb, List, [], ◌∷◌, ◌++◌, Some, length, map, take, drop, get_or, set, refl, sym, ap, ap₂, ◌∙◌, arith, subst, All, slice_get, inl, inr, length-drop, get_or-set_other, get_or-set_same}
+use Rattle.std.proofs.Common.{◌≡◌, ℕ, zero, suc, ◌+◌, ◌-◌, ◌<◌, ◌≤◌, Bool, true, false, cond, eqb, List, [], ◌∷◌, ◌++◌, Some, length, map, take, drop, get_or, set, refl, sym, ap, ap₂, ◌∙◌, arith, subst, slice_get, inl, inr, length-drop, get_or-set_other, get_or-set_same}
 use Rattle.std.specs.Prelude.{◌&&◌, not}
-use Rattle.std.specs.List.{zip, list_all, list_any}
-use Rattle.std.proofs.lemmas.Bool.{cases_eq, eq-eqb, eqb-true, eqb-false, true≢false}
+use Rattle.std.specs.List.{zip, list_any}
+use Rattle.std.proofs.lemmas.Bool.{cases_eq, eq-eqb, eqb-true, eqb-false}
 use Rattle.std.proofs.lemmas.List.{append-nil, get_or-drop, get_or-map, get_or_default, length-map, take_more, take_all}
 use Rattle.std.proofs.lemmas.List.Folds.{list_any_at, list_any_none}
 use Rattle.std.proofs.lemmas.Option.{get_or_from_slice_get, slice_get-get_or}
@@ -12,7 +12,7 @@ use Rattle.qd_expr.specs.Passing.{with_places}
 use Rattle.qd_meaning.specs.Grouped.{same_key}
 use Rattle.qd_meaning.specs.Latest.{latest}
 use Rattle.qd_rows.specs.Sets.{Joined, ResultRows, row_of_place, rows_in, with_place, IsPlaced}
-use Rattle.qd_keys.specs.Keys.{first_key, second_key, keys_of_both, same_keys, Tells}
+use Rattle.qd_keys.specs.Keys.{first_key, keys_of_both, same_keys, Tells}
 use Rattle.qd_latest.specs.Lasts.{places_where, stands, AreLast}
 
 -- ---- the last place of each number

@@ -1,2 +1,10 @@
 pub mod LastLemmas
 pub mod LawLemmas
+pub mod WalkLemmas
+pub mod ChainLemmas
+pub mod PartLemmas
+pub mod TextLemmas
+pub mod NullLemmas
+pub mod PlaceLemmas
+pub mod MeetLemmas
+pub mod ChainLaws

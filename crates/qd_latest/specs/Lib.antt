@@ -1,2 +1,4 @@
 pub mod Lasts
 pub mod Laws
+pub mod Chains
+pub mod Walks

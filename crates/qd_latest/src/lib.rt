@@ -3,7 +3,12 @@
 
 mod lasts;
 mod laws;
+mod linked;
+mod nulls;
+mod parts;
 mod rows;
+mod walk;
 
-pub use laws::latest_rows_are_last;
+pub use laws::{chains_are_latest_first, latest_rows_are_last};
+pub use linked::chains;
 pub use rows::latest;

@@ -1,6 +1,6 @@
-use Rattle.std.proofs.Common.{◌≡◌, ◌≢◌, ◌<◌, ◌+◌, None, arith, length, subst, sym, eq-eqb, get_or}
+use Rattle.std.proofs.Common.{◌<◌, ◌+◌, None, arith, length, subst, sym, eq-eqb, get_or}
 use Rattle.std.proofs.lemmas.Bool.{ne_eqb}
-use Rattle.qd_rows.specs.Sets.{Joined, ResultRows}
+use Rattle.qd_rows.specs.Sets.{ResultRows}
 use Rattle.qd_latest.proofs.LastLemmas.{IsKept, kept_none, kept_all, place_taken, place_passed, placed_still}
 use Rattle.qd_latest.proofs.rows.keep_last.Goals as goal
 use Rattle.qd_latest.proofs.rows.keep_last.Goals.{then-last-numbers+in_ok-push_row, else-last-numbers}

@@ -1,4 +1,4 @@
-use Rattle.std.proofs.Common.{◌≡◌, ◌∙◌, ◌++◌, ◌∷◌, [], ap}
+use Rattle.std.proofs.Common.{◌∙◌, ◌++◌, ◌∷◌, [], ap}
 use Rattle.std.specs.Arc.{arc_value}
 use Rattle.qd_block.specs.Blocks.{Block}
 use Rattle.qd_rows.specs.Sets.{ResultRows}

@@ -1,12 +1,11 @@
-use Rattle.std.proofs.Common.{◌≡◌, ◌+◌, ◌<◌, ◌∙◌, ℕ, List, [], refl, sym, ap, arith, length, subst, All}
+use Rattle.std.proofs.Common.{◌≡◌, ◌+◌, ◌<◌, ◌∙◌, ℕ, List, refl, sym, ap, arith, length, subst, All}
 use Rattle.std.specs.List.{zip}
 use Rattle.qd_expr.specs.Passing.{with_places}
-use Rattle.qd_meaning.specs.Latest.{latest}
 use Rattle.qd_rows.specs.Sets.{ResultRows, rows_in}
 use Rattle.qd_keys.specs.Keys.{same_keys, Tells}
-use Rattle.qd_latest.specs.Lasts.{places_where, stands, AreLast}
+use Rattle.qd_latest.specs.Lasts.{places_where, stands}
 use Rattle.qd_latest.proofs.LastLemmas.{last_kept}
-use Rattle.qd_latest.proofs.rows.latest.Goals as goal
+use Rattle.qd_latest.proofs.rows.latest_by_numbers.Goals as goal
 
 pub last_places-requires : goal.last_places-requires
 last_places-requires g c = subst (All (λ k. k < c.in_ok-told.told.bound)) (sym c.as_slice-numbers.ensures.value) c.in_ok-told.ensures.tell.below
@@ -27,13 +26,13 @@ returns g c =
     let s : ResultRows = c.args.rows.now in
     let none : ResultRows = c.in_ok-kept.kept in
     let kept : ResultRows = c.keep_last.new.kept in
-    let keys : List ℕ = c.as_slice-keys.result.now in
+    let keys : List ℕ = c.args.keys.now in
     let ns : List ℕ = c.as_slice-numbers.result.now in
     let bound : ℕ = c.in_ok-told.told.bound in
     let told = subst (λ (l : List ℕ). Tells (same_keys (zip keys keys) (rows_in s) (rows_in none)) (length s.places + length none.places) bound l) (sym c.as_slice-numbers.ensures.value) c.in_ok-told.ensures.tell in
     let is : c.keep_last.new.kept ≡ with_places c.args.rows.now (places_where (stands c.as_slice-numbers.result.now c.in_ok-last.last.items) 0 c.args.rows.now.places)
     = c.in_ok-keep_last.ensures.ok ∙ ap (λ (l : List ℕ). with_places s (places_where (stands ns l) 0 s.places)) c.as_slice.ensures.value in
     record {
-      rows = last_kept keys s none kept ns c.in_ok-last.last.items bound (length s.places) (length none.places) refl c.in_ok-kept.ensures refl told c.in_ok-last.ensures.last is ∙ ap (λ (k : List ℕ). latest k (rows_in s)) c.as_slice-keys.ensures.items;
+      rows = last_kept keys s none kept ns c.in_ok-last.last.items bound (length s.places) (length none.places) refl c.in_ok-kept.ensures refl told c.in_ok-last.ensures.last is;
       over = c.in_ok-keep_last.ensures.ok ∙ ap (λ (x : ResultRows). with_places s x.places) (sym c.in_ok-keep_last.ensures.ok);
     }

@@ -612,11 +612,15 @@ def http(program, rng, found, until, place):
 # -- PostgreSQL's protocol
 
 ENCRYPT, ENCRYPT_BY_GSS, CANCEL, PROTOCOL = 80_877_103, 80_877_104, 80_877_102, 196_608
-NO_ENCRYPTION, WELCOME, READY, EMPTY = b"N", message(b"R", bytes(4)) + message(b"Z", b"I"), message(b"Z", b"I"), message(b"I")
+NO_ENCRYPTION, ACCEPTED, READY, EMPTY = b"N", message(b"R", bytes(4)), message(b"Z", b"I"), message(b"I")
+SETTINGS = b"".join(message(b"S", name + b"\0" + value + b"\0") for name, value in (
+    (b"server_version", b"14.0 (Bontayug)"), (b"server_encoding", b"UTF8"), (b"client_encoding", b"UTF8"), (b"DateStyle", b"ISO, YMD"), (b"TimeZone", b"UTC"),
+    (b"integer_datetimes", b"on"), (b"standard_conforming_strings", b"on")))
 PG_TEXTS = [b"t", b"t;", b"SELECT v, ts FROM t WHERE v > 1", b"SELECT count() c, sum(v) FROM t", b"u", b"", b" \t\r\n", b"nix;;", b"SELECT",
             b"DROP TABLE t", b"t LIMIT 9223372036854775808", b"SHOW PARTITIONS FROM u", b"\xff", b"SET a = 'b'", b"BEGIN", b"x" * 65_536]
 PG_STARTS = [struct.pack(">II", 8, ENCRYPT), struct.pack(">II", 8, ENCRYPT_BY_GSS), struct.pack(">II", 8, ENCRYPT) + START,
-             struct.pack(">IIII", 16, CANCEL, 1, 2), struct.pack(">II", 41, PROTOCOL) + b"user\0u\0database\0d\0client_encoding"[:33], b""]
+             struct.pack(">IIII", 16, CANCEL, 1, 2), struct.pack(">II", 41, PROTOCOL) + b"user\0u\0database\0d\0client_encoding"[:33], b"",
+             struct.pack(">II", 9, PROTOCOL) + b"\0", struct.pack(">II", 10, PROTOCOL) + b"\0\0", struct.pack(">II", 16, PROTOCOL) + b"user\0u\0\0"]
 PG_PIECES = [b"\0", b"\0\0", b"\xff", b"Q", b"P", b"S", b"X", b"H", b"p", b"\0\0\0\3", b"\0\0\0\4", b"\0\1\0\5", b"\0\1\0\6", message(b"S"), message(b"P"),
              message(b"Q", b"t\0"), START, struct.pack(">II", 8, ENCRYPT), struct.pack(">II", 8, CANCEL), b"a" * 70_000]
 
@@ -656,8 +660,9 @@ def answers_to(stream, answer):
                 return b"".join(found) + error_of(1, at), "code 1"
             if begun[0] == CANCEL:
                 return b"".join(found), "cancel"
-            has_started, at = begun[0] == PROTOCOL, begun[1]
-            found.append(WELCOME if has_started else NO_ENCRYPTION)
+            has_started, names = begun[0] == PROTOCOL, begun[1] - at > 9
+            at = begun[1]
+            found.append(ACCEPTED + (SETTINGS if names else b"") + READY if has_started else NO_ENCRYPTION)
             continue
         whole = message_at(stream, at)
         if not whole:

@@ -1,17 +1,18 @@
 -- Messages are read as they were written.
 use Rattle.std.proofs.Common.{◌≡◌, ℕ, ◌+◌, ◌-◌, ◌≤◌, true, false, List, [], ◌∷◌, ◌++◌, length, take, refl, ap, ◌∙◌, arith, length-append, append_assoc, Some}
-use Rattle.std.specs.Prelude.{◌&&◌, ◌||◌, ◌==◌, not, nat_lt, if◌then◌else◌, slice_index}
+use Rattle.std.specs.Prelude.{◌&&◌, ◌||◌, ◌==◌, not, nat_le, nat_lt, if◌then◌else◌, flat_map, slice_index}
 use Rattle.std.specs.List.{list_any}
-use Rattle.std.proofs.lemmas.Bool.{lt-ltb, le-ltb}
+use Rattle.std.proofs.lemmas.Bool.{le-leb, le-ltb, lt-ltb}
 use Rattle.std.proofs.lemmas.List.{take_at}
 use Rattle.std.proofs.lemmas.Nat.{from_be_bytes-to_be_bytes_4}
 use Rattle.qd_base.specs.declared.limits.TheConstants.{MAX_QUERY_BYTES}
-use Rattle.qd_pgwire.specs.declared.limits.TheConstants.{MAX_MESSAGE_LENGTH}
+use Rattle.qd_pgwire.specs.declared.limits.TheConstants.{MAX_MESSAGE_LENGTH, MAX_START_LENGTH, PROTOCOL_CODE}
 use Rattle.qd_pgwire.specs.declared.found.Kind.{Kind}
 use Rattle.qd_pgwire.specs.declared.found.Kind.TheVariants as kind
 use Rattle.qd_pgwire.specs.declared.found.Mode.TheVariants as mode
+use Rattle.qd_pgwire.specs.declared.found.Found.{Found}
 use Rattle.qd_pgwire.specs.declared.found.Found.TheVariants as found
-use Rattle.qd_pgwire.specs.Messages.{between, first, is_string, kind_of, message, message_with, string, text_in, u32_at, whole_of}
+use Rattle.qd_pgwire.specs.Messages.{between, first, is_string, kind_of, message, message_with, named, names_parameters, start_with, startup, string, text_in, u32_at, u32_bytes, whole_of}
 
 -- the length of a message is read back
 length_back : (type : ℕ) (body rest : List ℕ) → length body ≤ 65537 → u32_at 1 (message type body ++ rest) ≡ 4 + length body
@@ -40,6 +41,36 @@ message_back type body rest k is short =
     ∙ (ap (λ b. if b then found.Short else whole_of k (1 + (4 + length body)) (between 5 (1 + (4 + length body)) bytes)) (le-ltb (length bytes) (1 + (4 + length body)) (omega (arith, long)))
     ∙ (ap (whole_of k (1 + (4 + length body))) (body_back type body rest)
     ∙ ap (λ n. whole_of k n body) all))))))
+
+-- a start of the protocol, with these bytes as its parameters
+start_back : (body rest : List ℕ) → length body ≤ 9992
+    → first mode.Starting ((u32_bytes (8 + length body) ++ u32_bytes PROTOCOL_CODE ++ body) ++ rest) ≡ found.Whole (kind.Start (names_parameters (8 + length body))) (8 + length body)
+start_back body rest short =
+    let bytes : List ℕ = (u32_bytes (8 + length body) ++ u32_bytes PROTOCOL_CODE ++ body) ++ rest in
+    let len : ℕ = 8 + length body in
+    let is : Found = found.Whole (kind.Start (names_parameters len)) len in
+    let long : length bytes ≡ len + length rest = omega (arith, length-append body rest) in
+    let size : u32_at 0 bytes ≡ len = from_be_bytes-to_be_bytes_4 len (omega arith) in
+    ap (λ b. if b then found.Short else start_with (u32_at 0 bytes) PROTOCOL_CODE (length bytes)) (le-ltb (length bytes) 8 (omega (arith, long)))
+    ∙ (ap (λ n. start_with n PROTOCOL_CODE (length bytes)) size
+    ∙ (ap (λ b. if b && nat_le len MAX_START_LENGTH then (if nat_lt (length bytes) len then found.Short else is) else found.Wrong) (le-leb 8 len (omega arith))
+    ∙ (ap (λ b. if b then (if nat_lt (length bytes) len then found.Short else is) else found.Wrong) (le-leb len MAX_START_LENGTH (omega arith))
+    ∙ ap (λ b. if b then found.Short else is) (le-ltb (length bytes) len (omega (arith, long))))))
+
+pub start_back_none : (rest : List ℕ) → first mode.Starting (startup [] ++ rest) ≡ found.Whole (kind.Start false) 9
+start_back_none rest = start_back (0 ∷ []) rest (omega arith)
+
+-- a parameter has two zero bytes
+named_long : (p : List ℕ × List ℕ) (ps : List (List ℕ × List ℕ)) → 2 ≤ length (named (p ∷ ps))
+named_long p ps =
+    let more : List ℕ = flat_map (λ q. string q.0 ++ string q.1) ps in
+    omega (arith, length-append ((string p.0 ++ string p.1) ++ more) (0 ∷ []), length-append (string p.0 ++ string p.1) more, length-append (string p.0) (string p.1), length-append p.0 (0 ∷ []))
+
+pub start_back_some : (p : List ℕ × List ℕ) (ps : List (List ℕ × List ℕ)) (rest : List ℕ) → length (named (p ∷ ps)) ≤ 9992
+    → first mode.Starting (startup (p ∷ ps) ++ rest) ≡ found.Whole (kind.Start true) (8 + length (named (p ∷ ps)))
+start_back_some p ps rest short =
+    start_back (named (p ∷ ps)) rest short
+    ∙ ap (λ b. found.Whole (kind.Start b) (8 + length (named (p ∷ ps)))) (lt-ltb 9 (8 + length (named (p ∷ ps))) (omega (arith, named_long p ps)))
 
 -- a text and its zero byte
 last_back : (text : List ℕ) → slice_index (string text) (length text) ≡ 0

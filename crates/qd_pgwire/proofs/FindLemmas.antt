@@ -11,7 +11,7 @@ use Rattle.qd_pgwire.specs.declared.found.Mode.{Mode}
 use Rattle.qd_pgwire.specs.declared.found.Mode.TheVariants as mode
 use Rattle.qd_pgwire.specs.declared.found.Found.{Found}
 use Rattle.qd_pgwire.specs.declared.found.Found.TheVariants as found
-use Rattle.qd_pgwire.specs.Messages.{between, first, first_message, first_start, is_string, kind_of, message_with, start_with, text_in, u32_at, whole_of}
+use Rattle.qd_pgwire.specs.Messages.{between, first, first_message, first_start, is_string, kind_of, message_with, names_parameters, start_with, text_in, u32_at, whole_of}
 use Rattle.qd_pgwire.specs.Reading.{Fits}
 
 -- ---- more behind
@@ -47,7 +47,7 @@ start_more len code there more =
     once (code == CANCEL_CODE) _ _ _
     (once ((code == ENCRYPT_CODE || code == GSS_CODE) && len == 8) _ _ _
     (thrice (code == PROTOCOL_CODE && nat_le MIN_START_LENGTH len && nat_le len MAX_START_LENGTH) _ _ _
-    (room_more there more len (found.Whole kind.Start len) (found.Whole kind.Start len) (λ _. refl))))
+    (room_more there more len (found.Whole (kind.Start (names_parameters len)) len) (found.Whole (kind.Start (names_parameters len)) len) (λ _. refl))))
   where
     thrice : (b : Bool) (x v w : Found) → Stays v w → Stays (if b then v else x) (if b then w else x)
     thrice true x v w h = h
@@ -172,7 +172,7 @@ body_short size bytes some = omega (arith, length-take (size - 5) (drop 5 bytes)
 whole_fits : (k : Kind) (size : ℕ) (bytes : List ℕ) → 5 ≤ size → size ≤ length bytes → size ≤ 65542 → Fits bytes (whole_of k size (between 5 size bytes))
 whole_fits kind.Query size bytes least within most =
     pick (Fits bytes) (is_string (between 5 size bytes)) _ _ (λ ok. (body_short size bytes (string_some (between 5 size bytes) ok), within, most)) (λ _. tt)
-whole_fits kind.Start size bytes least within most = (least, within, most)
+whole_fits (kind.Start names) size bytes least within most = (least, within, most)
 whole_fits kind.Encrypt size bytes least within most = (least, within, most)
 whole_fits kind.Cancel size bytes least within most = (least, within, most)
 whole_fits kind.Extended size bytes least within most = (least, within, most)
@@ -207,7 +207,7 @@ whole_lies m bytes k size is = subst (Fits bytes) is (first_fits m bytes)
 
 pub least_of : (k : Kind) (size : ℕ) (bytes : List ℕ) → Fits bytes (found.Whole k size) → 5 ≤ size
 least_of kind.Query size bytes h = omega (arith, h.0)
-least_of kind.Start size bytes h = h.0
+least_of (kind.Start names) size bytes h = h.0
 least_of kind.Encrypt size bytes h = h.0
 least_of kind.Cancel size bytes h = h.0
 least_of kind.Extended size bytes h = h.0

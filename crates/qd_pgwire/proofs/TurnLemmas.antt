@@ -86,7 +86,7 @@ extended_shown f size mode.Skipping taken spelled = (taken, spelled)
 
 turn_shown : (f : Pgs) (k : Kind) (size : ℕ) → first f.mode f.waiting ≡ found.Whole k size → Shown f k size (turn_of f.mode k (text_in size f.waiting))
 unfolding Shown
-turn_shown f kind.Start size is = (takes_bytes f kind.Start size is, spells_turn f kind.Start size is refl)
+turn_shown f (kind.Start names) size is = (takes_bytes f (kind.Start names) size is, spells_turn f (kind.Start names) size is refl)
 turn_shown f kind.Encrypt size is = (takes_bytes f kind.Encrypt size is, spells_turn f kind.Encrypt size is refl)
 turn_shown f kind.Cancel size is = ends_now f (behind f kind.Cancel size) kind.Cancel size is refl refl (λ text. refl)
 turn_shown f kind.Query size is =

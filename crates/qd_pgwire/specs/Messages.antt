@@ -1,9 +1,9 @@
 -- Messages of PostgreSQL's protocol 3.0 (PostgreSQL documentation, "Frontend/Backend Protocol", "Message Formats"), and what
 -- stands at the front of the bytes that a client sends. Numbers have their highest byte first.
-use Rattle.std.specs.Prelude.{ℕ, ◌+◌, ◌-◌, Bool, not, ◌&&◌, ◌||◌, ◌==◌, nat_lt, nat_le, if◌then◌else◌, List, [], ◌∷◌, ◌++◌, length, take, drop, slice_index, Option, Some, None}
+use Rattle.std.specs.Prelude.{ℕ, ◌+◌, ◌-◌, Bool, not, ◌&&◌, ◌||◌, ◌==◌, nat_lt, nat_le, if◌then◌else◌, List, [], ◌∷◌, ◌++◌, length, flat_map, take, drop, slice_index, Option, Some, None}
 use Rattle.std.specs.Int.{w16, w32, to_be_bytes, from_be_bytes}
 use Rattle.std.specs.List.{list_any}
-use Rattle.qd_pgwire.specs.declared.limits.TheConstants.{CANCEL_CODE, ENCRYPT_CODE, GSS_CODE, MAX_MESSAGE_LENGTH, MAX_START_LENGTH, MIN_START_LENGTH, PROTOCOL_CODE}
+use Rattle.qd_pgwire.specs.declared.limits.TheConstants.{BARE_START_LENGTH, CANCEL_CODE, ENCRYPT_CODE, GSS_CODE, MAX_MESSAGE_LENGTH, MAX_START_LENGTH, MIN_START_LENGTH, PROTOCOL_CODE}
 use Rattle.qd_pgwire.specs.declared.found.Kind.{Kind}
 use Rattle.qd_pgwire.specs.declared.found.Kind.TheVariants as kind
 use Rattle.qd_pgwire.specs.declared.found.Mode.{Mode}
@@ -54,6 +54,18 @@ kind_of byte =
 abbrev pub between : ℕ → ℕ → List ℕ → List ℕ
 between start end bytes = take (end - start) (drop start bytes)
 
+-- StartupMessage: a length, itself with it, the code of the protocol's version, and parameters, each the strings of a name and of
+-- a value, with one zero byte behind the last
+abbrev pub named : List (List ℕ × List ℕ) → List ℕ
+named parameters = flat_map (λ p. string p.0 ++ string p.1) parameters ++ 0 ∷ []
+
+abbrev pub startup : List (List ℕ × List ℕ) → List ℕ
+startup parameters = u32_bytes (8 + length (named parameters)) ++ u32_bytes PROTOCOL_CODE ++ named parameters
+
+-- Whether a start of this length names parameters: where there are none it ends behind that zero byte, or before it.
+abbrev pub names_parameters : ℕ → Bool
+names_parameters len = nat_lt BARE_START_LENGTH len
+
 -- A connection begins with a length, itself with it, and a code: that of the protocol's version, of a request for encryption,
 -- by SSL or by GSSAPI, or of a request to cancel. A request to cancel is taken by its code alone.
 abbrev pub start_with : (len code there : ℕ) → Found
@@ -61,7 +73,7 @@ start_with len code there =
     if code == CANCEL_CODE then found.Whole kind.Cancel 8
     else (if (code == ENCRYPT_CODE || code == GSS_CODE) && len == 8 then found.Whole kind.Encrypt 8
     else (if code == PROTOCOL_CODE && nat_le MIN_START_LENGTH len && nat_le len MAX_START_LENGTH
-    then (if nat_lt there len then found.Short else found.Whole kind.Start len)
+    then (if nat_lt there len then found.Short else found.Whole (kind.Start (names_parameters len)) len)
     else found.Wrong))
 
 abbrev pub first_start : List ℕ → Found

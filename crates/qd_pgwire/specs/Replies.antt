@@ -21,10 +21,6 @@ use Rattle.qd_pgwire.specs.Messages.{message, string, u16_bytes, u32_bytes}
 abbrev pub ready_for_query : List ℕ
 ready_for_query = message 90 (codes "I")
 
--- AuthenticationOk, and then ReadyForQuery: the answer to a start
-abbrev pub welcome : List ℕ
-welcome = message 82 (u32_bytes 0) ++ ready_for_query
-
 -- the one byte that says that the connection goes on without encryption
 abbrev pub no_encryption : List ℕ
 no_encryption = codes "N"
@@ -36,6 +32,28 @@ empty_query = message 73 [] ++ ready_for_query
 -- ParameterStatus
 abbrev pub parameter : (name value : List ℕ) → List ℕ
 parameter name value = message 83 (string name ++ string value)
+
+-- What the server tells of itself when a session starts (PostgreSQL documentation, "Message Flow", "Start-up" and "Asynchronous
+-- Operations"), each a name and a value: the version, by whose number drivers ask which features are there; that texts are
+-- UTF-8 and times ISO 8601, in UTC; that times are integers, and a backslash in a text stands for itself.
+abbrev pub settings : List (List ℕ × List ℕ)
+settings =
+    (codes "server_version", codes "14.0 (Bontayug)")
+    ∷ (codes "server_encoding", codes "UTF8")
+    ∷ (codes "client_encoding", codes "UTF8")
+    ∷ (codes "DateStyle", codes "ISO, YMD")
+    ∷ (codes "TimeZone", codes "UTC")
+    ∷ (codes "integer_datetimes", codes "on")
+    ∷ (codes "standard_conforming_strings", codes "on")
+    ∷ []
+
+-- The answer to a start: AuthenticationOk; the settings, where the start names parameters; and ReadyForQuery.
+abbrev pub told : Bool → List ℕ
+told false = []
+told true = flat_map (λ s. parameter s.0 s.1) settings
+
+abbrev pub welcome : Bool → List ℕ
+welcome names = message 82 (u32_bytes 0) ++ told names ++ ready_for_query
 
 -- CommandComplete
 abbrev pub complete : List ℕ → List ℕ

@@ -33,7 +33,7 @@ extended_turn m = Says not_served
 
 -- the turn of a message, with the text that a query has
 abbrev pub turn_of : Mode → Kind → List ℕ → Turn
-turn_of m kind.Start text = Says welcome
+turn_of m (kind.Start names) text = Says (welcome names)
 turn_of m kind.Encrypt text = Says no_encryption
 turn_of m kind.Cancel text = Asks request.End pg_reply
 turn_of m kind.Query text = query_turn m text
@@ -44,7 +44,7 @@ turn_of m kind.Terminate text = Asks request.End pg_reply
 
 -- the state behind it
 abbrev pub mode_after : Mode → Kind → Mode
-mode_after m kind.Start = mode.Ready
+mode_after m (kind.Start names) = mode.Ready
 mode_after m kind.Encrypt = m
 mode_after m kind.Cancel = m
 mode_after m kind.Query = m
@@ -55,7 +55,7 @@ mode_after m kind.Terminate = m
 
 -- behind a request to cancel and behind Terminate nothing is looked at
 abbrev pub is_last : Kind → Bool
-is_last kind.Start = false
+is_last (kind.Start names) = false
 is_last kind.Encrypt = false
 is_last kind.Cancel = true
 is_last kind.Query = false

@@ -4,11 +4,11 @@ ghost use Rattle.std.specs.List.{list_any};
 ghost use Rattle.qd_pgwire.specs.declared.found.Found.TheVariants as found;
 ghost use Rattle.qd_pgwire.specs.declared.found.Kind.TheVariants as Kind;
 ghost use Rattle.qd_pgwire.specs.Messages as spec;
-ghost use Rattle.qd_pgwire.specs.Messages.{first, first_message, first_start, is_string, message_with, start_with, u32_at, whole_of};
+ghost use Rattle.qd_pgwire.specs.Messages.{first, first_message, first_start, is_string, message_with, names_parameters, start_with, u32_at, whole_of};
 
 use crate::limits::{
-    CANCEL_CODE, ENCRYPT_CODE, GSS_CODE, MAX_MESSAGE_LENGTH, MAX_START_LENGTH, MIN_START_LENGTH,
-    PROTOCOL_CODE,
+    BARE_START_LENGTH, CANCEL_CODE, ENCRYPT_CODE, GSS_CODE, MAX_MESSAGE_LENGTH, MAX_START_LENGTH,
+    MIN_START_LENGTH, PROTOCOL_CODE,
 };
 
 /// The state of a connection.
@@ -26,7 +26,10 @@ pub(crate) enum Mode {
 #[derive(Clone, Copy, Debug, PartialEq, Eq)]
 pub(crate) enum Kind {
     /// StartupMessage.
-    Start,
+    Start {
+        /// Whether its list of parameters has any.
+        names_parameters: bool,
+    },
     /// SSLRequest or GSSENCRequest.
     Encrypt,
     /// CancelRequest.
@@ -102,13 +105,15 @@ fn start_of(len: u32, code: u32, there: usize) -> Found
 
 // A start of so many bytes.
 fn started(size: usize, there: usize) -> Found
-    ensures { result ≡ (if nat_lt there size then found.Short else found.Whole Kind.Start size) }
+    ensures { result ≡ (if nat_lt there size then found.Short else found.Whole (Kind.Start (names_parameters size)) size) }
 {
     if there < size {
         Found::Short
     } else {
         Found::Whole {
-            kind: Kind::Start,
+            kind: Kind::Start {
+                names_parameters: size > BARE_START_LENGTH as usize,
+            },
             size,
         }
     }

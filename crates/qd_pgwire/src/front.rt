@@ -15,10 +15,11 @@ use std::marker::Model;
 
 /// A front that reads the messages of PostgreSQL's protocol 3.0 and answers simple queries, with rows as texts.
 ///
-/// A connection starts with the code of the protocol, before which encryption may be asked for and is denied. Then `Query`
-/// is a statement, and one of blanks alone is answered by itself; `Terminate` ends the connection, and so does a request to
-/// cancel. A message of the extended query is refused by itself, and the messages behind it are passed over up to `Sync`. A
-/// message has at most 65,541 bytes and its type, a start 10,000 bytes.
+/// A connection starts with the code of the protocol, before which encryption may be asked for and is denied. A start that
+/// names parameters is told those of the server; what it names changes nothing. Then `Query` is a statement, and one of blanks
+/// alone is answered by itself; `Terminate` ends the connection, and so does a request to cancel. A message of the extended
+/// query is refused by itself, and the messages behind it are passed over up to `Sync`. A message has at most 65,541 bytes and
+/// its type, a start 10,000 bytes.
 ///
 /// Contracts see the bytes that were fed and not yet taken, the offset in the input of the first of them, and the state of
 /// the connection.

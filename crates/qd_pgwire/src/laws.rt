@@ -1,5 +1,5 @@
 //! Laws of what bytes spell. Each is the contract of a function that does nothing.
-ghost use Rattle.std.specs.Prelude.{◌≡◌, ℕ, ◌+◌, ◌≤◌, false, List, ◌==◌, ◌++◌, Some, length};
+ghost use Rattle.std.specs.Prelude.{◌≡◌, ℕ, ◌+◌, ◌≤◌, false, true, List, [], ◌∷◌, ◌==◌, ◌++◌, Some, length};
 ghost use Rattle.std.specs.List.{list_any};
 ghost use Rattle.qd_base.specs.declared.limits.TheConstants.{MAX_QUERY_BYTES};
 ghost use Rattle.qd_base.specs.declared.request.Reply.{Reply};
@@ -9,7 +9,7 @@ ghost use Rattle.qd_pgwire.specs.declared.found.Kind.TheVariants as kind;
 ghost use Rattle.qd_pgwire.specs.declared.found.Mode.{Mode};
 ghost use Rattle.qd_pgwire.specs.declared.found.Mode.TheVariants as mode;
 ghost use Rattle.qd_pgwire.specs.declared.found.Found.TheVariants as found;
-ghost use Rattle.qd_pgwire.specs.Messages.{first, kind_of, message, string, text_in, whole_of};
+ghost use Rattle.qd_pgwire.specs.Messages.{first, kind_of, message, named, startup, string, text_in, whole_of};
 ghost use Rattle.qd_pgwire.specs.Steps.{PgSteps};
 
 use crate::PgFront;
@@ -39,6 +39,14 @@ impl PgFront {
         ensures wrong { (m : Mode) (bytes more : List ℕ) → first m bytes ≡ found.Wrong → first m (bytes ++ more) ≡ found.Wrong }
         ensures whole { (m : Mode) (bytes more : List ℕ) (k : Kind) (size : ℕ) →
             first m bytes ≡ found.Whole k size → first m (bytes ++ more) ≡ found.Whole k size }
+    {}
+
+    /// Law: a start that is not too long is found as it was written, whatever stands behind it. It names parameters just where
+    /// its list of them has any.
+    pub fn start_reads_back()
+        ensures none { (rest : List ℕ) → first mode.Starting (startup [] ++ rest) ≡ found.Whole (kind.Start false) 9 }
+        ensures some { (p : List ℕ × List ℕ) (ps : List (List ℕ × List ℕ)) (rest : List ℕ) → length (named (p ∷ ps)) ≤ 9992 →
+            first mode.Starting (startup (p ∷ ps) ++ rest) ≡ found.Whole (kind.Start true) (8 + length (named (p ∷ ps))) }
     {}
 
     /// Law: a message that is not too long is found as it was written, whatever stands behind it.

@@ -15,6 +15,9 @@ pub const GSS_CODE: u32 = 80_877_104;
 /// The least length of a start, with itself, in bytes.
 pub const MIN_START_LENGTH: u32 = 8;
 
+/// The greatest length of a start that names no parameters, with itself and the zero byte that ends their list, in bytes.
+pub const BARE_START_LENGTH: u32 = 9;
+
 /// The greatest length of a start, with itself, in bytes.
 pub const MAX_START_LENGTH: u32 = 10_000;
 

@@ -109,7 +109,7 @@ impl Mode {
         ensures { result ≡ mode_after self kind }
     {
         match kind {
-            Kind::Start | Kind::Sync => Mode::Ready,
+            Kind::Start { .. } | Kind::Sync => Mode::Ready,
             Kind::Extended => Mode::Skipping,
             Kind::Encrypt | Kind::Cancel | Kind::Query | Kind::Flush | Kind::Terminate => self,
         }
@@ -121,7 +121,9 @@ fn take(alloc: Global, mode: Mode, kind: Kind, text: &[u8]) -> Result<Step, Memo
     ensures { IfOk result (λ step. step ≡ step_of (turn_of mode kind text.now)) }
 {
     match kind {
-        Kind::Start => Ok(Step::Say(said::welcome(alloc)?)),
+        Kind::Start { names_parameters } => {
+            Ok(Step::Say(said::welcome(alloc, names_parameters)?))
+        }
         Kind::Encrypt => Ok(Step::Say(Txt::from_bytes(alloc, b"N")?)),
         Kind::Cancel | Kind::Terminate => Ok(Step::Ask(Request::End)),
         Kind::Query => take_query(alloc, mode, text),

@@ -8,26 +8,41 @@ use qd_base::{Memory, Txt};
 use std::alloc::Global;
 
 /// AuthenticationOk and ReadyForQuery.
-const WELCOME: &[u8] = b"R\0\0\0\x08\0\0\0\0";
+const WELCOME: &[u8] = b"R\0\0\0\x08\0\0\0\0Z\0\0\0\x05I";
 
-/// EmptyQueryResponse.
-const EMPTY_QUERY: &[u8] = b"I\0\0\0\x04";
+/// AuthenticationOk, what the server tells of itself, and ReadyForQuery.
+const INTRODUCTION: &[u8] = b"R\0\0\0\x08\0\0\0\0\
+    S\0\0\0\x23server_version\x0014.0 (Bontayug)\0\
+    S\0\0\0\x19server_encoding\0UTF8\0\
+    S\0\0\0\x19client_encoding\0UTF8\0\
+    S\0\0\0\x17DateStyle\0ISO, YMD\0\
+    S\0\0\0\x11TimeZone\0UTC\0\
+    S\0\0\0\x19integer_datetimes\0on\0\
+    S\0\0\0\x23standard_conforming_strings\0on\0\
+    Z\0\0\0\x05I";
+
+/// EmptyQueryResponse and ReadyForQuery.
+const EMPTY_QUERY: &[u8] = b"I\0\0\0\x04Z\0\0\0\x05I";
 
 /// ReadyForQuery, idle.
 const READY: &[u8] = b"Z\0\0\0\x05I";
 
-/// The answer to a start.
-pub(crate) fn welcome(alloc: Global) -> Result<Txt, Memory>
-    ensures { IfOk result (λ text. text ≡ spec.welcome) }
+/// The answer to a start: a constant text, in memory for its bytes alone.
+pub(crate) fn welcome(alloc: Global, names_parameters: bool) -> Result<Txt, Memory>
+    ensures { IfOk result (λ text. text ≡ spec.welcome names_parameters) }
 {
-    with_ready(alloc, WELCOME)
+    if names_parameters {
+        Txt::from_bytes(alloc, INTRODUCTION)
+    } else {
+        Txt::from_bytes(alloc, WELCOME)
+    }
 }
 
 /// The answer to a query without a statement.
 pub(crate) fn empty_query(alloc: Global) -> Result<Txt, Memory>
     ensures { IfOk result (λ text. text ≡ spec.empty_query) }
 {
-    with_ready(alloc, EMPTY_QUERY)
+    Txt::from_bytes(alloc, EMPTY_QUERY)
 }
 
 /// The answer to Sync.
@@ -51,15 +66,6 @@ pub(crate) fn nothing(alloc: Global) -> Txt
     ensures { result ≡ [] }
 {
     Txt::from_vec(Vec::new(alloc))
-}
-
-// A message, and ReadyForQuery behind it.
-fn with_ready(alloc: Global, message: &[u8]) -> Result<Txt, Memory>
-    ensures { IfOk result (λ text. text ≡ message.now ++ spec.ready_for_query) }
-{
-    let mut out = Vec::from_slice(alloc, message)?;
-    push_ready(&mut out)?;
-    Ok(Txt::from_vec(out))
 }
 
 /// Appends ReadyForQuery.

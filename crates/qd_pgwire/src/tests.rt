@@ -169,6 +169,24 @@ fn each_type(rt: HostRuntime) -> Result<(), Fail> {
 }
 
 #[test]
+fn starts_with_parameters(rt: HostRuntime) -> Result<(), Fail> {
+    let told = b"R\0\0\0\x08\0\0\0\0\
+        S\0\0\0\x23server_version\x0014.0 (Bontayug)\0\
+        S\0\0\0\x19server_encoding\0UTF8\0\
+        S\0\0\0\x19client_encoding\0UTF8\0\
+        S\0\0\0\x17DateStyle\0ISO, YMD\0\
+        S\0\0\0\x11TimeZone\0UTC\0\
+        S\0\0\0\x19integer_datetimes\0on\0\
+        S\0\0\0\x23standard_conforming_strings\0on\0\
+        Z\0\0\0\x05I";
+    answers_by(&rt, b"\0\0\0\x10\0\x03\0\0user\0u\0\0", told)?;
+    answers_by(&rt, b"\0\0\0\x0a\0\x03\0\0\0\0", told)?;
+    let bare = b"R\0\0\0\x08\0\0\0\0Z\0\0\0\x05I";
+    answers_by(&rt, b"\0\0\0\x08\0\x03\0\0", bare)?;
+    answers_by(&rt, b"\0\0\0\x09\0\x03\0\0\0", bare)
+}
+
+#[test]
 fn refusals(rt: HostRuntime) -> Result<(), Fail> {
     let input = b"\0\0\0\x08\0\x03\0\0Q\0\0\0\x06r\0Q\0\0\0\x06n\0Q\0\0\0\x06d\0Q\0\0\0\x06w\0";
     let output = b"R\0\0\0\x08\0\0\0\0Z\0\0\0\x05I\

@@ -1,3 +1,2 @@
 -- Lemmas that the proofs of this crate share.
 pub mod PartLemmas
-pub mod RoundLemmas

@@ -49,6 +49,7 @@ fn push_publish(out: &mut String, cause: PublishFault) -> Result<bool, Trouble> 
             out.push_str(FAILED)?;
             return Ok(true);
         }
+        PublishFault::Damaged { file, at } => write!(out, "damaged {file} {at}")?,
         PublishFault::Memory => return Err(Trouble::Memory),
     }
     Ok(false)

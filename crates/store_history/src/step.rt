@@ -10,6 +10,8 @@ pub struct Most {
     pub transactions: u64,
     /// From which length on a writer goes on to its next segment.
     pub segment: u64,
+    /// From how many rows on those before all late ones stay where they lie.
+    pub split: u64,
 }
 
 /// A step that is taken with a store.
@@ -47,7 +49,7 @@ pub enum Step {
     /// Is taken with a store.
     Store(StoreStep),
     /// `new`: makes a store on a new device, or on the one at hand where no store was made there. `new N BYTES` is for so many
-    /// transactions, in segments of so many bytes.
+    /// transactions, in segments of so many bytes; `new N BYTES ROWS` splits a part where so many rows stand before all late ones.
     New(Most),
     /// `open`: opens the device at hand again, as it reads.
     Open,
@@ -296,10 +298,17 @@ fn step_of(verb: Verb, numbers: &[u64]) -> Option<Step> {
         (Verb::New, []) => Some(Step::New(Most {
             transactions: u64::MAX,
             segment: 67_108_864,
+            split: 4_096,
+        })),
+        (Verb::New, [transactions, segment, split]) => Some(Step::New(Most {
+            transactions: *transactions,
+            segment: *segment,
+            split: *split,
         })),
         (Verb::New, [transactions, segment]) => Some(Step::New(Most {
             transactions: *transactions,
             segment: *segment,
+            split: 4_096,
         })),
         (Verb::Open, []) => Some(Step::Open),
         (Verb::Crash, [pick]) => Some(Step::Crash(*pick)),

@@ -87,6 +87,7 @@ fn limits_of(most: Most) -> Limits
     let mut limits = Limits::usual();
     limits.max_txns = most.transactions.min(u64::from(MAX_TXNS)) as u32;
     limits.seg_bytes = most.segment.min(1 << 62);
+    limits.split_rows = most.split;
     limits
 }
 
@@ -151,6 +152,7 @@ impl World {
             most: Most {
                 transactions: u64::from(MAX_TXNS),
                 segment: 1 << 26,
+                split: 4_096,
             },
             record: Record::new(alloc)?,
             made: false,

@@ -14,5 +14,5 @@ publish-requires-clause-few g c =
 pub publish-requires-clause-over : goal.publish-requires-clause-over
 publish-requires-clause-over g c current =
     let versions = c.args.store.now.store.versions.versions in
-    let over = merged_over versions c.in_ok-draft.draft c.in_ok-merged.merged c.in_ok-draft.ensures.over c.in_ok-merged.ensures.merged in
+    let over = merged_over versions c.in_ok-draft.draft c.in_ok-merged.merged c.in_ok-draft.ensures.over c.in_ok-merged.ensures.merged c.in_ok-merged.ensures.grows in
     subst (λ (s : Book). IsMergedOver s.versions.versions c.in_ok-merged.merged) (sym c.in_ok-draft.ensures.store) over

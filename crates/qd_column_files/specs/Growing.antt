@@ -1,6 +1,6 @@
 -- Blocks that grow: rows are put behind those that their files hold. Versions that show a beginning of the files keep it.
 use Rattle.std.specs.Prelude.{◌≡◌, ℕ, ◌^◌, ◌<◌, ◌++◌, Bool, true, List, length, map, take, Option, Some, Result, Ok, Err, IfOk, OnOk}
-use Rattle.std.specs.List.{range_with_len}
+use Rattle.std.specs.List.{range_with_len, sum_by}
 use Rattle.qd_base.specs.Rows.{Row}
 use Rattle.qd_base.specs.declared.cell.Cell.{Cell}
 use Rattle.qd_base.specs.declared.part.Part.{Part}
@@ -82,6 +82,10 @@ tails_of b = map (λ col. behind (column_in b col)) (range_with_len 0 (length b.
 pub record BlockBehind : Type 0 where
   pub rows : ℕ
   pub columns : List Behind
+
+-- how many texts the columns have named, all together
+abbrev pub all_texts : List Behind → ℕ
+all_texts columns = sum_by (λ c. length c.texts) columns
 
 abbrev pub block_behind : Block → BlockBehind
 block_behind b = record { rows = length b.rows; columns = tails_of b }

@@ -8,11 +8,11 @@ ghost use Rattle.qd_column_files.specs.Files.{column_file};
 ghost use Rattle.qd_volume.specs.Disk.{reads_of};
 ghost use Rattle.qd_durable.specs.Moments.{Told};
 ghost use Rattle.qd_column_files.specs.Calls.{PutsFile};
-ghost use Rattle.qd_column_files.specs.Growing.{GoesBehind, GrowsBlock, GrowsTail, IsColumnTail, IsShortTold, IsStoredTail, IsTailRead, PutsBehind, block_behind};
+ghost use Rattle.qd_column_files.specs.Growing.{GoesBehind, GrowsBlock, GrowsTail, IsColumnTail, IsShortTold, IsStoredTail, IsTailRead, PutsBehind, all_texts, block_behind};
 ghost use Rattle.qd_column.specs.Cells.{CellsOf};
 ghost use Rattle.qd_column_format.specs.Tails.{behind, joined};
 ghost use Rattle.qd_io.specs.Ends.{Counts};
-ghost use Rattle.std.specs.Prelude.{◌≡◌, ◌+◌, ◌^◌, ◌<◌, ◌≤◌, true, length, IfOk, IfSome, OnOk};
+ghost use Rattle.std.specs.Prelude.{◌≡◌, ◌+◌, ◌-◌, ◌^◌, ◌<◌, ◌≤◌, min, true, length, IfOk, IfSome, OnOk};
 
 use crate::files::{column_file, put_file};
 use crate::reading::{read_column, read_front, row_size};
@@ -78,6 +78,25 @@ impl BlockTail {
         ensures rows { result ≡ self.now.rows }
     {
         self.rows
+    }
+
+    /// Gives of how many columns it is, in constant time.
+    pub fn cols(&self) -> u64
+        ensures cols { result ≡ length self.now.columns }
+    {
+        self.columns.len() as u64
+    }
+
+    /// Gives how many texts its SYMBOL columns have named, all together, and `u64::MAX` where they are more. It costs time linear
+    /// in the columns.
+    pub fn texts(&self) -> u64
+        ensures texts { result ≡ min (all_texts self.now.columns) (2 ^ 64 - 1) }
+    {
+        let mut texts: u64 = 0;
+        for tail in self.columns.as_slice() {
+            texts = texts.saturating_add(tail.texts());
+        }
+        texts
     }
 }
 

@@ -1,10 +1,8 @@
 -- Acts one after another, and the acts of one share.
-use Rattle.std.proofs.Common.{◌≡◌, ℕ, suc, ◌+◌, ◌-◌, Bool, true, false, ◌&&◌, cond, eqb, ltb, leb, List, [], ◌∷◌, ◌++◌, Some, None, length, map, get_or, refl, ap, ap₂, slice_range}
-use Rattle.std.specs.List.{AllByRecursion}
-use Rattle.qd_base.specs.declared.part.Part.{Part}
+use Rattle.std.proofs.Common.{◌≡◌, ℕ, Bool, true, false, ◌&&◌, cond, eqb, ltb, leb, List, [], ◌∷◌, ◌++◌, Some, length, map, get_or, refl, ap, slice_range}
 use Rattle.qd_base.specs.declared.schema.Schema.{Schema}
 use Rattle.qd_base.specs.declared.unit.TimeUnit.{TimeUnit}
-use Rattle.qd_base.specs.Rows.{Row, time_of}
+use Rattle.qd_base.specs.Rows.{Row}
 use Rattle.qd_block.specs.Blocks.{Block}
 use Rattle.qd_merge.specs.declared.plan.Act.{Act}
 use Rattle.qd_merge.specs.declared.plan.Act.TheVariants as act
@@ -12,10 +10,10 @@ use Rattle.qd_merge.specs.declared.shares.Rules.{Rules}
 use Rattle.qd_merge.specs.declared.shares.Share.{Share}
 use Rattle.qd_merge.specs.declared.shares.Share.TheVariants as share
 use Rattle.qd_merge.specs.Acts.{before, new_part}
-use Rattle.qd_merge.specs.Merged.{block_in, merged}
+use Rattle.qd_merge.specs.Merged.{block_in}
 use Rattle.qd_merge.specs.Shares.{acts_on, first_rows, split_on}
 use Rattle.qd_apply.specs.Given.{written_by}
-use Rattle.qd_apply.specs.Next.{blocks_made, growths, new_piece, no_piece, pieces_after, written, Growth, Piece}
+use Rattle.qd_apply.specs.Next.{blocks_made, growths, written, Growth, Piece}
 
 -- ---- one after another
 
@@ -51,35 +49,6 @@ on_split r n count rows i j P keep shorten whole = first (ltb 0 count && leb r.s
     first : (b : Bool) → P (cond b (first_rows n count rows ∷ act.Write (Some n) count i j ∷ []) (act.Write (Some n) 0 i j ∷ []))
     first true = second (eqb count rows)
     first false = whole
-
--- ---- pieces that agree where acts look
-
-abbrev pub AgreesOn : List Piece → List Piece → Act → Type 0
-AgreesOn old new (act.Keep n) = (get_or old n no_piece).part ≡ (get_or new n no_piece).part
-AgreesOn old new (act.Append n i j) = (get_or old n no_piece).part ≡ (get_or new n no_piece).part
-AgreesOn old new (act.Shorten n m) = get_or old n no_piece ≡ get_or new n no_piece
-AgreesOn old new (act.Write None skip i j) = Unit {0}
-AgreesOn old new (act.Write (Some n) skip i j) = (get_or old n no_piece).block ≡ (get_or new n no_piece).block
-
-module _ (s : Schema) (old new : List Piece) (rows : List Row) where
-  pub agree_parts : (next : ℕ) (acts : List Act) → AllByRecursion (AgreesOn old new) acts → map (λ (x : Piece). x.part) (pieces_after s old rows next acts) ≡ map (λ (x : Piece). x.part) (pieces_after s new rows next acts)
-  agree_parts next [] h = refl
-  agree_parts next (act.Keep n ∷ acts) h = ap₂ (λ (p : Part) (l : List Part). p ∷ l) h.0 (agree_parts next acts h.1)
-  agree_parts next (act.Append n i j ∷ acts) h =
-      ap₂ (λ (p : Part) (l : List Part). (let q : Part = record p { rows = p.rows + (j - i); hi = time_of s.time_col (get_or rows (j - 1) []) } in q) ∷ l) h.0 (agree_parts next acts h.1)
-  agree_parts next (act.Shorten n m ∷ acts) h =
-      ap₂ (λ (x : Piece) (l : List Part). (let q : Part = record x.part { rows = m; hi = time_of s.time_col (get_or x.block.rows (m - 1) []) } in q) ∷ l) h.0 (agree_parts next acts h.1)
-  agree_parts next (act.Write None skip i j ∷ acts) h = ap (λ (l : List Part). (new_piece s next (merged s.keys (block_in s []) skip (block_in s (slice_range rows i j)))).part ∷ l) (agree_parts (suc next) acts h.1)
-  agree_parts next (act.Write (Some n) skip i j ∷ acts) h =
-      ap₂ (λ (b : Block) (l : List Part). (new_piece s next (merged s.keys b skip (block_in s (slice_range rows i j)))).part ∷ l) h.0 (agree_parts (suc next) acts h.1)
-
-  pub agree_made : (acts : List Act) → AllByRecursion (AgreesOn old new) acts → blocks_made s old rows acts ≡ blocks_made s new rows acts
-  agree_made [] h = refl
-  agree_made (act.Keep n ∷ acts) h = agree_made acts h.1
-  agree_made (act.Append n i j ∷ acts) h = agree_made acts h.1
-  agree_made (act.Shorten n m ∷ acts) h = agree_made acts h.1
-  agree_made (act.Write None skip i j ∷ acts) h = ap (λ (l : List Block). merged s.keys (block_in s []) skip (block_in s (slice_range rows i j)) ∷ l) (agree_made acts h.1)
-  agree_made (act.Write (Some n) skip i j ∷ acts) h = ap₂ (λ (b : Block) (l : List Block). merged s.keys b skip (block_in s (slice_range rows i j)) ∷ l) h.0 (agree_made acts h.1)
 
 -- a share writes as many blocks as it is said to
 pub share_writes : (s : Schema) (old : List Piece) (rows : List Row) (r : Rules) (olds : ℕ → List ℕ) (times : List ℕ) (a : Share) → length (blocks_made s old rows (acts_on r olds times a)) ≡ written_by a

@@ -29,18 +29,21 @@ use Rattle.qd_merge.specs.Shares.{acts, acts_on, shares}
 use Rattle.qd_merge.proofs.Batches.{batch_is_batch, lasts-lasts}
 use Rattle.qd_merge.proofs.Times.{times_lent}
 use Rattle.qd_rows.specs.Sets.{no_block}
+use Rattle.qd_apply.specs.declared.olds.Late.{Late}
+use Rattle.qd_apply.specs.declared.olds.OldPart.{OldPart}
 use Rattle.qd_apply.specs.declared.plans.Planned.{Planned}
-use Rattle.qd_apply.specs.declared.plans.Touched.{Touched}
 use Rattle.qd_apply.specs.Arrivals.{rest}
-use Rattle.qd_apply.specs.Given.{all_grown_by, all_made_by, parts_by, reads, touched, writes, IsEarlier, IsShareOf}
+use Rattle.qd_apply.specs.Given.{all_grown_by, all_made_by, parts_by, reads, writes, IsOld, IsShareOf}
 use Rattle.qd_apply.specs.Laws.{CountsParts}
 use Rattle.qd_apply.specs.Next.{acts_of, all_grown, all_made, batch_of, blocks_made, first_counts, first_parts, grown_from, growths, in_table, pieces_after, pieces_in, rules_of, shape_after, shares_of, table_after, table_grown, table_made, times_in, Growth, Piece, TableGrowth}
-use Rattle.qd_apply.specs.Plans.{all_by, all_reads, all_touched, all_writes, block_at, grown_by_all, planned_table, read_from, read_in, shape_by, touch, touched_from, with_batch, writes_in, AreBlocksFor, AreEarlier, ArePlanned, ArePlansOf, IsPlanOf, IsPlanned}
+use Rattle.qd_apply.specs.Olds.{all_late, block_at, late_by, old_read, part_read, table_late, times_of}
+use Rattle.qd_apply.specs.Plans.{all_by, all_reads, all_writes, grown_by_all, late_from, plan_late, planned_table, read_from, shape_by, with_batch, writes_in, AreEarlier, AreOldsFor, ArePlanned, ArePlansOf, IsPlanOf, IsPlanned}
 use Rattle.qd_apply.specs.Waiting.{Waits}
 use Rattle.qd_apply.proofs.BatchLemmas.{sorted_same}
+use Rattle.qd_apply.proofs.EachLemmas.{each_then}
 use Rattle.qd_apply.proofs.GivenLemmas.{drop_at, no_more}
 use Rattle.qd_apply.proofs.LeaveLemmas.{moments, rising}
-use Rattle.qd_apply.proofs.PlanLemmas.{all_made_count, grown_serve, made_serve, parts_serve, shares_within, touched_count}
+use Rattle.qd_apply.proofs.PlanLemmas.{all_made_count, got_time, grown_serve, late_count, made_serve, parts_serve, reading, shares_within, AreTimed}
 use Rattle.qd_apply.proofs.ShareLemmas.{ascending_order}
 use Rattle.qd_apply.proofs.TableLemmas.{ascend, batch_is, parts_of_pieces}
 
@@ -88,81 +91,97 @@ module _ (blocks : ℕ → Block) (counts : List ℕ) (split : ℕ) (parts : Lis
       ap₂ (λ (r : Rules) (l : List Share). f p.schema p.batch.rows (flat_map (acts_on r (λ n. times_in p.schema (block_at blocks parts n).rows) (times_in p.schema p.batch.rows)) l)) is.rules is.shares
       ∙ ap₂ (λ (s : Schema) (l : List Row). f s l (flat_map (acts_on (rules_of split t.schema) (λ n. times_in s (block_at blocks parts n).rows) (times_in s l)) (shares_of counts split parts t))) is.schema (ap (λ (x : Block). x.rows) is.batch)
 
-  pub plan_parts : (next : ℕ) → parts_by p.rules p.schema parts p.batch.rows next p.shares.items (map (block_at blocks parts) (touched p.shares.items)) ≡ map (λ (x : Piece). x.part) (table_after blocks next counts split parts t)
-  plan_parts next =
-      parts_serve blocks p.rules p.schema parts p.batch.rows next p.shares.items (plan_fits counts split parts t p is).shares
-      ∙ plan_acts (λ s l xs. map (λ (x : Piece). x.part) (pieces_after s (pieces_in blocks parts) l next xs))
+  rules_are : p.rules.split_rows ≡ split
+  rules_are = ap (λ (r : Rules). r.split_rows) is.rules
 
-  pub plan_made : all_made_by p.rules p.schema parts p.batch.rows p.shares.items (map (block_at blocks parts) (touched p.shares.items)) ≡ table_made blocks counts split parts t
-  plan_made =
-      made_serve blocks p.rules p.schema parts p.batch.rows p.shares.items (plan_fits counts split parts t p is).shares
-      ∙ plan_acts (λ s l xs. blocks_made s (pieces_in blocks parts) l xs)
+  -- what is read for it, by its rules
+  reading_is : map (part_read blocks split parts) (plan_late 0 p) ≡ reading blocks p.rules p.schema parts p.batch.rows p.shares.items
+  reading_is =
+      ap₂ (λ (n c : ℕ). map (part_read blocks n parts) (late_by 0 (map (time_of c) p.batch.rows) p.shares.items)) (sym rules_are) (plan_fits counts split parts t p is).batch.time_col
 
-  pub plan_grown : all_grown_by p.rules p.schema p.batch.rows p.shares.items (map (block_at blocks parts) (touched p.shares.items)) ≡ table_grown blocks counts split parts t
+  module _ (early : AllByRecursion (IsOld p.schema) (map (part_read blocks split parts) (plan_late 0 p))) where
+    timed : AreTimed blocks p.rules p.schema parts p.batch.rows (reading blocks p.rules p.schema parts p.batch.rows p.shares.items)
+    timed = subst (λ (l : List OldPart). AllByRecursion (λ (o : OldPart). o.rest.time_col ≡ p.schema.time_col) l) reading_is
+        (each_then (IsOld p.schema) (λ (o : OldPart). o.rest.time_col ≡ p.schema.time_col) (λ o h. h.time_col) (map (part_read blocks split parts) (plan_late 0 p)) early)
+
+    pub plan_parts : (next : ℕ) → parts_by p.schema parts p.batch.rows next p.shares.items (map (part_read blocks split parts) (plan_late 0 p)) ≡ map (λ (x : Piece). x.part) (table_after blocks next counts split parts t)
+    plan_parts next =
+        ap (λ (g : List OldPart). parts_by p.schema parts p.batch.rows next p.shares.items g) reading_is
+        ∙ parts_serve blocks p.rules p.schema parts p.batch.rows next p.shares.items (plan_fits counts split parts t p is).shares timed
+        ∙ plan_acts (λ s l xs. map (λ (x : Piece). x.part) (pieces_after s (pieces_in blocks parts) l next xs))
+
+    pub plan_made : all_made_by p.schema p.batch.rows p.shares.items (map (part_read blocks split parts) (plan_late 0 p)) ≡ table_made blocks counts split parts t
+    plan_made =
+        ap (λ (g : List OldPart). all_made_by p.schema p.batch.rows p.shares.items g) reading_is
+        ∙ made_serve blocks p.rules p.schema parts p.batch.rows p.shares.items (plan_fits counts split parts t p is).shares timed
+        ∙ plan_acts (λ s l xs. blocks_made s (pieces_in blocks parts) l xs)
+
+  pub plan_grown : all_grown_by p.schema p.batch.rows p.shares.items ≡ table_grown blocks counts split parts t
   plan_grown =
       grown_serve blocks p.rules p.schema parts p.batch.rows p.shares.items
       ∙ plan_acts (λ s l xs. growths s l xs)
 
 -- ---- the plans of all tables
 
--- the blocks of a plan, and those of the plans behind it
-module _ (blocks : ℕ → Block) (parts : List Part) (list : List Share) (back : List Block) where
-  abbrev front : List Block
-  front = map (block_at blocks parts) (touched list)
+-- what is read for a plan, and for those behind it
+module _ (blocks : ℕ → Block) (split : ℕ) (parts : List Part) (p : Planned) (back : List OldPart) where
+  count : length (map (part_read blocks split parts) (plan_late 0 p)) ≡ reads p.shares.items
+  count = length-map (plan_late 0 p) (part_read blocks split parts) ∙ late_count 0 (times_of p.batch) p.shares.items
 
-  count : length (map (block_at blocks parts) (touched list)) ≡ reads list
-  count = length-map (touched list) (block_at blocks parts) ∙ touched_count list
+  taken : take (reads p.shares.items) (map (part_read blocks split parts) (plan_late 0 p) ++ back) ≡ map (part_read blocks split parts) (plan_late 0 p)
+  taken = take_at (map (part_read blocks split parts) (plan_late 0 p)) back (reads p.shares.items) count
 
-  taken : take (reads list) (map (block_at blocks parts) (touched list) ++ back) ≡ map (block_at blocks parts) (touched list)
-  taken = take_at (map (block_at blocks parts) (touched list)) back (reads list) count
+  left_is : drop (reads p.shares.items) (map (part_read blocks split parts) (plan_late 0 p) ++ back) ≡ back
+  left_is = Rattle.std.proofs.lemmas.List.drop_at (map (part_read blocks split parts) (plan_late 0 p)) back (reads p.shares.items) count
 
-  left_is : drop (reads list) (map (block_at blocks parts) (touched list) ++ back) ≡ back
-  left_is = Rattle.std.proofs.lemmas.List.drop_at (map (block_at blocks parts) (touched list)) back (reads list) count
+-- its rows are of the table's first columns
+early_parts : (blocks : ℕ → Block) (split : ℕ) (shape : List TableParts) (p : Planned) (ps : List Planned) → AreEarlier (p ∷ ps) (read_from blocks split shape (p ∷ ps))
+    → AllByRecursion (IsOld p.schema) (map (part_read blocks split (first_parts shape)) (plan_late 0 p)) × AreEarlier ps (read_from blocks split (rest shape) ps)
+early_parts blocks split shape p ps early = (
+  subst (AllByRecursion (IsOld p.schema)) (taken blocks split (first_parts shape) p (read_from blocks split (rest shape) ps)) early.0,
+  subst (AreEarlier ps) (left_is blocks split (first_parts shape) p (read_from blocks split (rest shape) ps)) early.1,
+)
 
-pub shape_serves : (blocks : ℕ → Block) (written : List (List ℕ)) (split : ℕ) (shape : List TableParts) (ts : List StoredTable) (ps : List Planned) (next : ℕ) → ArePlansOf written split shape ts ps
-    → shape_by shape ps next (read_from blocks shape ps) ≡ shape_after blocks next written split shape ts
-shape_serves blocks written split shape [] [] next plans = refl
-shape_serves blocks written split shape [] (p ∷ ps) next plans = absurd plans
-shape_serves blocks written split shape (t ∷ ts) [] next plans = absurd plans
-shape_serves blocks written split shape (t ∷ ts) (p ∷ ps) next plans =
+pub shape_serves : (blocks : ℕ → Block) (written : List (List ℕ)) (split : ℕ) (shape : List TableParts) (ts : List StoredTable) (ps : List Planned) (next : ℕ) → ArePlansOf written split shape ts ps → AreEarlier ps (read_from blocks split shape ps)
+    → shape_by shape ps next (read_from blocks split shape ps) ≡ shape_after blocks next written split shape ts
+shape_serves blocks written split shape [] [] next plans early = refl
+shape_serves blocks written split shape [] (p ∷ ps) next plans early = absurd plans
+shape_serves blocks written split shape (t ∷ ts) [] next plans early = absurd plans
+shape_serves blocks written split shape (t ∷ ts) (p ∷ ps) next plans early =
     let parts : List Part = first_parts shape in
     let counts : List ℕ = first_counts written in
-    let list : List Share = p.shares.items in
-    let mine : List Block = map (block_at blocks parts) (touched p.shares.items) in
-    let back : List Block = read_from blocks (rest shape) ps in
+    let mine : List OldPart = map (part_read blocks split parts) (plan_late 0 p) in
+    let back : List OldPart = read_from blocks split (rest shape) ps in
+    let each = early_parts blocks split shape p ps early in
     let number : next + writes p.shares.items ≡ next + length (table_made blocks counts split parts t) =
-    ap (λ (n : ℕ). next + n) (sym (all_made_count p.rules p.schema parts p.batch.rows p.shares.items mine) ∙ ap length (plan_made blocks counts split parts t p plans.0)) in
+    ap (λ (n : ℕ). next + n) (sym (all_made_count p.schema p.batch.rows p.shares.items mine) ∙ ap length (plan_made blocks counts split parts t p plans.0 each.0)) in
     ap₂ (λ (x : TableParts) (l : List TableParts). x ∷ l)
     (ap₂ (λ (s : Schema) (l : List Part). let y : TableParts = record { schema = s; parts = l } in y) plans.0.schema
-    (ap (λ (g : List Block). parts_by p.rules p.schema parts p.batch.rows next p.shares.items g) (taken blocks parts list back) ∙ plan_parts blocks counts split parts t p plans.0 next))
-    (ap₂ (λ (n : ℕ) (g : List Block). shape_by (rest shape) ps n g) number (left_is blocks parts list back) ∙ shape_serves blocks (rest written) split (rest shape) ts ps (next + length (table_made blocks counts split parts t)) plans.1)
+    (ap (λ (g : List OldPart). parts_by p.schema parts p.batch.rows next p.shares.items g) (taken blocks split parts p back) ∙ plan_parts blocks counts split parts t p plans.0 each.0 next))
+    (ap₂ (λ (n : ℕ) (g : List OldPart). shape_by (rest shape) ps n g) number (left_is blocks split parts p back) ∙ shape_serves blocks (rest written) split (rest shape) ts ps (next + length (table_made blocks counts split parts t)) plans.1 each.1)
 
-pub made_serves : (blocks : ℕ → Block) (written : List (List ℕ)) (split : ℕ) (shape : List TableParts) (ts : List StoredTable) (ps : List Planned) → ArePlansOf written split shape ts ps → all_by shape ps (read_from blocks shape ps) ≡ all_made blocks written split shape ts
-made_serves blocks written split shape [] [] plans = refl
-made_serves blocks written split shape [] (p ∷ ps) plans = absurd plans
-made_serves blocks written split shape (t ∷ ts) [] plans = absurd plans
-made_serves blocks written split shape (t ∷ ts) (p ∷ ps) plans =
+pub made_serves : (blocks : ℕ → Block) (written : List (List ℕ)) (split : ℕ) (shape : List TableParts) (ts : List StoredTable) (ps : List Planned) → ArePlansOf written split shape ts ps → AreEarlier ps (read_from blocks split shape ps)
+    → all_by ps (read_from blocks split shape ps) ≡ all_made blocks written split shape ts
+made_serves blocks written split shape [] [] plans early = refl
+made_serves blocks written split shape [] (p ∷ ps) plans early = absurd plans
+made_serves blocks written split shape (t ∷ ts) [] plans early = absurd plans
+made_serves blocks written split shape (t ∷ ts) (p ∷ ps) plans early =
     let parts : List Part = first_parts shape in
     let counts : List ℕ = first_counts written in
-    let list : List Share = p.shares.items in
-    let back : List Block = read_from blocks (rest shape) ps in
+    let back : List OldPart = read_from blocks split (rest shape) ps in
+    let each = early_parts blocks split shape p ps early in
     ap₂ (λ (a b : List Block). a ++ b)
-    (ap (λ (g : List Block). all_made_by p.rules p.schema parts p.batch.rows p.shares.items g) (taken blocks parts list back) ∙ plan_made blocks counts split parts t p plans.0)
-    (ap (λ (g : List Block). all_by (rest shape) ps g) (left_is blocks parts list back) ∙ made_serves blocks (rest written) split (rest shape) ts ps plans.1)
+    (ap (λ (g : List OldPart). all_made_by p.schema p.batch.rows p.shares.items g) (taken blocks split parts p back) ∙ plan_made blocks counts split parts t p plans.0 each.0)
+    (ap (λ (g : List OldPart). all_by ps g) (left_is blocks split parts p back) ∙ made_serves blocks (rest written) split (rest shape) ts ps plans.1 each.1)
 
-pub grown_serves : (n : ℕ) (blocks : ℕ → Block) (written : List (List ℕ)) (split : ℕ) (shape : List TableParts) (ts : List StoredTable) (ps : List Planned) → ArePlansOf written split shape ts ps
-    → grown_by_all n ps (read_from blocks shape ps) ≡ grown_from n blocks written split shape ts
+pub grown_serves : (n : ℕ) (blocks : ℕ → Block) (written : List (List ℕ)) (split : ℕ) (shape : List TableParts) (ts : List StoredTable) (ps : List Planned) → ArePlansOf written split shape ts ps → grown_by_all n ps ≡ grown_from n blocks written split shape ts
 grown_serves n blocks written split shape [] [] plans = refl
 grown_serves n blocks written split shape [] (p ∷ ps) plans = absurd plans
 grown_serves n blocks written split shape (t ∷ ts) [] plans = absurd plans
 grown_serves n blocks written split shape (t ∷ ts) (p ∷ ps) plans =
-    let parts : List Part = first_parts shape in
-    let counts : List ℕ = first_counts written in
-    let list : List Share = p.shares.items in
-    let back : List Block = read_from blocks (rest shape) ps in
     ap₂ (λ (a b : List TableGrowth). a ++ b)
-    (ap (λ (g : List Block). map (in_table n) (all_grown_by p.rules p.schema p.batch.rows p.shares.items g)) (taken blocks parts list back) ∙ ap (map (in_table n)) (plan_grown blocks counts split parts t p plans.0))
-    (ap (λ (g : List Block). grown_by_all (n + 1) ps g) (left_is blocks parts list back) ∙ grown_serves (n + 1) blocks (rest written) split (rest shape) ts ps plans.1)
+    (ap (map (in_table n)) (plan_grown blocks (first_counts written) split (first_parts shape) t p plans.0))
+    (grown_serves (n + 1) blocks (rest written) split (rest shape) ts ps plans.1)
 
 pub plans_fit : (written : List (List ℕ)) (split : ℕ) (shape : List TableParts) (ts : List StoredTable) (ps : List Planned) → ArePlansOf written split shape ts ps → ArePlanned shape ps
 plans_fit written split shape [] [] plans = tt
@@ -302,12 +321,15 @@ pub grown_again : (blocks : ℕ → Block) (written : List (List ℕ)) (split : 
 grown_again blocks written split shape ts = grown_again_from 0 blocks written split shape ts
 
 -- what a plan's shares read and write is what its tables' shares do
-pub reads_shown : (blocks : ℕ → Block) (written : List (List ℕ)) (split : ℕ) (shape : List TableParts) (ts : List StoredTable) (ps : List Planned) → ArePlansOf written split shape ts ps → read_in blocks written split shape ts ≡ read_from blocks shape ps
+pub late_is : (n : ℕ) (counts : List ℕ) (split : ℕ) (parts : List Part) (t : StoredTable) (p : Planned) → IsPlanOf counts split parts t p → plan_late n p ≡ table_late n counts split parts t
+late_is n counts split parts t p is = ap₂ (λ (b : Block) (xs : List Share). late_by n (times_of b) xs) is.batch is.shares
+
+pub reads_shown : (blocks : ℕ → Block) (written : List (List ℕ)) (split : ℕ) (shape : List TableParts) (ts : List StoredTable) (ps : List Planned) → ArePlansOf written split shape ts ps → old_read blocks written split shape ts ≡ read_from blocks split shape ps
 reads_shown blocks written split shape [] [] plans = refl
 reads_shown blocks written split shape [] (p ∷ ps) plans = absurd plans
 reads_shown blocks written split shape (t ∷ ts) [] plans = absurd plans
 reads_shown blocks written split shape (t ∷ ts) (p ∷ ps) plans =
-    ap₂ (λ (xs : List Share) (l : List Block). map (block_at blocks (first_parts shape)) (touched xs) ++ l) (sym plans.0.shares) (reads_shown blocks (rest written) split (rest shape) ts ps plans.1)
+    ap₂ (λ (xs : List Late) (l : List OldPart). map (part_read blocks split (first_parts shape)) xs ++ l) (sym (late_is 0 (first_counts written) split (first_parts shape) t p plans.0)) (reads_shown blocks (rest written) split (rest shape) ts ps plans.1)
 
 pub writes_shown : (written : List (List ℕ)) (split : ℕ) (shape : List TableParts) (ts : List StoredTable) (ps : List Planned) → ArePlansOf written split shape ts ps → writes_in written split shape ts ≡ all_writes ps
 writes_shown written split shape [] [] plans = refl
@@ -315,46 +337,55 @@ writes_shown written split shape [] (p ∷ ps) plans = absurd plans
 writes_shown written split shape (t ∷ ts) [] plans = absurd plans
 writes_shown written split shape (t ∷ ts) (p ∷ ps) plans = ap₂ (λ (xs : List Share) (n : ℕ). writes xs + n) (sym plans.0.shares) (writes_shown (rest written) split (rest shape) ts ps plans.1)
 
-pub blocks_serve : (written : List (List ℕ)) (split : ℕ) (shape : List TableParts) (ts : List StoredTable) (ps : List Planned) (given : List Block) → ArePlansOf written split shape ts ps → AreBlocksFor written split shape ts given → AreEarlier ps given × (all_reads ps ≤ length given)
-blocks_serve written split shape [] [] given plans are = (tt, omega arith)
-blocks_serve written split shape [] (p ∷ ps) given plans are = absurd plans
-blocks_serve written split shape (t ∷ ts) [] given plans are = absurd plans
-blocks_serve written split shape (t ∷ ts) (p ∷ ps) given plans are =
-    let a : AreBlocksFor written split shape (t ∷ ts) given = are in
+pub olds_serve : (written : List (List ℕ)) (split : ℕ) (shape : List TableParts) (ts : List StoredTable) (ps : List Planned) (given : List OldPart) → ArePlansOf written split shape ts ps → AreOldsFor written split shape ts given → AreEarlier ps given × (all_reads ps ≤ length given)
+olds_serve written split shape [] [] given plans are = (tt, omega arith)
+olds_serve written split shape [] (p ∷ ps) given plans are = absurd plans
+olds_serve written split shape (t ∷ ts) [] given plans are = absurd plans
+olds_serve written split shape (t ∷ ts) (p ∷ ps) given plans are =
+    let a : AreOldsFor written split shape (t ∷ ts) given = are in
     let some : reads p.shares.items ≤ length given = subst (λ (xs : List Share). reads xs ≤ length given) (sym plans.0.shares) a.0 in
-    let here : AllByRecursion (IsEarlier p.schema) (take (reads p.shares.items) given) =
-    subst (λ (s : Schema). AllByRecursion (IsEarlier s) (take (reads p.shares.items) given)) (sym plans.0.schema) (subst (λ (xs : List Share). AllByRecursion (IsEarlier t.schema) (take (reads xs) given)) (sym plans.0.shares) a.1) in
-    let later = blocks_serve (rest written) split (rest shape) ts ps (drop (reads p.shares.items) given) plans.1 (subst (λ (xs : List Share). AreBlocksFor (rest written) split (rest shape) ts (drop (reads xs) given)) (sym plans.0.shares) a.2) in
+    let here : AllByRecursion (IsOld p.schema) (take (reads p.shares.items) given) =
+    subst (λ (s : Schema). AllByRecursion (IsOld s) (take (reads p.shares.items) given)) (sym plans.0.schema) (subst (λ (xs : List Share). AllByRecursion (IsOld t.schema) (take (reads xs) given)) (sym plans.0.shares) a.1) in
+    let later = olds_serve (rest written) split (rest shape) ts ps (drop (reads p.shares.items) given) plans.1 (subst (λ (xs : List Share). AreOldsFor (rest written) split (rest shape) ts (drop (reads xs) given)) (sym plans.0.shares) a.2) in
     ((here, later.0), omega (arith, some, later.1, length-drop (reads p.shares.items) given))
 
-pub touched_shown : (n : ℕ) (written : List (List ℕ)) (split : ℕ) (shape : List TableParts) (ts : List StoredTable) (ps : List Planned) → ArePlansOf written split shape ts ps → touched_from n ps ≡ all_touched n written split shape ts
-touched_shown n written split shape [] [] plans = refl
-touched_shown n written split shape [] (p ∷ ps) plans = absurd plans
-touched_shown n written split shape (t ∷ ts) [] plans = absurd plans
-touched_shown n written split shape (t ∷ ts) (p ∷ ps) plans = ap₂ (λ (xs : List Share) (l : List Touched). map (touch n) (touched xs) ++ l) plans.0.shares (touched_shown (n + 1) (rest written) split (rest shape) ts ps plans.1)
+pub late_shown : (n : ℕ) (written : List (List ℕ)) (split : ℕ) (shape : List TableParts) (ts : List StoredTable) (ps : List Planned) → ArePlansOf written split shape ts ps → late_from n ps ≡ all_late n written split shape ts
+late_shown n written split shape [] [] plans = refl
+late_shown n written split shape [] (p ∷ ps) plans = absurd plans
+late_shown n written split shape (t ∷ ts) [] plans = absurd plans
+late_shown n written split shape (t ∷ ts) (p ∷ ps) plans =
+    ap₂ (λ (a b : List Late). a ++ b) (late_is n (first_counts written) split (first_parts shape) t p plans.0) (late_shown (n + 1) (rest written) split (rest shape) ts ps plans.1)
 
--- ---- one share, and one table, whose touched parts are told
+-- ---- one share, and one table, whose late parts are told
 
-touched_cons : (a : Share) (list : List Share) → touched (a ∷ list) ≡ touched (a ∷ []) ++ touched list
-touched_cons (share.Keep p) list = refl
-touched_cons (share.Append p a b) list = refl
-touched_cons (share.Merge p a b) list = refl
-touched_cons (share.New a b) list = refl
+late_cons : (table : ℕ) (times : List ℕ) (a : Share) (list : List Share) → late_by table times (a ∷ list) ≡ late_by table times (a ∷ []) ++ late_by table times list
+late_cons table times (share.Keep p) list = refl
+late_cons table times (share.Append p a b) list = refl
+late_cons table times (share.Merge p a b) list = refl
+late_cons table times (share.New a b) list = refl
 
-pub touched_next : (table i : ℕ) (list : List Share) (a : Share) (so new all : List Touched) → i < length list → a ≡ get_or list i a → so ++ map (touch table) (touched (drop i list)) ≡ all → new ≡ so ++ map (touch table) (touched (a ∷ []))
-    → new ++ map (touch table) (touched (drop (i + 1) list)) ≡ all
-touched_next table i list a so new all lt is so_far more =
-    let later = touched (drop (i + 1) list) in
-    ap (λ (l : List Touched). l ++ map (touch table) later) more
-    ∙ append_assoc so (map (touch table) (touched (a ∷ []))) (map (touch table) later)
-    ∙ ap (λ (l : List Touched). so ++ l) (sym (map-append (touch table) (touched (a ∷ [])) later) ∙ ap (map (touch table)) (sym (touched_cons a (drop (i + 1) list)) ∙ ap touched (sym (drop_at i list a lt is))))
+pub late_next : (table : ℕ) (times : List ℕ) (i : ℕ) (list : List Share) (a : Share) (so new all : List Late) → i < length list → a ≡ get_or list i a → so ++ late_by table times (drop i list) ≡ all → new ≡ so ++ late_by table times (a ∷ [])
+    → new ++ late_by table times (drop (i + 1) list) ≡ all
+late_next table times i list a so new all lt is so_far more =
+    let later = late_by table times (drop (i + 1) list) in
+    ap (λ (l : List Late). l ++ late_by table times (drop (i + 1) list)) more
+    ∙ append_assoc so (late_by table times (a ∷ [])) later
+    ∙ ap (λ (l : List Late). so ++ l) (sym (late_cons table times a (drop (i + 1) list)) ∙ ap (late_by table times) (sym (drop_at i list a lt is)))
     ∙ so_far
 
-pub table_touched : (i : ℕ) (ps : List Planned) (p : Planned) (so new all : List Touched) → i < length ps → p ≡ get_or ps i p → so ++ touched_from i (drop i ps) ≡ all → new ≡ so ++ map (touch i) (touched p.shares.items) → new ++ touched_from (i + 1) (drop (i + 1) ps) ≡ all
-table_touched i ps p so new all lt is so_far more =
-    ap (λ (l : List Touched). l ++ touched_from (i + 1) (drop (i + 1) ps)) more
-    ∙ append_assoc so (map (touch i) (touched p.shares.items)) (touched_from (i + 1) (drop (i + 1) ps))
-    ∙ ap (λ (l : List Planned). so ++ touched_from i l) (sym (drop_at i ps p lt is))
+-- the part of one share, by the batch's own words for its time
+pub late_here : (table : ℕ) (b : Block) (a : Share) (part i j first : ℕ) (so new : List Late) → a ≡ share.Merge part i j → first ≡ time_of b.time_col (get_or b.rows i []) → new ≡ so ++ record { table = table; part = part; first = first } ∷ []
+    → new ≡ so ++ late_by table (times_of b) (a ∷ [])
+late_here table b a part i j first so new a_is first_is more =
+    more
+    ∙ ap (λ (n : ℕ). so ++ (let l : Late = record { table = table; part = part; first = n } in l) ∷ []) (first_is ∙ sym (got_time b.time_col b.rows i))
+    ∙ ap (λ (x : Share). so ++ late_by table (times_of b) (x ∷ [])) (sym a_is)
+
+pub plan_told : (i : ℕ) (ps : List Planned) (p : Planned) (so new all : List Late) → i < length ps → p ≡ get_or ps i p → so ++ late_from i (drop i ps) ≡ all → new ≡ so ++ plan_late i p → new ++ late_from (i + 1) (drop (i + 1) ps) ≡ all
+plan_told i ps p so new all lt is so_far more =
+    ap (λ (l : List Late). l ++ late_from (i + 1) (drop (i + 1) ps)) more
+    ∙ append_assoc so (plan_late i p) (late_from (i + 1) (drop (i + 1) ps))
+    ∙ ap (λ (l : List Planned). so ++ late_from i l) (sym (drop_at i ps p lt is))
     ∙ so_far
 
 -- ---- the parts of a version's table of a number

@@ -3,6 +3,7 @@ pub mod Arrivals
 pub mod Stands
 pub mod Next
 pub mod Laws
+pub mod Olds
 pub mod Waiting
 pub mod Given
 pub mod Plans

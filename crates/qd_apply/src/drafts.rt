@@ -9,7 +9,7 @@ ghost use Rattle.qd_apply.specs.Laws.{CountsParts};
 ghost use Rattle.qd_apply.specs.Plans.{with_batch};
 
 use crate::planning::Plan;
-use crate::plans::{plan_tables, touched_of};
+use crate::plans::{late_of, plan_tables};
 use crate::tables::Tables;
 use qd_base::{Duplicate, Entry, Memory, Op, Schemas};
 use qd_manifest::Shape;
@@ -126,14 +126,14 @@ impl Draft {
         } = self;
         let Tables { schemas: _, tables } = tables;
         let plans = plan_tables(alloc, &shape, written.as_slice(), tables, split_rows)?;
-        let touched = touched_of(alloc, plans.as_slice())?;
+        let late = late_of(alloc, plans.as_slice())?;
         Ok(Plan {
             base,
             upto,
             next_block,
             shape,
             plans,
-            touched,
+            late,
             written,
             split_rows,
         })

@@ -1,20 +1,20 @@
 //! Shares carried out on the parts of one table.
-ghost use Rattle.std.specs.Prelude.{◌≡◌, ℕ, ◌+◌, ◌-◌, ◌^◌, ◌<◌, ◌≤◌, ◌++◌, ◌∷◌, [], None, Some, IfOk, OnOk, length, map, slice_index_or, slice_range};
+ghost use Rattle.std.specs.Prelude.{◌≡◌, ◌+◌, ◌-◌, ◌^◌, ◌<◌, ◌≤◌, ◌++◌, ◌∷◌, [], IfOk, OnOk, length, map, slice_index_or, slice_range};
 ghost use Rattle.std.specs.Arc.{arc_value};
 ghost use Rattle.std.specs.List.{AllByRecursion};
 ghost use Rattle.qd_base.specs.Lawful.{IsSchema};
 ghost use Rattle.qd_base.specs.declared.schema.Schema.{Schema as Table};
 ghost use Rattle.qd_base.specs.Rows.{time_of};
-ghost use Rattle.qd_merge.specs.Merged.{merged};
-ghost use Rattle.qd_merge.specs.Shares.{split_acts};
-ghost use Rattle.qd_apply.specs.Next.{blocks_made, growths, in_table, new_piece, pieces_after};
-ghost use Rattle.qd_apply.specs.Given.{acts_given, all_grown_by, all_made_by, first_given, grown_by, made_by, old_given, parts_by, parts_left, pieces_given, read_by, reads, split_at, writes, IsActOf, IsBatchBlock, IsEarlier, IsShareOf};
+ghost use Rattle.qd_merge.specs.Merged.{block_in};
+ghost use Rattle.qd_apply.specs.Next.{in_table, new_piece};
+ghost use Rattle.qd_apply.specs.Given.{all_grown_by, all_made_by, grown_by, made_by, merged_into, part_with, parts_by, parts_left, read_by, reads, staying, writes, IsBatchBlock, IsEarlier, IsOld, IsShareOf};
 ghost use Rattle.qd_apply.specs.Plans.{growth_of, IsPlanned};
 
+use crate::olds::{OldPart, Stay};
 use crate::plans::Planned;
-use qd_base::{Memory, Part, PartList, Schema};
+use qd_base::{Memory, Part, PartList};
 use qd_block::Builder;
-use qd_merge::{Act, Block, Share, Split, merge_blocks, split_part};
+use qd_merge::{Block, Share, merge_blocks};
 use std::alloc::{AllocError, Global};
 use std::sync::Arc;
 
@@ -37,27 +37,26 @@ pub(crate) struct Made {
 }
 
 /// Carries out the shares of a plan on the parts of its table: gives the new parts, and adds what is written. New blocks
-/// are numbered by their places, from `first` on. `given` has the blocks of the parts that rows are merged into, in
-/// order.
+/// are numbered by their places, from `first` on. `given` has the parts that rows are merged into, in order.
 ///
-/// A part that is kept or shows fewer rows costs a copy of its record; one that is appended to, time and memory linear
-/// in the rows that it gets. One that is written costs time and memory linear in its block.
+/// A part that is kept costs a copy of its record; one that is appended to, time and memory linear in the rows that it gets.
+/// One that rows are merged into costs time and memory linear in these and in its rows behind those that stay.
 pub(crate) fn carried_out(
     alloc: Global,
     plan: &Planned,
     table: usize,
     parts: &[Part],
-    given: &[Arc<Block>],
+    given: &[OldPart],
     first: u64,
     made: &mut Made,
 ) -> Result<PartList, Memory>
     requires plan { IsPlanned parts.now plan.now }
-    requires given { AllByRecursion (IsEarlier plan.now.schema) (map arc_value given.now) }
+    requires given { AllByRecursion (IsOld plan.now.schema) given.now }
     requires enough { reads plan.now.shares.items ≤ length given.now }
     requires room { first + length made.old.blocks.items + writes plan.now.shares.items < 2 ^ 64 }
-    ensures parts { IfOk result (λ p. p ≡ parts_by plan.now.rules plan.now.schema parts.now plan.now.batch.rows (first + length made.old.blocks.items) plan.now.shares.items (map arc_value given.now)) }
-    ensures blocks { IfOk result (λ _. map arc_value made.new.blocks.items ≡ map arc_value made.old.blocks.items ++ all_made_by plan.now.rules plan.now.schema parts.now plan.now.batch.rows plan.now.shares.items (map arc_value given.now)) }
-    ensures grown { IfOk result (λ _. map growth_of made.new.grown.items ≡ map growth_of made.old.grown.items ++ map (in_table table) (all_grown_by plan.now.rules plan.now.schema plan.now.batch.rows plan.now.shares.items (map arc_value given.now))) }
+    ensures parts { IfOk result (λ p. p ≡ parts_by plan.now.schema parts.now plan.now.batch.rows (first + length made.old.blocks.items) plan.now.shares.items given.now) }
+    ensures blocks { IfOk result (λ _. map arc_value made.new.blocks.items ≡ map arc_value made.old.blocks.items ++ all_made_by plan.now.schema plan.now.batch.rows plan.now.shares.items given.now) }
+    ensures grown { IfOk result (λ _. map growth_of made.new.grown.items ≡ map growth_of made.old.grown.items ++ map (in_table table) (all_grown_by plan.now.schema plan.now.batch.rows plan.now.shares.items)) }
 {
     let mut kept = PartList::with_capacity(alloc, plan.shares.len())?;
     let mut read = 0;
@@ -78,7 +77,7 @@ pub(crate) fn carried_out(
     Ok(kept)
 }
 
-/// How many blocks a share reads.
+/// How many old parts a share reads.
 pub(crate) fn reads_of(share: &Share) -> usize
     ensures reads { result ≡ read_by share.now }
 {
@@ -99,113 +98,96 @@ fn carry_out(
     table: usize,
     parts: &[Part],
     share: &Share,
-    given: &[Arc<Block>],
+    given: &[OldPart],
     first: u64,
     kept: &mut PartList,
     made: &mut Made,
 ) -> Result<(), Memory>
     requires plan { IsPlanned parts.now plan.now }
     requires share { IsShareOf (length parts.now) share.now }
-    requires given { AllByRecursion (IsEarlier plan.now.schema) (map arc_value given.now) }
+    requires given { AllByRecursion (IsOld plan.now.schema) given.now }
     requires enough { read_by share.now ≤ length given.now }
     requires room { first + length made.old.blocks.items < 2 ^ 64 }
-    ensures parts { OnOk result (kept.new ≡ kept.old ++ parts_left plan.now.rules plan.now.schema parts.now plan.now.batch.rows (first + length made.old.blocks.items) share.now (map arc_value given.now)) }
-    ensures blocks { OnOk result (map arc_value made.new.blocks.items ≡ map arc_value made.old.blocks.items ++ made_by plan.now.rules plan.now.schema parts.now plan.now.batch.rows share.now (map arc_value given.now)) }
-    ensures grown { OnOk result (map growth_of made.new.grown.items ≡ map growth_of made.old.grown.items ++ map (in_table table) (grown_by plan.now.rules plan.now.schema plan.now.batch.rows share.now (map arc_value given.now))) }
+    ensures parts { OnOk result (kept.new ≡ kept.old ++ parts_left plan.now.schema parts.now plan.now.batch.rows (first + length made.old.blocks.items) share.now given.now) }
+    ensures blocks { OnOk result (map arc_value made.new.blocks.items ≡ map arc_value made.old.blocks.items ++ made_by plan.now.schema plan.now.batch.rows share.now given.now) }
+    ensures grown { OnOk result (map growth_of made.new.grown.items ≡ map growth_of made.old.grown.items ++ map (in_table table) (grown_by plan.now.schema plan.now.batch.rows share.now)) }
 {
     match *share {
-        Share::Keep { part } => {
-            let act = Act::Keep { part };
-            act_on(alloc, plan, table, parts, &act, given, first, kept, made)
-        }
+        Share::Keep { part } => kept.push(parts[part]),
         Share::Append { part, from, to } => {
-            let act = Act::Append { part, from, to };
-            act_on(alloc, plan, table, parts, &act, given, first, kept, made)
+            append(alloc, plan, table, part, parts[part], from, to, kept, made)
         }
         Share::Merge { part, from, to } => {
-            let split = split_of(plan, part, &given[0], from, to);
-            if let Some(act) = split.stays {
-                act_on(alloc, plan, table, parts, &act, given, first, kept, made)?;
-            }
-            act_on(
-                alloc,
-                plan,
-                table,
-                parts,
-                &split.write,
-                given,
-                first,
-                kept,
-                made,
-            )
+            push_stay(kept, parts[part], given[0].stay)?;
+            write(alloc, plan, &given[0].rest, from, to, first, kept, made)
         }
         Share::New { from, to } => {
-            let act = Act::Write {
-                part: None,
-                skip: 0,
-                from,
-                to,
-            };
-            act_on(alloc, plan, table, parts, &act, given, first, kept, made)
+            let none = Builder::new(alloc, &plan.schema.cols, plan.schema.time_col)?.finish()?;
+            write(alloc, plan, &none, from, to, first, kept, made)
         }
     }
 }
 
-/// Splits a part, whose block is at hand, at the first of the rows that are merged into it.
-fn split_of(plan: &Planned, part: usize, block: &Block, from: usize, to: usize) -> Split
-    requires batch { IsBatchBlock plan.now.schema plan.now.batch }
-    requires block { IsEarlier plan.now.schema block.now }
-    ensures split { split_acts result ≡ split_at plan.now.rules plan.now.schema plan.now.batch.rows part block.now from to }
-{
-    block.is_whole();
-    let first = time_at(&plan.batch, from as u64);
-    split_part(&plan.rules, part, block.times(), first, from, to)
-}
-
-/// Carries out one act: adds the part that it leaves, and what it writes.
-fn act_on(
+/// Puts rows of a plan's batch behind those of a part of a number: adds the part, and the rows.
+fn append(
     alloc: Global,
     plan: &Planned,
     table: usize,
-    parts: &[Part],
-    act: &Act,
-    given: &[Arc<Block>],
+    part: usize,
+    old: Part,
+    from: usize,
+    to: usize,
+    kept: &mut PartList,
+    made: &mut Made,
+) -> Result<(), Memory>
+    requires batch { IsBatchBlock plan.now.schema plan.now.batch }
+    ensures parts { OnOk result (kept.new ≡ kept.old ++ part_with plan.now.schema old plan.now.batch.rows from to ∷ []) }
+    ensures blocks { OnOk result (made.new.blocks ≡ made.old.blocks) }
+    ensures grown { OnOk result (map growth_of made.new.grown.items ≡ map growth_of made.old.grown.items ++ record { table = table; part = part; rows = block_in plan.now.schema (slice_range plan.now.batch.rows from to) } ∷ []) }
+{
+    let rows = Arc::new(alloc, rows_within(&plan.batch, from, to)?)?;
+    kept.push(appended(old, &plan.batch, from, to)?)?;
+    made.grown.push(Grown { table, part, rows })?;
+    Ok(())
+}
+
+/// Adds what stays of a part.
+fn push_stay(kept: &mut PartList, part: Part, stay: Stay) -> Result<(), Memory>
+    ensures parts { OnOk result (kept.new ≡ kept.old ++ staying part stay) }
+{
+    match stay {
+        Stay::Nothing => Ok(()),
+        Stay::First { rows, hi } => kept.push(Part { rows, hi, ..part }),
+        Stay::All => kept.push(part),
+    }
+}
+
+/// Writes rows of a plan's batch, merged into those of a block: adds the new block, and its part.
+fn write(
+    alloc: Global,
+    plan: &Planned,
+    old: &Block,
+    from: usize,
+    to: usize,
     first: u64,
     kept: &mut PartList,
     made: &mut Made,
 ) -> Result<(), Memory>
-    requires plan { IsPlanned parts.now plan.now }
-    requires act { IsActOf plan.now.schema (length parts.now) (map arc_value given.now) act.now }
-    requires given { AllByRecursion (IsEarlier plan.now.schema) (map arc_value given.now) }
+    requires schema { IsSchema plan.now.schema }
+    requires batch { IsBatchBlock plan.now.schema plan.now.batch }
+    requires block { IsEarlier plan.now.schema old.now }
     requires room { first + length made.old.blocks.items < 2 ^ 64 }
-    ensures parts { OnOk result (kept.new ≡ kept.old ++ map (λ x. x.part) (pieces_after plan.now.schema (pieces_given plan.now.schema parts.now (map arc_value given.now)) plan.now.batch.rows (first + length made.old.blocks.items) (act.now ∷ []))) }
-    ensures blocks { OnOk result (map arc_value made.new.blocks.items ≡ map arc_value made.old.blocks.items ++ blocks_made plan.now.schema (pieces_given plan.now.schema parts.now (map arc_value given.now)) plan.now.batch.rows (act.now ∷ [])) }
-    ensures grown { OnOk result (map growth_of made.new.grown.items ≡ map growth_of made.old.grown.items ++ map (in_table table) (growths plan.now.schema plan.now.batch.rows (act.now ∷ []))) }
+    ensures parts { OnOk result (kept.new ≡ kept.old ++ (new_piece plan.now.schema (first + length made.old.blocks.items) (merged_into plan.now.schema old.now plan.now.batch.rows from to)).part ∷ []) }
+    ensures blocks { OnOk result (map arc_value made.new.blocks.items ≡ map arc_value made.old.blocks.items ++ merged_into plan.now.schema old.now plan.now.batch.rows from to ∷ []) }
+    ensures grown { OnOk result (made.new.grown ≡ made.old.grown) }
 {
-    match *act {
-        Act::Keep { part } => kept.push(parts[part]),
-        Act::Shorten { part, rows } => kept.push(shortened(parts[part], &given[0], rows)),
-        Act::Append { part, from, to } => {
-            let rows = Arc::new(alloc, rows_within(&plan.batch, from, to)?)?;
-            kept.push(appended(parts[part], &plan.batch, from, to)?)?;
-            made.grown.push(Grown { table, part, rows })?;
-            Ok(())
-        }
-        Act::Write {
-            part,
-            skip,
-            from,
-            to,
-        } => {
-            let rows = rows_within(&plan.batch, from, to)?;
-            rows.is_whole();
-            let block = written(alloc, &plan.schema, part, skip, given, &rows)?;
-            let number = first + made.blocks.len() as u64;
-            kept.push(part_of(number, &block))?;
-            made.blocks.push(Arc::new(alloc, block)?)?;
-            Ok(())
-        }
-    }
+    let rows = rows_within(&plan.batch, from, to)?;
+    rows.is_whole();
+    let block = merge_blocks(alloc, old, 0, &rows, &plan.schema.keys)?;
+    let number = first + made.blocks.len() as u64;
+    kept.push(part_of(number, &block))?;
+    made.blocks.push(Arc::new(alloc, block)?)?;
+    Ok(())
 }
 
 /// Copies the rows of a batch from one up to another: none where that comes before, and none behind the last.
@@ -215,31 +197,6 @@ fn rows_within(batch: &Block, from: usize, to: usize) -> Result<Block, Memory>
     let to = (to as u64).min(batch.rows());
     let from = (from as u64).min(to);
     batch.slice_rows(from, to)
-}
-
-/// Merges rows of a batch into those of a part's block from one on, the first block at hand, or into none.
-fn written(
-    alloc: Global,
-    schema: &Schema,
-    part: Option<usize>,
-    skip: u64,
-    given: &[Arc<Block>],
-    rows: &Block,
-) -> Result<Block, Memory>
-    requires schema { IsSchema schema.now }
-    requires rows { IsBatchBlock schema.now rows.now }
-    requires given { AllByRecursion (IsEarlier schema.now) (map arc_value given.now) }
-    requires enough { (i : ℕ) → part ≡ Some i → (0 < length given.now) × (skip ≤ length (first_given schema.now (map arc_value given.now)).rows) }
-    requires none { part ≡ None → skip ≡ 0 }
-    ensures merged { IfOk result (λ b. b ≡ merged schema.now.keys (old_given schema.now part (map arc_value given.now)) skip rows.now) }
-{
-    match part {
-        Some(_) => merge_blocks(alloc, &given[0], skip, rows, &schema.keys),
-        None => {
-            let none = Builder::new(alloc, &schema.cols, schema.time_col)?.finish()?;
-            merge_blocks(alloc, &none, 0, rows, &schema.keys)
-        }
-    }
 }
 
 /// The part of all rows and columns of a block with a number.
@@ -253,17 +210,6 @@ fn part_of(number: u64, block: &Block) -> Part
         cols: block.cols(),
         lo: time_at(block, 0),
         hi: time_at(block, rows.saturating_sub(1)),
-    }
-}
-
-/// A part that shows its first rows alone.
-fn shortened(part: Part, block: &Block, rows: u64) -> Part
-    ensures part { result ≡ record part { rows = rows; hi = time_of block.now.time_col (slice_index_or block.now.rows (rows - 1) []) } }
-{
-    Part {
-        rows,
-        hi: time_at(block, rows.saturating_sub(1)),
-        ..part
     }
 }
 
@@ -283,7 +229,7 @@ fn appended(part: Part, batch: &Block, from: usize, to: usize) -> Result<Part, M
 }
 
 /// The time of a row of a block; 0 where there is no such row.
-fn time_at(block: &Block, i: u64) -> u64
+pub(crate) fn time_at(block: &Block, i: u64) -> u64
     ensures time { result ≡ time_of block.now.time_col (slice_index_or block.now.rows i []) }
 {
     if i < block.rows() { block.time(i) } else { 0 }

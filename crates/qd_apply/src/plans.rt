@@ -5,19 +5,20 @@ ghost use Rattle.qd_manifest.specs.Spelling.{AreParts};
 ghost use Rattle.qd_merge.specs.Owners.{AreInOrder};
 ghost use Rattle.qd_base.specs.declared.limits.TheConstants.{MAX_TIME as greatest};
 ghost use Rattle.qd_base.specs.Lawful.{IsSchema};
-ghost use Rattle.qd_apply.specs.Given.{reads, touched};
+ghost use Rattle.qd_apply.specs.Given.{reads};
 ghost use Rattle.qd_apply.specs.Laws.{CountsParts};
 ghost use Rattle.qd_apply.specs.Next.{first_counts, first_parts, rules_of};
-ghost use Rattle.qd_apply.specs.Plans.{all_by, all_reads, all_writes, grown_by_all, growth_of, shape_by, touch, touched_from, AreEarlier, ArePlanned, ArePlansOf, IsPlanOf};
+ghost use Rattle.qd_apply.specs.Olds.{late_by, times_of};
+ghost use Rattle.qd_apply.specs.Plans.{all_by, all_reads, all_writes, grown_by_all, growth_of, late_from, plan_late, shape_by, AreEarlier, ArePlanned, ArePlansOf, IsPlanOf};
 
 use crate::batching::{TableBatch, batched};
-use crate::merging::{Made, carried_out, reads_of};
+use crate::merging::{Made, carried_out, reads_of, time_at};
+use crate::olds::{Late, OldPart};
 use crate::waiting::Waiting;
 use qd_base::{Duplicate, Memory, Part, Schema};
 use qd_manifest::{Shape, TableParts};
 use qd_merge::{Block, Rules, Share, share_batch};
 use std::alloc::Global;
-use std::sync::Arc;
 
 /// A table's batch, and how it is shared out among the table's parts.
 #[derive(Drop)]
@@ -26,15 +27,6 @@ pub(crate) struct Planned {
     pub(crate) batch: Block,
     pub(crate) rules: Rules,
     pub(crate) shares: Vec<Share>,
-}
-
-/// A part of a version whose block a merge reads.
-#[derive(Clone, Copy, Debug, PartialEq, Eq)]
-pub struct Touched {
-    /// The number of the table.
-    pub table: usize,
-    /// The number of the part in its table.
-    pub part: usize,
 }
 
 /// Plans the merge of the rows that wait in a table: finishes its batch, and shares it out among the parts. It costs
@@ -103,22 +95,22 @@ pub(crate) fn plan_tables(
 }
 
 /// Carries out plans on the parts of a version: gives the new tables, and adds what is written. New blocks are numbered
-/// by their places, from `first` on. `given` has the blocks that are read, in order.
+/// by their places, from `first` on. `given` has the parts that rows are merged into, in order.
 pub(crate) fn merged_tables(
     alloc: Global,
     shape: &Shape,
     tables: &[Planned],
-    given: &[Arc<Block>],
+    given: &[OldPart],
     first: u64,
     made: &mut Made,
 ) -> Result<Shape, Memory>
     requires planned { ArePlanned shape.now tables.now }
-    requires given { AreEarlier tables.now (map arc_value given.now) }
+    requires given { AreEarlier tables.now given.now }
     requires enough { all_reads tables.now ≤ length given.now }
     requires room { first + length made.old.blocks.items + all_writes tables.now < 2 ^ 64 }
-    ensures shape { IfOk result (λ s. s ≡ shape_by shape.now tables.now (first + length made.old.blocks.items) (map arc_value given.now)) }
-    ensures blocks { IfOk result (λ _. map arc_value made.new.blocks.items ≡ map arc_value made.old.blocks.items ++ all_by shape.now tables.now (map arc_value given.now)) }
-    ensures grown { IfOk result (λ _. map growth_of made.new.grown.items ≡ map growth_of made.old.grown.items ++ grown_by_all 0 tables.now (map arc_value given.now)) }
+    ensures shape { IfOk result (λ s. s ≡ shape_by shape.now tables.now (first + length made.old.blocks.items) given.now) }
+    ensures blocks { IfOk result (λ _. map arc_value made.new.blocks.items ≡ map arc_value made.old.blocks.items ++ all_by tables.now given.now) }
+    ensures grown { IfOk result (λ _. map growth_of made.new.grown.items ≡ map growth_of made.old.grown.items ++ grown_by_all 0 tables.now) }
 {
     let mut after = Shape::new(alloc);
     let mut read = 0;
@@ -141,7 +133,7 @@ pub(crate) fn merged_tables(
     Ok(after)
 }
 
-/// How many blocks shares read.
+/// How many old parts shares read.
 fn reads_in(shares: &[Share]) -> usize
     ensures reads { result ≡ reads shares.now }
 {
@@ -174,38 +166,40 @@ fn counts_of(written: &[Vec<u64>], table: usize) -> &[u64]
     }
 }
 
-/// The parts whose blocks plans read, in order of tables and parts.
-pub(crate) fn touched_of(alloc: Global, plans: &[Planned]) -> Result<Vec<Touched>, Memory>
-    ensures touched { IfOk result (λ v. v.items ≡ touched_from 0 plans.now) }
+/// The parts that plans merge rows into, in order of tables and parts.
+pub(crate) fn late_of(alloc: Global, plans: &[Planned]) -> Result<Vec<Late>, Memory>
+    ensures late { IfOk result (λ v. v.items ≡ late_from 0 plans.now) }
 {
     let mut list = Vec::new(alloc);
     for i in 0..plans.len() {
-        push_touched(&mut list, i, plans[i].shares.as_slice())?;
+        push_late(&mut list, i, &plans[i])?;
     }
     Ok(list)
 }
 
-/// Adds the parts whose blocks shares read.
-fn push_touched(list: &mut Vec<Touched>, table: usize, shares: &[Share]) -> Result<(), Memory>
-    ensures added { OnOk result (list.new.items ≡ list.old.items ++ map (touch table) (touched shares.now)) }
+/// Adds the parts that a plan merges rows into.
+fn push_late(list: &mut Vec<Late>, table: usize, plan: &Planned) -> Result<(), Memory>
+    ensures added { OnOk result (list.new.items ≡ list.old.items ++ plan_late table plan.now) }
 {
-    for share in shares {
-        push_share(list, table, share)?;
+    for share in plan.shares.as_slice() {
+        push_share(list, table, &plan.batch, share)?;
     }
     Ok(())
 }
 
-/// Adds the part whose block a share reads, where it reads one.
-fn push_share(list: &mut Vec<Touched>, table: usize, share: &Share) -> Result<(), Memory>
-    ensures added { OnOk result (list.new.items ≡ list.old.items ++ map (touch table) (touched (share.now ∷ []))) }
+/// Adds the part that rows of a batch are merged into by a share, where it is of one.
+fn push_share(
+    list: &mut Vec<Late>,
+    table: usize,
+    batch: &Block,
+    share: &Share,
+) -> Result<(), Memory>
+    ensures added { OnOk result (list.new.items ≡ list.old.items ++ late_by table (times_of batch.now) (share.now ∷ [])) }
 {
     match *share {
-        Share::Merge {
-            part,
-            from: _,
-            to: _,
-        } => {
-            list.push(Touched { table, part })?;
+        Share::Merge { part, from, to: _ } => {
+            let first = time_at(batch, from as u64);
+            list.push(Late { table, part, first })?;
             Ok(())
         }
         _ => Ok(()),

@@ -2,11 +2,11 @@ use Rattle.std.proofs.Common.{◌≡◌, ◌∙◌, ◌+◌, ◌<◌, ◌++◌, 
 use Rattle.std.specs.Arc.{arc_value}
 use Rattle.std.specs.List.{AllByRecursion}
 use Rattle.qd_base.specs.declared.part.Part.{Part}
-use Rattle.qd_block.specs.Blocks.{Block}
 use Rattle.qd_manifest.specs.declared.shape.TableParts.{TableParts}
+use Rattle.qd_apply.specs.declared.olds.OldPart.{OldPart}
 use Rattle.qd_apply.specs.declared.plans.Planned.{Planned}
-use Rattle.qd_apply.specs.Given.{all_grown_by, all_made_by, parts_by, reads, writes, IsEarlier}
-use Rattle.qd_apply.specs.Next.{first_parts, in_table}
+use Rattle.qd_apply.specs.Given.{all_made_by, parts_by, reads, writes, IsOld}
+use Rattle.qd_apply.specs.Next.{first_parts}
 use Rattle.qd_apply.specs.Plans.{all_by, grown_by_all, growth_of, shape_by, AreEarlier, IsPlanned}
 use Rattle.qd_apply.proofs.PlanLemmas.{all_made_more, all_next, all_reads_next, all_writes_next, given_some, grown_next, plan_next, shape_next}
 use Rattle.qd_apply.proofs.plans.merged_tables.Goals as goal
@@ -15,7 +15,7 @@ pub carried_out-requires-clause-plan : goal.carried_out-requires-clause-plan
 carried_out-requires-clause-plan c =
     let v = c.loop-i.invariant in
     let p : Planned = c.index-tables-i.result in
-    let given : List Block = map arc_value c.args.given.now in
+    let given : List OldPart = c.args.given.now in
     let next = plan_next c.args.shape.now c.args.tables.now given c.loop-i.i c.loop-i.read p c.loop-i-test.true c.index-tables-i.is v.planned v.given in
     subst (λ (l : List Part). IsPlanned l p) (sym c.parts_of.ensures.parts) next.0
 
@@ -24,10 +24,10 @@ carried_out-requires-clause-given c =
     let v = c.loop-i.invariant in
     let p : Planned = c.index-tables-i.result in
     let read = c.loop-i.read in
-    let given : List Block = map arc_value c.args.given.now in
+    let given : List OldPart = c.args.given.now in
     let next = plan_next c.args.shape.now c.args.tables.now given c.loop-i.i read p c.loop-i-test.true c.index-tables-i.is v.planned v.given in
     let count : c.reads_in.result ≡ reads p.shares.items = c.reads_in.ensures.reads ∙ ap reads c.as_slice.ensures.value in
-    subst (AllByRecursion (IsEarlier p.schema)) (sym (given_some arc_value read (read + c.reads_in.result) (reads p.shares.items) c.args.given.now (ap (λ (n : ℕ). read + n) count))) next.1
+    subst (AllByRecursion (IsOld p.schema)) (sym (given_some read (read + c.reads_in.result) (reads p.shares.items) c.args.given.now (ap (λ (n : ℕ). read + n) count))) next.1
 
 pub loop-i-preserved : goal.loop-i-preserved
 loop-i-preserved c =
@@ -40,22 +40,20 @@ loop-i-preserved c =
     let p : Planned = c.index-tables-i.result in
     let lt : c.loop-i.i < length c.args.tables.now = c.loop-i-test.true in
     let is = c.index-tables-i.is in
-    let given : List Block = map arc_value c.args.given.now in
+    let given : List OldPart = c.args.given.now in
     let next = plan_next shape ps given i read p lt is v.planned v.given in
     let count : c.reads_in.result ≡ reads p.shares.items = c.reads_in.ensures.reads ∙ ap reads c.as_slice.ensures.value in
-    let some = given_some arc_value read (read + c.reads_in.result) (reads p.shares.items) c.args.given.now (ap (λ (n : ℕ). read + n) count) in
-    let here : List Block = take (reads p.shares.items) (drop read given) in
+    let some = given_some read (read + c.reads_in.result) (reads p.shares.items) c.args.given.now (ap (λ (n : ℕ). read + n) count) in
+    let here : List OldPart = take (reads p.shares.items) (drop read given) in
     let mine : List Part = first_parts (drop i shape) in
     let old = c.loop-i.made.blocks.items in
     let new = c.carried_out.new.made.blocks.items in
-    let made : map arc_value new ≡ map arc_value old ++ all_made_by p.rules p.schema mine p.batch.rows p.shares.items here =
-    c.in_ok-parts.ensures.blocks ∙ ap₂ (λ (l : List Part) (g : List Block). map arc_value old ++ all_made_by p.rules p.schema l p.batch.rows p.shares.items g) c.parts_of.ensures.parts some in
-    let grown : map growth_of c.carried_out.new.made.grown.items ≡ map growth_of c.loop-i.made.grown.items ++ map (in_table i) (all_grown_by p.rules p.schema p.batch.rows p.shares.items here) =
-    c.in_ok-parts.ensures.grown ∙ ap (λ (g : List Block). map growth_of c.loop-i.made.grown.items ++ map (in_table i) (all_grown_by p.rules p.schema p.batch.rows p.shares.items g)) some in
-    let parts : c.in_ok-parts.parts ≡ parts_by p.rules p.schema mine p.batch.rows (first + length old) p.shares.items here =
+    let made : map arc_value new ≡ map arc_value old ++ all_made_by p.schema p.batch.rows p.shares.items here =
+    c.in_ok-parts.ensures.blocks ∙ ap (λ (g : List OldPart). map arc_value old ++ all_made_by p.schema p.batch.rows p.shares.items g) some in
+    let parts : c.in_ok-parts.parts ≡ parts_by p.schema mine p.batch.rows (first + length old) p.shares.items here =
     c.in_ok-parts.ensures.parts
-    ∙ ap₂ (λ (l : List Part) (g : List Block). parts_by p.rules p.schema l p.batch.rows (first + length old) p.shares.items g) c.parts_of.ensures.parts some in
-    let more : length new ≡ length old + writes p.shares.items = all_made_more arc_value p.rules p.schema mine p.batch.rows p.shares.items here old new made in
+    ∙ ap₂ (λ (l : List Part) (g : List OldPart). parts_by p.schema l p.batch.rows (first + length old) p.shares.items g) c.parts_of.ensures.parts some in
+    let more : length new ≡ length old + writes p.shares.items = all_made_more arc_value p.schema p.batch.rows p.shares.items here old new made in
     record {
       read = omega (arith, v.read, all_reads_next ps i p lt is, count);
       written = omega (arith, v.written, all_writes_next ps i p lt is, more);
@@ -63,8 +61,7 @@ loop-i-preserved c =
       given = subst (λ (n : ℕ). AreEarlier (drop (i + 1) ps) (drop (read + n) given)) (sym count) next.3;
       shape = ap₂ (λ (l : List TableParts) (n : ℕ). l ++ shape_by (drop (i + 1) shape) (drop (i + 1) ps) (first + length new) (drop (read + n) given)) c.in_ok-push.ensures.ok count
           ∙ shape_next shape ps given i read first (length old) (length new) p c.loop-i.after c.in_ok-schema.schema c.in_ok-parts.parts (shape_by shape ps (first + length c.args.made.now.blocks.items) given) lt is v.shape c.in_ok-schema.ensures.same parts more;
-      blocks = ap (λ (n : ℕ). map arc_value new ++ all_by (drop (i + 1) shape) (drop (i + 1) ps) (drop (read + n) given)) count
-          ∙ all_next shape ps given i read p (map arc_value old) (map arc_value new) (map arc_value c.args.made.now.blocks.items ++ all_by shape ps given) lt is v.blocks made;
-      grown = ap (λ (n : ℕ). map growth_of c.carried_out.new.made.grown.items ++ grown_by_all (i + 1) (drop (i + 1) ps) (drop (read + n) given)) count
-          ∙ grown_next ps given i read p (map growth_of c.loop-i.made.grown.items) (map growth_of c.carried_out.new.made.grown.items) (map growth_of c.args.made.now.grown.items ++ grown_by_all 0 ps given) lt is v.grown grown;
+      blocks = ap (λ (n : ℕ). map arc_value new ++ all_by (drop (i + 1) ps) (drop (read + n) given)) count
+          ∙ all_next ps given i read p (map arc_value old) (map arc_value new) (map arc_value c.args.made.now.blocks.items ++ all_by ps given) lt is v.blocks made;
+      grown = grown_next ps i p (map growth_of c.loop-i.made.grown.items) (map growth_of c.carried_out.new.made.grown.items) (map growth_of c.args.made.now.grown.items ++ grown_by_all 0 ps) lt is v.grown c.in_ok-parts.ensures.grown;
     }

@@ -9,8 +9,8 @@ invariant-loop-i l = record {
   read : l.read + all_reads (drop l.i l.tables) ≡ all_reads l.tables;
   written : length l.made.blocks.items + all_writes (drop l.i l.tables) ≡ length l.initial.made.blocks.items + all_writes l.tables;
   planned : ArePlanned (drop l.i l.shape) (drop l.i l.tables);
-  given : AreEarlier (drop l.i l.tables) (drop l.read (map arc_value l.given));
-  shape : l.after ++ shape_by (drop l.i l.shape) (drop l.i l.tables) (l.fn.first + length l.made.blocks.items) (drop l.read (map arc_value l.given)) ≡ shape_by l.shape l.tables (l.fn.first + length l.initial.made.blocks.items) (map arc_value l.given);
-  blocks : map arc_value l.made.blocks.items ++ all_by (drop l.i l.shape) (drop l.i l.tables) (drop l.read (map arc_value l.given)) ≡ map arc_value l.initial.made.blocks.items ++ all_by l.shape l.tables (map arc_value l.given);
-  grown : map growth_of l.made.grown.items ++ grown_by_all l.i (drop l.i l.tables) (drop l.read (map arc_value l.given)) ≡ map growth_of l.initial.made.grown.items ++ grown_by_all 0 l.tables (map arc_value l.given);
+  given : AreEarlier (drop l.i l.tables) (drop l.read l.given);
+  shape : l.after ++ shape_by (drop l.i l.shape) (drop l.i l.tables) (l.fn.first + length l.made.blocks.items) (drop l.read l.given) ≡ shape_by l.shape l.tables (l.fn.first + length l.initial.made.blocks.items) l.given;
+  blocks : map arc_value l.made.blocks.items ++ all_by (drop l.i l.tables) (drop l.read l.given) ≡ map arc_value l.initial.made.blocks.items ++ all_by l.tables l.given;
+  grown : map growth_of l.made.grown.items ++ grown_by_all l.i (drop l.i l.tables) ≡ map growth_of l.initial.made.grown.items ++ grown_by_all 0 l.tables;
 }

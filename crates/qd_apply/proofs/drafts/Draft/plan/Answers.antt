@@ -6,7 +6,7 @@ use Rattle.qd_manifest.specs.declared.shape.TableParts.{TableParts}
 use Rattle.qd_manifest.specs.Spelling.{AreParts}
 use Rattle.qd_apply.specs.Drafts.{Drafting, Planning}
 use Rattle.qd_apply.specs.Laws.{CountsParts}
-use Rattle.qd_apply.specs.Plans.{touched_from, with_batch, ArePlansOf}
+use Rattle.qd_apply.specs.Plans.{late_from, with_batch, ArePlansOf}
 use Rattle.qd_apply.proofs.ServeLemmas.{plans_again, plans_shown}
 use Rattle.qd_apply.proofs.drafts.Draft.plan.Goals as goal
 
@@ -26,7 +26,7 @@ invariant_of-result c =
     subst (λ (l : List (Vec ℕ Global)). ArePlansOf (of_lists l) c.args.split_rows i.shape c.tables.inside.tables.items c.in_ok-plans.plans.items) c.as_slice.ensures.value c.in_ok-plans.ensures.plans in
     record {
       plans = plans_again (of_lists c.args.written.items) c.args.split_rows i.shape c.tables.inside.tables.items c.in_ok-plans.plans.items plans;
-      touched = c.in_ok-touched.ensures.touched ∙ ap (touched_from 0) c.as_slice-2.ensures.value;
+      late = c.in_ok-late.ensures.late ∙ ap (late_from 0) c.as_slice-2.ensures.value;
     }
 
 pub returns : goal.returns

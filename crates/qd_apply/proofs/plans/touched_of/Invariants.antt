@@ -1,7 +1,0 @@
-use Rattle.std.proofs.Common.{◌≡◌, ◌++◌, drop}
-use Rattle.qd_apply.specs.Plans.{touched_from}
-use Rattle.qd_apply.proofs.plans.touched_of.Given as goal
-
--- the plans from a place on are left
-abbrev pub invariant-loop-i : goal.invariant-loop-i
-invariant-loop-i l = l.list.items ++ touched_from l.i (drop l.i l.plans) ≡ touched_from 0 l.plans

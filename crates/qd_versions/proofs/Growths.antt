@@ -16,7 +16,7 @@ use Rattle.qd_column_files.specs.Files.{HoldsBlock, is_file_of}
 use Rattle.qd_column_files.specs.Growing.{BlockBehind, GoesOn, GrowsBlock, GrowsHeld}
 use Rattle.qd_versions.specs.declared.growing.Growing.{Growing}
 use Rattle.qd_versions.specs.Publishing.{is_file_among}
-use Rattle.qd_versions.specs.Tails.{AreReady, GrowsBlocks, IsFit, Keeps, blocks_growing, grown_of}
+use Rattle.qd_versions.specs.Tails.{AreGrownTails, AreReady, GrowsBlocks, IsFit, IsGrownTail, Keeps, blocks_growing, grown_of}
 use Rattle.qd_versions.proofs.Files.{held_kept, low_of, of_not_earlier, of_not_later, or_left, or_right}
 use Rattle.qd_versions.proofs.Kept.{leaves_and}
 
@@ -41,7 +41,7 @@ of_not_other block other file differ is = by (less_or_more block other differ)
     by (inl less) = of_not_later block other file less is
     by (inr more) = of_not_earlier block other file more is
 
-or_none : (a b : Bool) → a ≡ false → b ≡ false → (a || b) ≡ false
+pub or_none : (a b : Bool) → a ≡ false → b ≡ false → (a || b) ≡ false
 or_none true b first second = first
 or_none false b first second = second
 
@@ -131,26 +131,28 @@ module _ (next : ℕ) (growing : List Growing) (fit : All (IsFit next) growing) 
 -- ---- rows are put behind one after the other
 
 -- the first blocks have grown
-pub record GrownFirst (i : ℕ) (held : ℕ → Block) (growing : List Growing) (before after : Disk) : Type 0 where
+pub record GrownFirst (i : ℕ) (held : ℕ → Block) (growing now : List Growing) (before after : Disk) : Type 0 where
   pub moments : LeavesOnly before after (Keeps held growing)
   pub stays : EachNow after (Keeps held growing)
   pub grown : (k : ℕ) (d : Growing) → k < i → EachNow after (HoldsBlock (get_or growing k d).block (grown_of held (get_or growing k d)))
+  pub tails : AreGrownTails i held growing now
 
-pub record HasGrown (i : ℕ) (growing : List Growing) (before after : Disk) : Type 0 where
+pub record HasGrown (i : ℕ) (growing now : List Growing) (before after : Disk) : Type 0 where
   pub elsewhere : Moves (SameBut (is_file_among (blocks_growing growing))) before after
-  pub grows : (held : ℕ → Block) → AreReady held growing before → GrownFirst i held growing before after
+  pub grows : (held : ℕ → Block) → AreReady held growing before → GrownFirst i held growing now before after
 
-pub grown_none : (growing : List Growing) (disk : Disk) → HasGrown 0 growing disk disk
+pub grown_none : (growing : List Growing) (disk : Disk) → HasGrown 0 growing growing disk disk
 grown_none growing disk = record {
   elsewhere = moves_still (SameBut (is_file_among (blocks_growing growing))) disk (but_same (is_file_among (blocks_growing growing)));
   grows = λ held ready. record {
     moments = leaves_still (Keeps held growing) disk (λ image now k d less. (ready k d less).1 image now);
     stays = λ image now k d less. (ready k d less).1 image now;
     grown = λ k d less. absurd (omega arith);
+    tails = λ k d e less. absurd (omega arith);
   };
 }
 
-module _ (next i : ℕ) (growing : List Growing) (fit : All (IsFit next) growing) (distinct : IsDistinct nat_eq (blocks_growing growing)) (here : i < length growing) (x : Growing) (is : (d : Growing) → get_or growing i d ≡ x) (a b c : Disk) (had : HasGrown i growing a b) where
+module _ (next i : ℕ) (growing : List Growing) (fit : All (IsFit next) growing) (distinct : IsDistinct nat_eq (blocks_growing growing)) (here : i < length growing) (x : Growing) (is : (d : Growing) → get_or growing i d ≡ x) (now : List Growing) (a b c : Disk) (had : HasGrown i growing now a b) where
   one_among : (earlier image : Image) → SameBut (is_file_of x.block) earlier image → SameBut (is_file_among (blocks_growing growing)) earlier image
   one_among earlier image same file e = same file (subst (λ (y : Growing). is_file_of y.block file ≡ false) (is x) (among_at growing i x file here e))
 
@@ -165,7 +167,7 @@ module _ (next i : ℕ) (growing : List Growing) (fit : All (IsFit next) growing
       of_not_other (get_or growing k d).block x.block file (subst (λ (y : Growing). (get_or growing k d).block ≢ y.block) (is d) (differ growing i k d distinct here less other)) of
 
   module _ (held : ℕ → Block) (ready : AreReady held growing a) where
-    abbrev before_it : GrownFirst i held growing a b
+    abbrev before_it : GrownFirst i held growing now a b
     before_it = had.grows held ready
 
     goes : GoesOn (held x.block) x.tail (arc_value x.rows)
@@ -197,23 +199,25 @@ module _ (next i : ℕ) (growing : List Growing) (fit : All (IsFit next) growing
       kept_now : EachNow c (Keeps held growing)
       kept_now image now = all_of image (it.stays image now, grows.elsewhere.now image now)
 
-  pub grown_failed : {T E : Type 0} (fault answer : E) (new : BlockBehind) → GrowsBlock {T = T} {E = E} (Err fault) x.block x.tail new (arc_value x.rows) b c → GrowsBlocks {T = T} {E = E} (Err answer) growing a c
-  grown_failed {T} {E} fault answer new grows = record {
+  pub grown_failed : {T E : Type 0} (fault answer : E) (new : BlockBehind) → GrowsBlock {T = T} {E = E} (Err fault) x.block x.tail new (arc_value x.rows) b c → (later : List Growing) → GrowsBlocks {T = T} {E = E} (Err answer) growing later a c
+  grown_failed {T} {E} fault answer new grows later = record {
     elsewhere = grown_elsewhere grows.elsewhere;
     grows = λ held ready. record {
       moments = kept_moments held ready {T = T} {E = E} (Err fault) new grows;
       stays = kept_now held ready {T = T} {E = E} (Err fault) new grows;
       grown = tt;
+      tails = tt;
     };
   }
 
-  pub grown_more : {T E : Type 0} (done : T) (new : BlockBehind) → GrowsBlock {T = T} {E = E} (Ok done) x.block x.tail new (arc_value x.rows) b c → HasGrown (i + 1) growing a c
-  grown_more {T} {E} done new grows = record {
+  pub grown_more : {T E : Type 0} (done : T) (y : Growing) (later : List Growing) → y.block ≡ x.block → ((e : Growing) → get_or later i e ≡ y) → ((k : ℕ) (e : Growing) → k < i → get_or later k e ≡ get_or now k e) → GrowsBlock {T = T} {E = E} (Ok done) x.block x.tail y.tail (arc_value x.rows) b c → HasGrown (i + 1) growing later a c
+  grown_more {T} {E} done y later block at before grows = record {
     elsewhere = grown_elsewhere grows.elsewhere;
     grows = λ held ready. record {
-      moments = kept_moments held ready {T = T} {E = E} (Ok done) new grows;
-      stays = kept_now held ready {T = T} {E = E} (Ok done) new grows;
+      moments = kept_moments held ready {T = T} {E = E} (Ok done) y.tail grows;
+      stays = kept_now held ready {T = T} {E = E} (Ok done) y.tail grows;
       grown = λ k d less. by held ready k d (cases k less);
+      tails = λ k d e less. behind held ready k d e (cases k less);
     };
   }
     where
@@ -231,10 +235,19 @@ module _ (next i : ℕ) (growing : List Growing) (fit : All (IsFit next) growing
           subst (λ (y : Growing). EachNow c (HoldsBlock y.block (grown_of held y))) (sym (ap (λ n. get_or growing n d) same ∙ is d))
           (grows.grows (held x.block) (goes held ready) (it_was held ready)).grown.0
 
-pub grown_all : {T E : Type 0} (done : T) (growing : List Growing) (before after : Disk) → HasGrown (length growing) growing before after → GrowsBlocks {T = T} {E = E} (Ok done) growing before after
-grown_all done growing before after had = record {
+      its_tail : (held : ℕ → Block) → AreReady held growing a → IsGrownTail held x y
+      its_tail held ready = record { block = block; tail = (grows.grows (held x.block) (goes held ready) (it_was held ready)).tail }
+
+      behind : (held : ℕ → Block) → AreReady held growing a → (k : ℕ) (d e : Growing) → (k < i) ⊎ (k ≡ i) → IsGrownTail held (get_or growing k d) (get_or later k e)
+      behind held ready k d e (inl lower) = subst (λ (z : Growing). IsGrownTail held (get_or growing k d) z) (sym (before k e lower)) ((had.grows held ready).tails k d e lower)
+      behind held ready k d e (inr same) =
+          subst (λ n. IsGrownTail held (get_or growing n d) (get_or later n e)) (sym same)
+          (subst (λ (z : Growing). IsGrownTail held z (get_or later i e)) (sym (is d)) (subst (λ (z : Growing). IsGrownTail held x z) (sym (at e)) (its_tail held ready)))
+
+pub grown_all : {T E : Type 0} (done : T) (growing now : List Growing) (before after : Disk) → length now ≡ length growing → HasGrown (length growing) growing now before after → GrowsBlocks {T = T} {E = E} (Ok done) growing now before after
+grown_all done growing now before after count had = record {
   elsewhere = had.elsewhere;
   grows = λ held ready.
       let g = had.grows held ready in
-      record { moments = g.moments; stays = g.stays; grown = λ image now k d less. g.grown k d less image now };
+      record { moments = g.moments; stays = g.stays; grown = λ image is k d less. g.grown k d less image is; tails = record { count = count; each = g.tails } };
 }

@@ -6,6 +6,7 @@ pub mod Steps
 pub mod Blocks
 pub mod Alike
 pub mod Stores
+pub mod KeptTails
 pub mod OpenLemmas
 pub mod ToldLemmas
 pub mod StoreTold

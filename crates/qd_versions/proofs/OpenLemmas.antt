@@ -18,6 +18,7 @@ use Rattle.qd_manifest.specs.Spelling.{SpellsManifest, manifest_bytes}
 use Rattle.qd_manifest.proofs.ManifestLaws.{damaged_spells_none}
 use Rattle.qd_catalog.specs.Versions as catalog
 use Rattle.qd_catalog.specs.Versions.{Versions}
+use Rattle.qd_versions.specs.declared.keeping.KeptTail.{KeptTail}
 use Rattle.qd_versions.specs.Opening.{IsDamaged, IsIn, IsOpened, IsRefused, NoManifest, NoVersion, Opens, TooNew}
 use Rattle.qd_versions.specs.Stores.{Store, current_version}
 use Rattle.qd_versions.proofs.Stores.{version_opened}
@@ -71,9 +72,9 @@ module _ (found : Found) (records : ℕ) (before after : Disk) (opens : root.Ope
     images = opens.images;
   }
 
-  module _ (c : Versions) (m : Manifest) (n : ℕ) (manifest : List ℕ) (is : n ≡ found.file.n) (same : manifest ≡ found.manifest) (spells : SpellsManifest n manifest m) (opened : catalog.IsOpened c n m.next_block m.shape) where
+  module _ (c : Versions) (kept : List KeptTail) (m : Manifest) (n : ℕ) (manifest : List ℕ) (is : n ≡ found.file.n) (same : manifest ≡ found.manifest) (spells : SpellsManifest n manifest m) (opened : catalog.IsOpened c n m.next_block m.shape) where
     abbrev s : Store
-    s = record { root = found.file; versions = c }
+    s = record { root = found.file; versions = c; kept = kept }
 
     current_is : current_version c ≡ v
     current_is =
@@ -100,9 +101,9 @@ module _ (records : ℕ) (old new : Option Disk) where
   refused_told found file n manifest e answer one here is same refused told =
       told_map (root.Opens (Ok found)) (Opens (Err answer) records) old new (λ a b opens. refused_opens found records a b opens file n manifest e answer one here is same refused) told
 
-  pub opened_told : (found : Found) (c : Versions) (m : Manifest) (n : ℕ) (manifest : List ℕ) → n ≡ found.file.n → manifest ≡ found.manifest → SpellsManifest n manifest m → catalog.IsOpened c n m.next_block m.shape → Told old new (root.Opens (Ok found)) → Told old new (Opens (Ok (record { root = found.file; versions = c })) records)
-  opened_told found c m n manifest is same spells opened told =
-      told_map (root.Opens (Ok found)) (Opens (Ok (record { root = found.file; versions = c })) records) old new (λ a b opens. opens_whole found records a b opens c m n manifest is same spells opened) told
+  pub opened_told : (found : Found) (c : Versions) (kept : List KeptTail) (m : Manifest) (n : ℕ) (manifest : List ℕ) → n ≡ found.file.n → manifest ≡ found.manifest → SpellsManifest n manifest m → catalog.IsOpened c n m.next_block m.shape → Told old new (root.Opens (Ok found)) → Told old new (Opens (Ok (record { root = found.file; versions = c; kept = kept })) records)
+  opened_told found c kept m n manifest is same spells opened told =
+      told_map (root.Opens (Ok found)) (Opens (Ok (record { root = found.file; versions = c; kept = kept })) records) old new (λ a b opens. opens_whole found records a b opens c kept m n manifest is same spells opened) told
 
 -- damage gives no store
 pub no_store : (records : ℕ) (image : Image) (w : Version) (m : Manifest) (file at : ℕ) → IsDamaged records image file at → GivesVersion w image → w.n ≤ records → SpellsManifest w.n w.manifest m → ⊥

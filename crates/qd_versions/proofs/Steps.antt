@@ -257,14 +257,15 @@ module _ (next : ℕ) (growing : List Growing) (fit : All (IsFit next) growing) 
   more_now more = each_now (grown_of held) growing (narrow_grown next growing fit held first ready) touched left a b moves more
 
 module _ (next : ℕ) (blocks : List NewBlock) (growing : List Growing) (fit : All (IsFit next) growing) where
-  pub files_not_put : {T E : Type 0} (fault answer : E) (a b : Disk) → PutsBlocks {T = T} {E = E} (Err fault) next blocks a b → PutsFiles {T = T} {E = E} (Err answer) next blocks growing a b
-  files_not_put fault answer a b puts = record {
+  pub files_not_put : {T E : Type 0} (fault answer : E) (a b : Disk) → PutsBlocks {T = T} {E = E} (Err fault) next blocks a b → (grown : List Growing) → PutsFiles {T = T} {E = E} (Err answer) next blocks growing grown a b
+  files_not_put fault answer a b puts grown = record {
     elsewhere = from_put next (blocks_growing growing) a b puts.elsewhere;
     held = tt;
     grows = λ held ready. record {
       moments = left_moments next growing fit (is_file_from next) (left_from next growing fit) a b puts.elsewhere held ready;
       stays = left_now next growing fit (is_file_from next) (left_from next growing fit) a b puts.elsewhere held ready;
       grown = tt;
+      tails = tt;
     };
   }
 
@@ -278,22 +279,22 @@ module _ (next : ℕ) (blocks : List NewBlock) (growing : List Growing) (fit : A
     put_moments : (held : ℕ → Block) → AreReady held growing a → LeavesOnly b c (Keeps held growing) → LeavesOnly a c (Keeps held growing)
     put_moments held ready grown = leaves_both a b c (Keeps held growing) (left_moments next growing fit (is_file_from next) (left_from next growing fit) a b puts.elsewhere held ready) grown
 
-    pub files_not_grown : (fault answer : E) → GrowsBlocks {T = T} {E = E} (Err fault) growing b c → PutsFiles {T = T} {E = E} (Err answer) next blocks growing a c
-    files_not_grown fault answer grows = record {
+    pub files_not_grown : (fault answer : E) (grown : List Growing) → GrowsBlocks {T = T} {E = E} (Err fault) growing grown b c → PutsFiles {T = T} {E = E} (Err answer) next blocks growing grown a c
+    files_not_grown fault answer grown grows = record {
       elsewhere = put_elsewhere grows.elsewhere;
       held = tt;
       grows = λ held ready.
           let g = grows.grows held (put_ready held ready) in
-          record { moments = put_moments held ready g.moments; stays = g.stays; grown = tt };
+          record { moments = put_moments held ready g.moments; stays = g.stays; grown = tt; tails = tt };
     }
 
-    pub files_put : (again answer : T) → AreFew (length blocks) blocks → AreAt next blocks → GrowsBlocks {T = T} {E = E} (Ok again) growing b c → PutsFiles {T = T} {E = E} (Ok answer) next blocks growing a c
-    files_put again answer few at grows = record {
+    pub files_put : (again answer : T) → AreFew (length blocks) blocks → AreAt next blocks → (grown : List Growing) → GrowsBlocks {T = T} {E = E} (Ok again) growing grown b c → PutsFiles {T = T} {E = E} (Ok answer) next blocks growing grown a c
+    files_put again answer few at grown grows = record {
       elsewhere = put_elsewhere grows.elsewhere;
       held = now_has (SameBut (is_file_among (blocks_growing growing))) (HoldsAll blocks) (HoldsAll blocks) b c grows.elsewhere puts.held new_kept;
       grows = λ held ready.
           let g = grows.grows held (put_ready held ready) in
-          record { moments = put_moments held ready g.moments; stays = g.stays; grown = g.grown };
+          record { moments = put_moments held ready g.moments; stays = g.stays; grown = g.grown; tails = g.tails };
     }
       where
         new_kept : (earlier image : Image) → HoldsAll blocks earlier → SameBut (is_file_among (blocks_growing growing)) earlier image → HoldsAll blocks image
@@ -302,19 +303,19 @@ module _ (next : ℕ) (blocks : List NewBlock) (growing : List Growing) (fit : A
             held_kept x.block (arc_value x.of) (is_file_among (blocks_growing growing)) earlier image (few k d less)
             (λ file of. new_not_among next x.block growing file fit (omega (arith, at k d less)) of) same (holds k d less)
 
-module _ (old : Root) (next : ℕ) (v : Version) (blocks : List NewBlock) (growing : List Growing) (fit : All (IsFit next) growing) where
-  pub beside_not_put : {T E : Type 0} (fault answer : E) (a b : Disk) → PutsFiles {T = T} {E = E} (Err fault) next blocks growing a b → PutsBeside {T = T} {E = E} (Err answer) old old next v blocks growing a b
+module _ (old : Root) (next : ℕ) (v : Version) (blocks : List NewBlock) (growing grown : List Growing) (fit : All (IsFit next) growing) where
+  pub beside_not_put : {T E : Type 0} (fault answer : E) (a b : Disk) → PutsFiles {T = T} {E = E} (Err fault) next blocks growing grown a b → PutsBeside {T = T} {E = E} (Err answer) old old next v blocks growing grown a b
   beside_not_put fault answer a b puts = record {
     any_moment = λ current last knows gives. put_leave next (blocks_growing growing) a b puts.elsewhere current gives;
     behind = λ current last knows. put_known next (blocks_growing growing) a b puts.elsewhere old current last knows;
     held = tt;
     grows = λ held ready.
         let g = puts.grows held ready in
-        record { moments = g.moments; stays = g.stays; grown = tt };
+        record { moments = g.moments; stays = g.stays; grown = tt; tails = tt };
     elsewhere = put_files next (blocks_growing growing) a b puts.elsewhere;
   }
 
-  module _ {T E : Type 0} (new : Root) (few : AreFew (length blocks) blocks) (done : T) (a b c : Disk) (puts : PutsFiles {T = T} {E = E} (Ok done) next blocks growing a b) (wrote : WritesBody old new v b c) where
+  module _ {T E : Type 0} (new : Root) (few : AreFew (length blocks) blocks) (done : T) (a b c : Disk) (puts : PutsFiles {T = T} {E = E} (Ok done) next blocks growing grown a b) (wrote : WritesBody old new v b c) where
     beside_moments : (current last : Version) → Knows old current last a → EachNow a (GivesVersion current) → LeavesOnly a c (GivesVersion current)
     beside_moments current last knows gives =
         leaves_both a b c (GivesVersion current) (put_leave next (blocks_growing growing) a b puts.elsewhere current gives)
@@ -334,7 +335,7 @@ module _ (old : Root) (next : ℕ) (v : Version) (blocks : List NewBlock) (growi
     beside_stays : (held : ℕ → Block) → AreReady held growing a → EachNow c (Keeps held growing)
     beside_stays held ready = keeps_now next growing fit is_version_file (left_version growing) a b c wrote.elsewhere held ready (puts.grows held ready).stays
 
-    pub beside_written : (answer : T) → PutsBeside {T = T} {E = E} (Ok answer) old new next v blocks growing a c
+    pub beside_written : (answer : T) → PutsBeside {T = T} {E = E} (Ok answer) old new next v blocks growing grown a c
     beside_written answer = record {
       any_moment = beside_moments;
       behind = beside_known;
@@ -343,16 +344,17 @@ module _ (old : Root) (next : ℕ) (v : Version) (blocks : List NewBlock) (growi
         moments = beside_keeps held ready;
         stays = beside_stays held ready;
         grown = more_now next growing fit is_version_file (left_version growing) a b c wrote.elsewhere held ready (puts.grows held ready).grown;
+        tails = (puts.grows held ready).tails;
       };
       elsewhere = beside_files;
     }
 
-    pub beside_not_written : (answer : E) → IsAlone new.other → PutsBeside {T = T} {E = E} (Err answer) old new next v blocks growing a c
+    pub beside_not_written : (answer : E) → IsAlone new.other → PutsBeside {T = T} {E = E} (Err answer) old new next v blocks growing grown a c
     beside_not_written answer alone = record {
       any_moment = beside_moments;
       behind = λ current last knows. knows_any new.current new.n new.other alone current v last c (beside_known current last knows);
       held = tt;
-      grows = λ held ready. record { moments = beside_keeps held ready; stays = beside_stays held ready; grown = tt };
+      grows = λ held ready. record { moments = beside_keeps held ready; stays = beside_stays held ready; grown = tt; tails = tt };
       elsewhere = beside_files;
     }
 
@@ -450,12 +452,12 @@ repair_moments : {T E : Type 0} (result : Result T E) (old mid : Root) (before a
 repair_moments result old mid before after repairs current last knows =
     leaves_and (GivesKnown old.other current last) (ComesFrom (SameBut is_version_file) before) before after (repairs.any_moment current last knows) repairs.elsewhere.moments
 
-module _ (old new : Root) (next : ℕ) (v : Version) (blocks : List NewBlock) (growing : List Growing) (fit : All (IsFit next) growing) where
+module _ (old new : Root) (next : ℕ) (v : Version) (blocks : List NewBlock) (growing grown : List Growing) (fit : All (IsFit next) growing) where
   -- what a crash may leave
   abbrev Left : (ℕ → Block) → Version → Version → Disk → Image → Type 0
   Left held current last before image = GivesBefore old.other current last before image ⊎ GivesVersion current image ⊎ (GivesWhole v blocks image × HoldsMore held growing image)
 
-  pub lay_not_repaired : {T E : Type 0} (fault : E) (answer : PublishFault) (before after : Disk) → (IsDirty new.other → IsDirty old.other) → Repairs {T = T} {E = E} (Err fault) old new before after → LaysDown {T = T} (Err answer) old new next v blocks growing before after
+  pub lay_not_repaired : {T E : Type 0} (fault : E) (answer : PublishFault) (before after : Disk) → (IsDirty new.other → IsDirty old.other) → Repairs {T = T} {E = E} (Err fault) old new before after → LaysDown {T = T} (Err answer) old new next v blocks growing grown before after
   lay_not_repaired {T} {E} fault answer before after dirty repairs = record {
     any_moment = λ current last held knows ready. leaves_weaker (GivesBefore old.other current last before) (Left held current last before) before after (λ image gives. inl gives) (repair_moments {T = T} {E = E} (Err fault) old new before after repairs current last knows);
     keeps = λ held ready. (
@@ -463,12 +465,13 @@ module _ (old new : Root) (next : ℕ) (v : Version) (blocks : List NewBlock) (g
       left_now next growing fit is_version_file (left_version growing) before after repairs.elsewhere held ready,
     );
     behind = λ current last held knows ready. inl (dirty, (repairs.behind current last knows, repairs.elsewhere));
+    tails = λ held ready. tt;
     elsewhere = version_files next (blocks_growing growing) before after repairs.elsewhere;
     removed = inl repairs.elsewhere;
   }
 
   -- the root is repaired, and a version is written beside the current one, whether that failed or not
-  module _ {T E : Type 0} (mid late : Root) (done : T) (result : Result T E) (a b c : Disk) (repairs : Repairs {T = T} {E = E} (Ok done) old mid a b) (beside : PutsBeside result mid late next v blocks growing b c) where
+  module _ {T E : Type 0} (mid late : Root) (done : T) (result : Result T E) (a b c : Disk) (repairs : Repairs {T = T} {E = E} (Ok done) old mid a b) (beside : PutsBeside result mid late next v blocks growing grown b c) where
     first_moments : (held : ℕ → Block) (current last : Version) → Knows old current last a → LeavesOnly a c (Left held current last a)
     first_moments held current last knows =
         let repaired = repairs.behind current last knows in
@@ -482,7 +485,7 @@ module _ (old new : Root) (next : ℕ) (v : Version) (blocks : List NewBlock) (g
     first_ready : (held : ℕ → Block) → AreReady held growing a → AreReady held growing b
     first_ready held ready = left_ready next growing fit is_version_file (left_version growing) a b repairs.elsewhere held ready
 
-    first_grows : (held : ℕ → Block) → AreReady held growing a → GrowsAll result held growing b c
+    first_grows : (held : ℕ → Block) → AreReady held growing a → GrowsAll result held growing grown b c
     first_grows held ready = beside.grows held (first_ready held ready)
 
     first_keeps : (held : ℕ → Block) → AreReady held growing a → LeavesOnly a c (Keeps held growing)
@@ -490,7 +493,7 @@ module _ (old new : Root) (next : ℕ) (v : Version) (blocks : List NewBlock) (g
         leaves_both a b c (Keeps held growing) (left_moments next growing fit is_version_file (left_version growing) a b repairs.elsewhere held ready) (first_grows held ready).moments
 
   pub lay_given_up : {T E : Type 0} (mid : Root) (done : T) (fault : E) (answer : PublishFault) (a b c d : Disk) → (IsDirty new.other → ⊥) → Repairs {T = T} {E = E} (Ok done) old mid a b
-      → PutsBeside {T = T} {E = E} (Err fault) mid new next v blocks growing b c → GivesUp answer next blocks c d → LaysDown {T = T} (Err answer) old new next v blocks growing a d
+      → PutsBeside {T = T} {E = E} (Err fault) mid new next v blocks growing grown b c → GivesUp answer next blocks c d → LaysDown {T = T} (Err answer) old new next v blocks growing grown a d
   lay_given_up {T} {E} mid done fault answer a b c d clean repairs beside gives_up = record {
     any_moment = λ current last held knows ready. leaves_both a c d (Left held current last a) (first_moments {T = T} {E = E} mid new done (Err fault) a b c repairs beside held current last knows)
         (leaves_weaker (GivesVersion current) (Left held current last a) c d (λ image gives. inr (inl gives))
@@ -502,6 +505,7 @@ module _ (old new : Root) (next : ℕ) (v : Version) (blocks : List NewBlock) (g
           keeps_now next growing fit (is_file_from next) (left_from next growing fit) a c d gives_up.elsewhere held ready g.stays,
         );
     behind = λ current last held knows ready. inr (inl (put_known next (blocks_growing growing) c d up_files new current last (stands current last knows), clean));
+    tails = λ held ready. tt;
     elsewhere = both_files next (blocks_growing growing) a c d (first_files {T = T} {E = E} mid new done (Err fault) a b c repairs beside) (put_files next (blocks_growing growing) c d up_files);
     removed = inr (inr gives_up.cleared);
   }
@@ -513,12 +517,12 @@ module _ (old new : Root) (next : ℕ) (v : Version) (blocks : List NewBlock) (g
       stands current last knows = beside.behind current last (repairs.behind current last knows).1
 
   module _ {T E : Type 0} (mid late : Root) (few : AreFew (length blocks) blocks) (done again : T) (result : Result T E) (a b c d : Disk)
-      (repairs : Repairs {T = T} {E = E} (Ok done) old mid a b) (beside : PutsBeside {T = T} {E = E} (Ok again) mid late next v blocks growing b c) (flips : Flips result late new c d)
+      (repairs : Repairs {T = T} {E = E} (Ok done) old mid a b) (beside : PutsBeside {T = T} {E = E} (Ok again) mid late next v blocks growing grown b c) (flips : Flips result late new c d)
     where
       stands_beside : (current last : Version) → Knows old current last a → Knows late current v c
       stands_beside current last knows = beside.behind current last (repairs.behind current last knows).1
 
-      grows_beside : (held : ℕ → Block) → AreReady held growing a → GrowsAll {T = T} {E = E} (Ok again) held growing b c
+      grows_beside : (held : ℕ → Block) → AreReady held growing a → GrowsAll {T = T} {E = E} (Ok again) held growing grown b c
       grows_beside held ready = first_grows {T = T} {E = E} mid late done (Ok again) a b c repairs beside held ready
 
       left : (held : ℕ → Block) (current last : Version) (image : Image) → GivesOneOf current v image × (HoldsAll blocks image × HoldsMore held growing image) → Left held current last a image
@@ -554,20 +558,21 @@ module _ (old new : Root) (next : ℕ) (v : Version) (blocks : List NewBlock) (g
       now_more held ready = more_now next growing fit is_version_file (left_version growing) a c d flips.elsewhere held ready (grows_beside held ready).grown
 
   module _ {T E : Type 0} (mid late : Root) (few : AreFew (length blocks) blocks) (done again : T) (a b c d : Disk)
-      (repairs : Repairs {T = T} {E = E} (Ok done) old mid a b) (beside : PutsBeside {T = T} {E = E} (Ok again) mid late next v blocks growing b c)
+      (repairs : Repairs {T = T} {E = E} (Ok done) old mid a b) (beside : PutsBeside {T = T} {E = E} (Ok again) mid late next v blocks growing grown b c)
     where
-      pub lay_flipped : (flipped answer : T) → Flips {T = T} {E = E} (Ok flipped) late new c d → LaysDown {T = T} (Ok answer) old new next v blocks growing a d
+      pub lay_flipped : (flipped answer : T) → Flips {T = T} {E = E} (Ok flipped) late new c d → LaysDown {T = T} (Ok answer) old new next v blocks growing grown a d
       lay_flipped flipped answer flips = record {
         any_moment = all_moments {T = T} {E = E} mid late few done again (Ok flipped) a b c d repairs beside flips;
         keeps = all_keeps {T = T} {E = E} mid late few done again (Ok flipped) a b c d repairs beside flips;
         behind = λ current last held knows ready.
             let turned = flips.behind current v (stands_beside {T = T} {E = E} mid late few done again (Ok flipped) a b c d repairs beside flips current last knows) in
             (λ image now. ((turned.0 image now, now_held {T = T} {E = E} mid late few done again (Ok flipped) a b c d repairs beside flips image now), now_more {T = T} {E = E} mid late few done again (Ok flipped) a b c d repairs beside flips held ready image now), turned.1);
+        tails = λ held ready. (now_more {T = T} {E = E} mid late few done again (Ok flipped) a b c d repairs beside flips held ready, (grows_beside {T = T} {E = E} mid late few done again (Ok flipped) a b c d repairs beside flips held ready).tails);
         elsewhere = all_files {T = T} {E = E} mid late few done again (Ok flipped) a b c d repairs beside flips;
         removed = tt;
       }
 
-      pub lay_not_flipped : (fault : E) (answer : PublishFault) → IsDirty new.other → Flips {T = T} {E = E} (Err fault) late new c d → LaysDown {T = T} (Err answer) old new next v blocks growing a d
+      pub lay_not_flipped : (fault : E) (answer : PublishFault) → IsDirty new.other → Flips {T = T} {E = E} (Err fault) late new c d → LaysDown {T = T} (Err answer) old new next v blocks growing grown a d
       lay_not_flipped fault answer dirty flips = record {
         any_moment = all_moments {T = T} {E = E} mid late few done again (Err fault) a b c d repairs beside flips;
         keeps = all_keeps {T = T} {E = E} mid late few done again (Err fault) a b c d repairs beside flips;
@@ -575,6 +580,7 @@ module _ (old new : Root) (next : ℕ) (v : Version) (blocks : List NewBlock) (g
           flips.behind current v (stands_beside {T = T} {E = E} mid late few done again (Err fault) a b c d repairs beside flips current last knows),
           λ image now. (now_held {T = T} {E = E} mid late few done again (Err fault) a b c d repairs beside flips image now, now_more {T = T} {E = E} mid late few done again (Err fault) a b c d repairs beside flips held ready image now),
         ));
+        tails = λ held ready. tt;
         elsewhere = all_files {T = T} {E = E} mid late few done again (Err fault) a b c d repairs beside flips;
         removed = inr (inl dirty);
       }

@@ -177,7 +177,7 @@ module _ (old : Store) (keeps : IsStore old) (n : ℕ) (shape : List TableParts)
 
   pub may_add : count ≤ mid.spare → MayAdd mid n shape
   may_add room = record {
-    newer = λ k e. may.newer k (ap n_of (sym (at_current old (record { root = old.root; versions = mid }) keeps same refl)) ∙ e);
+    newer = λ k e. may.newer k (ap n_of (sym (at_current old (record { root = old.root; versions = mid; kept = [] }) keeps same refl)) ∙ e);
     room = omega (arith, few_new (λ b. not (is_kept mid b)) (blocks_of shape) next count may.sound.distinct new_only);
     unretired = unqueued;
     small = All-weaker (λ b. b < next + count) (λ b. b + 1 < 2 ^ 64) (λ b less. omega (arith, less, small_next n (next + count) shape may.few may.sound)) (blocks_of shape) may.sound.below;
@@ -196,10 +196,10 @@ module _ (old : Store) (keeps : IsStore old) (n : ℕ) (shape : List TableParts)
     at_other : (r : ℕ) → r ≢ row → version_at new.versions r ≡ version_at old.versions r
     at_other r other = ap (λ (l : List (Option Version)). get_or l r None) adds.versions ∙ get_or-set_other mid.versions row r (Some added) None other ∙ ap (λ (l : List (Option Version)). get_or l r None) same.versions
 
-    now_current : version_at new.versions new.versions.current ≡ Some added
+    pub now_current : version_at new.versions new.versions.current ≡ Some added
     now_current = ap (λ r. version_at new.versions r) adds.current ∙ at_row
 
-    now_next : new.versions.next_block ≡ next + count
+    pub now_next : new.versions.next_block ≡ next + count
     now_next = adds.next_block ∙ ap (λ k. next_after k (blocks_of shape)) same.next_block ∙ after_all (blocks_of shape) next count may.sound.below may.whole
 
     -- what is listed now is of the new version, or was listed
@@ -286,7 +286,7 @@ module _ (old new : Store) (row : ℕ) (keeps : IsStore old) (older : row ≢ ol
   left_row : version_at new.versions row ≡ None
   left_row = ap (λ (l : List (Option Version)). get_or l row None) retires.versions ∙ set_none old.versions.versions row
 
-  left_current : version_at new.versions new.versions.current ≡ version_at old.versions old.versions.current
+  pub left_current : version_at new.versions new.versions.current ≡ version_at old.versions old.versions.current
   left_current = ap (λ r. version_at new.versions r) retires.current ∙ left_other old.versions.current (λ e. older (sym e))
 
   was_listed : (b : ℕ) → IsListed new.versions b → IsListed old.versions b
@@ -345,7 +345,7 @@ module _ (old new : Store) (block : ℕ) (keeps : IsStore old) (sweeps : Sweeps 
   swept_at : (row : ℕ) → version_at new.versions row ≡ version_at old.versions row
   swept_at row = ap (λ (l : List (Option Version)). get_or l row None) sweeps.versions
 
-  swept_current : version_at new.versions new.versions.current ≡ version_at old.versions old.versions.current
+  pub swept_current : version_at new.versions new.versions.current ≡ version_at old.versions old.versions.current
   swept_current = ap (λ r. version_at new.versions r) sweeps.current ∙ swept_at old.versions.current
 
   in_front : Contains old.versions.retired block

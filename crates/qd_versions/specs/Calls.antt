@@ -11,6 +11,7 @@ use Rattle.qd_column_files.specs.Files.{is_file_of}
 use Rattle.qd_versions.specs.declared.fault.PublishFault.{PublishFault}
 use Rattle.qd_versions.specs.declared.published.GrownBlock.{GrownBlock}
 use Rattle.qd_versions.specs.declared.published.NewBlock.{NewBlock}
+use Rattle.qd_versions.specs.Kept.{KeepsTails}
 use Rattle.qd_versions.specs.Stores.{IsRooted, Store, current_version, stored}
 use Rattle.qd_versions.specs.Publishing.{AreHeldBy, GivesBefore, GivesWhole, HoldsAll, HoldsGrown, IsUndone, KeepsGrown, grown_blocks, is_published_file}
 
@@ -37,6 +38,7 @@ IsRepaired (Err fault) new next disk = IsRooted new next disk
 pub record Repairs {T E : Type 0} (result : Result T E) (old new : Store) (before after : Disk) : Type 0 where
   pub any_moment : (next : Version) → IsRooted old next before → LeavesOnly before after (GivesKnown old.root.other (current_version old.versions) next)
   pub behind : (next : Version) → IsRooted old next before → IsRepaired result new next after
+  pub tails : KeepsTails old before → KeepsTails new after
   pub elsewhere : ChangesVersionFiles before after
 
 -- What is known behind a publication: after an Ok each image gives the new version and holds its new blocks, and those that
@@ -49,12 +51,14 @@ IsPublished (Err fault) old new last v blocks grown held before after = ((IsDirt
 -- A version is published: at each moment a crash leaves what it might have left before, with all but the
 -- version files as before; or the current version, behind the repair; or the new version with all of its new
 -- blocks, and the rows behind those that grew. At each moment, and whatever is answered, the blocks that grow are held as they
--- were, where the volume held them. Where it failed before the flip, the files of its new blocks are removed, or it says that
+-- were, where the volume held them. What rows behind them go on with may be kept, and is known behind the call, whatever is
+-- answered. Where it failed before the flip, the files of its new blocks are removed, or it says that
 -- some may be left; what was put behind other rows may be left, and no version shows it.
 pub record Publishes {T : Type 0} (result : Result T PublishFault) (old new : Store) (v : Version) (blocks : List NewBlock) (grown : List GrownBlock) (before after : Disk) : Type 0 where
-  pub any_moment : (last : Version) (held : ℕ → Block) → IsRooted old last before → AreHeldBy old.versions held grown before → LeavesOnly before after (λ image. GivesBefore old.root.other (current_version old.versions) last before image ⊎ GivesVersion (current_version old.versions) image ⊎ (GivesWhole v blocks image × HoldsGrown old.versions held grown image))
-  pub keeps : (held : ℕ → Block) → AreHeldBy old.versions held grown before → LeavesOnly before after (KeepsGrown old.versions held grown) × EachNow after (KeepsGrown old.versions held grown)
-  pub behind : (last : Version) (held : ℕ → Block) → IsRooted old last before → AreHeldBy old.versions held grown before → IsPublished result old new last v blocks grown held before after
+  pub any_moment : (last : Version) (held : ℕ → Block) → IsRooted old last before → KeepsTails old before → AreHeldBy old.versions held grown before → LeavesOnly before after (λ image. GivesBefore old.root.other (current_version old.versions) last before image ⊎ GivesVersion (current_version old.versions) image ⊎ (GivesWhole v blocks image × HoldsGrown old.versions held grown image))
+  pub keeps : (held : ℕ → Block) → KeepsTails old before → AreHeldBy old.versions held grown before → LeavesOnly before after (KeepsGrown old.versions held grown) × EachNow after (KeepsGrown old.versions held grown)
+  pub behind : (last : Version) (held : ℕ → Block) → IsRooted old last before → KeepsTails old before → AreHeldBy old.versions held grown before → IsPublished result old new last v blocks grown held before after
+  pub tails : (held : ℕ → Block) → KeepsTails old before → AreHeldBy old.versions held grown before → KeepsTails new after
   pub elsewhere : Moves (SameBut (is_published_file old.versions.next_block (grown_blocks old.versions grown))) before after
   pub removed : IsUndone result new.root.other blocks before after
 
@@ -74,5 +78,6 @@ IsSwept _ queue disk = Unit {0}
 pub record SweepsFront {E : Type 0} (result : Result Bool E) (old new : Store) (before after : Disk) : Type 0 where
   pub any_moment : (next : Version) → IsRooted old next before → LeavesOnly before after (λ image. GivesBefore old.root.other (current_version old.versions) next before image ⊎ GivesVersion (current_version old.versions) image)
   pub behind : (next : Version) → IsRooted old next before → ((IsDirty new.root.other → IsDirty old.root.other) × (IsRooted new next after × Moves (SameBut is_version_file) before after)) ⊎ (IsRooted new next after × (IsDirty new.root.other → ⊥))
+  pub tails : KeepsTails old before → KeepsTails new after
   pub swept : IsSwept result old.versions.retired after
   pub elsewhere : Moves (SameBut (is_swept_file old.versions.retired)) before after

@@ -1,5 +1,6 @@
 -- The definitions that the contracts of this crate cite.
 pub mod Stores
+pub mod Kept
 pub mod Faults
 pub mod Publishing
 pub mod Tails

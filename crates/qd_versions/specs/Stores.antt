@@ -12,12 +12,22 @@ use Rattle.qd_manifest.specs.declared.shape.TableParts.{TableParts}
 use Rattle.qd_manifest.specs.Spelling.{AreParts, IsManifest, manifest_bytes, schemas_in}
 use Rattle.qd_catalog.specs.declared.version.Version as shown
 use Rattle.qd_catalog.specs.Laws.{IsCovered}
+use Rattle.qd_column_files.specs.Growing.{all_texts}
+use Rattle.qd_versions.specs.declared.keeping.KeptTail.{KeptTail}
+use Rattle.qd_versions.specs.declared.keeping.TheConstants.{MAX_KEPT, MAX_KEPT_TEXTS}
 use Rattle.qd_catalog.specs.Versions.{IsListed, IsLive, Versions, version_at, written_of}
 
--- what contracts see of a store of versions: its root, and its live versions with their blocks
+-- what contracts see of a store of versions: its root, its live versions with their blocks, and what rows behind those of some
+-- blocks go on with, as it is kept
 pub record Store : Type 0 where
   pub root : Root
   pub versions : Versions
+  pub kept : List KeptTail
+
+-- what is kept, is kept of few blocks, which have named few texts
+pub record AreFew (kept : List KeptTail) : Type 0 where
+  pub few : length kept ≤ MAX_KEPT
+  pub small : All (λ k. all_texts k.tail.columns ≤ MAX_KEPT_TEXTS) kept
 
 -- what a version's manifest says
 abbrev pub manifest_in : ℕ → List TableParts → Manifest

@@ -1,5 +1,5 @@
 -- What the writing of a version makes of a told volume, by its root alone. No public clause cites this module.
-use Rattle.std.specs.Prelude.{ℕ, ◌⊎◌, ◌≤◌, ◌||◌, List, length, Result, Ok, Err}
+use Rattle.std.specs.Prelude.{ℕ, ◌⊎◌, ◌≤◌, ◌||◌, List, length, Result, Ok, Err, OnOk}
 use Rattle.std.specs.Arc.{arc_value}
 use Rattle.qd_base.specs.declared.limits.TheConstants.{MAX_COLUMNS}
 use Rattle.qd_block.specs.Blocks.{Block}
@@ -14,7 +14,7 @@ use Rattle.qd_versions.specs.declared.fault.PublishFault.TheVariants as fault
 use Rattle.qd_versions.specs.declared.growing.Growing.{Growing}
 use Rattle.qd_versions.specs.declared.published.NewBlock.{NewBlock}
 use Rattle.qd_versions.specs.Publishing.{AreCleared, AreGone, GivesBefore, GivesWhole, HoldsAll, IsUndone, is_file_from, is_published_file, is_put_file}
-use Rattle.qd_versions.specs.Tails.{AreReady, GrowsAll, HoldsMore, Keeps, blocks_growing}
+use Rattle.qd_versions.specs.Tails.{AreAllGrown, AreReady, GrowsAll, HoldsMore, Keeps, blocks_growing}
 
 -- a new block has at most as many columns as a table may
 abbrev pub IsNarrow : NewBlock → Type 0
@@ -31,10 +31,10 @@ pub record PutsBlocks {T E : Type 0} (result : Result T E) (next : ℕ) (blocks 
   pub held : AreHeld result blocks after
 
 -- The files of blocks from a number on are put, and rows behind those of others.
-pub record PutsFiles {T E : Type 0} (result : Result T E) (next : ℕ) (blocks : List NewBlock) (growing : List Growing) (before after : Disk) : Type 0 where
+pub record PutsFiles {T E : Type 0} (result : Result T E) (next : ℕ) (blocks : List NewBlock) (growing grown : List Growing) (before after : Disk) : Type 0 where
   pub elsewhere : Moves (SameBut (is_put_file next (blocks_growing growing))) before after
   pub held : AreHeld result blocks after
-  pub grows : (held : ℕ → Block) → AreReady held growing before → GrowsAll result held growing before after
+  pub grows : (held : ℕ → Block) → AreReady held growing before → GrowsAll result held growing grown before after
 
 -- whether a publication that found a row, and no damage, may answer a fault
 abbrev pub IsLate : PublishFault → Type 0
@@ -51,11 +51,11 @@ IsBeside (Err fault) new current last v disk = Knows new current last disk
 
 -- The files of blocks from a number on are put, and rows behind those of others, and a version is written beside the current
 -- one: each moment leaves the current one.
-pub record PutsBeside {T E : Type 0} (result : Result T E) (old new : Root) (next_block : ℕ) (v : Version) (blocks : List NewBlock) (growing : List Growing) (before after : Disk) : Type 0 where
+pub record PutsBeside {T E : Type 0} (result : Result T E) (old new : Root) (next_block : ℕ) (v : Version) (blocks : List NewBlock) (growing grown : List Growing) (before after : Disk) : Type 0 where
   pub any_moment : (current last : Version) → Knows old current last before → EachNow before (GivesVersion current) → LeavesOnly before after (GivesVersion current)
   pub behind : (current last : Version) → Knows old current last before → IsBeside result new current last v after
   pub held : AreHeld result blocks after
-  pub grows : (held : ℕ → Block) → AreReady held growing before → GrowsAll result held growing before after
+  pub grows : (held : ℕ → Block) → AreReady held growing before → GrowsAll result held growing grown before after
   pub elsewhere : Moves (SameBut (is_published_file next_block (blocks_growing growing))) before after
 
 -- after an Ok the files of blocks are removed
@@ -80,10 +80,11 @@ IsLaid (Err fault) old new current last v blocks growing held before after = ((I
 
 -- The root is repaired, the files of new blocks are put and rows behind those of others, and a version is written and made the
 -- current one. Where that fails before the flip, the files of new blocks are removed.
-pub record LaysDown {T : Type 0} (result : Result T PublishFault) (old new : Root) (next_block : ℕ) (v : Version) (blocks : List NewBlock) (growing : List Growing) (before after : Disk) : Type 0 where
+pub record LaysDown {T : Type 0} (result : Result T PublishFault) (old new : Root) (next_block : ℕ) (v : Version) (blocks : List NewBlock) (growing grown : List Growing) (before after : Disk) : Type 0 where
   pub any_moment : (current last : Version) (held : ℕ → Block) → Knows old current last before → AreReady held growing before → LeavesOnly before after (λ image. GivesBefore old.other current last before image ⊎ GivesVersion current image ⊎ (GivesWhole v blocks image × HoldsMore held growing image))
   pub keeps : (held : ℕ → Block) → AreReady held growing before → LeavesOnly before after (Keeps held growing) × EachNow after (Keeps held growing)
   pub behind : (current last : Version) (held : ℕ → Block) → Knows old current last before → AreReady held growing before → IsLaid result old new current last v blocks growing held before after
+  pub tails : (held : ℕ → Block) → AreReady held growing before → OnOk result (EachNow after (HoldsMore held growing) × AreAllGrown held growing grown)
   pub elsewhere : Moves (SameBut (is_published_file next_block (blocks_growing growing))) before after
   pub removed : IsUndone result new.other blocks before after
 

@@ -34,7 +34,7 @@ pub(crate) fn grow_blocks<V: Volume>(
 ) -> Result<(), IoFault>
     requires fit { All (IsFit (2 ^ 52)) growing.old }
     requires apart { IsDistinct nat_eq (blocks_growing growing.old) }
-    ensures told { Told (V.storage volume.old).disk (V.storage volume.new).disk (GrowsBlocks result growing.old) }
+    ensures told { Told (V.storage volume.old).disk (V.storage volume.new).disk (GrowsBlocks result growing.old growing.new) }
     ensures counted { Counts (V.storage volume.old).faults (V.storage volume.new).faults result }
 {
     for i in 0..growing.len() {
@@ -47,6 +47,7 @@ pub(crate) fn grow_blocks<V: Volume>(
 fn grow<V: Volume>(alloc: Global, volume: &mut V, x: &mut Growing) -> Result<(), IoFault>
     requires block { x.old.block < 2 ^ 52 }
     requires columns { length x.old.tail.columns ≡ length (arc_value x.old.rows).kinds }
+    ensures block { x.new.block ≡ x.old.block }
     ensures told { Told (V.storage volume.old).disk (V.storage volume.new).disk (GrowsBlock result x.old.block x.old.tail x.new.tail (arc_value x.old.rows)) }
     ensures counted { Counts (V.storage volume.old).faults (V.storage volume.new).faults result }
 {

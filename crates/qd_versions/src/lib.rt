@@ -11,6 +11,7 @@
 mod catalog;
 mod fault;
 mod growing;
+mod keeping;
 mod laws;
 mod opening;
 mod published;
@@ -19,7 +20,10 @@ mod undoing;
 mod writing;
 
 pub use fault::PublishFault;
-pub use laws::{damaged_gives_no_store, other_files_leave_versions, what_is_known_is_given};
+pub use laws::{
+    damaged_gives_no_store, other_files_leave_tails, other_files_leave_versions,
+    what_is_known_is_given,
+};
 pub use published::{GrownBlock, NewBlock};
 pub use qd_durable::LogFault;
 pub use store::{MAX_SHOWN, VersionStore};

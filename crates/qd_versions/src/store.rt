@@ -6,7 +6,9 @@ ghost use Rattle.qd_catalog.specs.Versions.{Adds, IsListed, IsLive, Retires, Sam
 ghost use Rattle.qd_catalog.specs.Versions as catalog;
 ghost use Rattle.qd_durable.specs.Faults.{CountsVol};
 ghost use Rattle.qd_durable.specs.Moments.{Told};
-ghost use Rattle.qd_column_files.specs.Reading.{IsBlockRead};
+ghost use Rattle.qd_column_files.specs.Files.{column_file};
+ghost use Rattle.qd_column_files.specs.Reading.{IsBlockRead, IsColumnRead, IsFitColumn};
+ghost use Rattle.qd_column_files.specs.Rests.{IsRestOf, IsRestRead};
 ghost use Rattle.qd_io.specs.Ends.{Counts};
 ghost use Rattle.qd_manifest.specs.declared.shape.Manifest.{Manifest};
 ghost use Rattle.qd_manifest.specs.declared.shape.TableParts.{TableParts};
@@ -15,25 +17,29 @@ ghost use Rattle.qd_scan.specs.Sources.{IsBlockOf};
 ghost use Rattle.qd_txnfile.specs.States.{IsDirty};
 ghost use Rattle.qd_versions.specs.Calls.{Creates, Publishes, Repairs, SweepsFront};
 ghost use Rattle.qd_versions.specs.Faults.{CountsPublish};
+ghost use Rattle.qd_versions.specs.Kept.{KeepsTails};
 ghost use Rattle.qd_versions.specs.Opening.{Opens};
 ghost use Rattle.qd_versions.specs.Publishing.{AreNumbered, IsFull, IsLostWhere, MayGrow, MayPublish, grown_blocks};
 ghost use Rattle.qd_versions.specs.Reading.{IsPartAt};
-ghost use Rattle.qd_versions.specs.Stores.{IsStore, stored};
+ghost use Rattle.qd_versions.specs.Stores.{AreFew, IsStore, stored};
 ghost use Rattle.qd_versions.specs.Tails.{AreGrowing, AreTailsRead, IsGrowing, IsGrowthRead};
 ghost use Rattle.qd_versions.specs.declared.fault.PublishFault.TheVariants as fault;
-ghost use Rattle.qd_volume.specs.Disk.{reads_of};
+ghost use Rattle.qd_volume.specs.Disk.{Disk, reads_of};
 ghost use Rattle.std.specs.List.{IsDistinct};
 ghost use Rattle.std.specs.Prelude.{◌≡◌, ◌≢◌, ◌↔◌, ℕ, [], ◌+◌, ◌^◌, ◌<◌, ◌≤◌, true, false, length, nat_eq, All, Err, Ok, Some, Contains, IfErr, IfOk, IfSome, IsTrue, OnErr, OnOk, slice_get};
 
 use crate::catalog::{add_row, has_free_row, prepare};
 use crate::fault::PublishFault;
 use crate::growing::Growing;
+use crate::keeping::Kept;
 use crate::opening::catalog_of;
 use crate::published::{GrownBlock, NewBlock};
 use crate::writing::{clear, lay_down};
 use qd_block::Block;
 use qd_catalog::{Catalog, manifest_of};
-use qd_column_files::{read_block, read_tail};
+use qd_column::Column;
+use qd_column_files::{read_block, read_rest, read_times};
+use qd_column_format::laws::one_column_is_spelled;
 use qd_durable::LogFault;
 use qd_io::IoFault;
 use qd_manifest::Shape;
@@ -49,11 +55,16 @@ pub const MAX_SHOWN: u64 = 1_073_741_824;
 /// The versions of a store: the durable root, and the catalogue of live versions with their blocks. It must be
 /// the only one that writes to the version files of its volume, and to the files of blocks.
 ///
-/// Contracts see the root and the catalogue. What that says of a told volume is the definition `IsRooted`.
+/// It keeps what rows behind those of 16 blocks go on with, of those that grew last, where they have named 65,536 texts at most: a
+/// publication that goes on behind them reads nothing.
+///
+/// Contracts see the root, the catalogue, and what is kept. What that says of a told volume are the definitions `IsRooted` and
+/// `KeepsTails`.
 #[derive(Drop)]
 pub struct VersionStore {
     root: TxnFile,
     catalog: Catalog,
+    kept: Kept,
 }
 
 impl Model for VersionStore {
@@ -61,9 +72,9 @@ impl Model for VersionStore {
 
     ghost Value = { Store };
 
-    ghost view = { λ s. record { root = s.root; versions = s.catalog } };
+    ghost view = { λ s. record { root = s.root; versions = s.catalog; kept = s.kept } };
 
-    ghost invariant = { λ s. IsStore (record { root = s.root; versions = s.catalog }) };
+    ghost invariant = { λ s. IsStore (record { root = s.root; versions = s.catalog; kept = s.kept }) };
 }
 
 impl VersionStore {
@@ -75,6 +86,7 @@ impl VersionStore {
     pub fn create<V: Volume>(alloc: Global, volume: &mut V) -> Result<VersionStore, IoFault>
         ensures clean { IfOk result (λ s. IsDirty s.root.other → ⊥) }
         ensures opened { IfOk result (λ s. catalog.IsOpened s.versions 0 0 []) }
+        ensures none { IfOk result (λ s. s.kept ≡ []) }
         ensures told { Told (V.storage volume.old).disk (V.storage volume.new).disk (Creates result) }
 
         // The count of faults rises exactly where `Failed` is answered.
@@ -83,7 +95,12 @@ impl VersionStore {
         let manifest = manifest_of(alloc, 0, &Shape::new(alloc))?;
         let catalog = Catalog::empty(alloc)?;
         let root = TxnFile::create(volume, manifest.bytes())?;
-        Ok(VersionStore { root, catalog })
+        let kept = Kept::new(alloc);
+        Ok(VersionStore {
+            root,
+            catalog,
+            kept,
+        })
     }
 
     /// Opens the versions beside a log of so many records: it syncs the version files and reads the version
@@ -105,6 +122,7 @@ impl VersionStore {
         requires few { records ≤ MAX_SHOWN }
         ensures shown { IfOk result (λ s. s.root.n ≤ records) }
         ensures opened { IfOk result (λ s. (m : Manifest) × IsManifest s.root.n m × catalog.IsOpened s.versions s.root.n m.next_block m.shape) }
+        ensures none { IfOk result (λ s. s.kept ≡ []) }
         ensures told { Told (V.storage volume.old).disk (V.storage volume.new).disk (Opens result records) }
 
         // The count of faults rises exactly where `Vol` is answered.
@@ -119,14 +137,21 @@ impl VersionStore {
             found.manifest.bytes(),
             records,
         )?;
-        Ok(VersionStore { root, catalog })
+        let kept = Kept::new(alloc);
+        Ok(VersionStore {
+            root,
+            catalog,
+            kept,
+        })
     }
 
     /// Tells what every store of versions keeps. It does nothing.
     pub fn keeps_its_law(&self)
         ensures law { IsStore self.now }
+        ensures few { AreFew self.now.kept }
     {
         let _root = &self.root;
+        self.kept.are_few();
     }
 
     /// Whether a publication failed that wasn't repaired since: a crash may leave the current version, or the
@@ -146,6 +171,7 @@ impl VersionStore {
         ensures clean { OnOk result (IsDirty self.new.root.other → ⊥) }
         ensures number { self.new.root.n ≡ self.old.root.n }
         ensures versions { self.new.versions ≡ self.old.versions }
+        ensures kept { self.new.kept ≡ self.old.kept }
         ensures stays { OnErr result (self.new ≡ self.old) }
         ensures told { Told (V.storage volume.old).disk (V.storage volume.new).disk (Repairs result self.old self.new) }
 
@@ -158,7 +184,8 @@ impl VersionStore {
     /// Publishes a version of `n` transactions, with the blocks that are new in it and the rows that go behind
     /// those of the current version's parts, and gives its row: it is live and current then.
     ///
-    /// It reads what the rows go on with first, as [`read_tail`] says, and takes all memory of its own, some 100
+    /// It reads what the rows go on with first, as [`qd_column_files::read_tail`] says, or copies it, where it was kept since they grew last, in
+    /// time and memory linear in the texts that their SYMBOL columns have named; and takes all memory of its own, some 100
     /// bytes a new block, and time and memory linear in the shape. A call of the volume follows for what a failed
     /// publication left, two for each file of a new block, for whose bytes memory is taken a column at a time,
     /// three for each file of a block that grows, and at most seven for the version files.
@@ -203,10 +230,13 @@ impl VersionStore {
         if !has_free_row(&self.catalog) {
             return Err(PublishFault::NoRow);
         }
+        // So that a tail that was kept is that of the block that the files hold.
+        one_column_is_spelled();
         let mut growing = self.read_tails(alloc, volume, grown)?;
         let next = self.catalog.next_block();
         let (manifest, copy) = prepare(alloc, &mut self.catalog, shape, blocks.len())?;
-        lay_down(
+        self.kept.forget(growing.as_slice());
+        let laid = lay_down(
             &mut self.root,
             alloc,
             volume,
@@ -215,11 +245,13 @@ impl VersionStore {
             next,
             blocks,
             growing.as_mut_slice(),
-        )?;
+        );
+        laid?;
+        self.kept.keep(growing);
         Ok(add_row(&mut self.catalog, n, copy))
     }
 
-    /// Reads what rows behind those of parts of the current version go on with, of each of them.
+    /// Finds what rows behind those of parts of the current version go on with, of each of them.
     fn read_tails<V: Volume>(
         &self,
         alloc: Global,
@@ -228,7 +260,7 @@ impl VersionStore {
     ) -> Result<Vec<Growing>, LogFault>
         requires grows { All (MayGrow self.now.versions) grown.now }
         ensures growing { IfOk result (λ growing. AreGrowing self.now.versions grown.now growing.items) }
-        ensures told { IfSome (V.storage volume.old).disk (λ disk. AreTailsRead result self.now.versions grown.now (reads_of disk)) }
+        ensures told { IfSome (V.storage volume.old).disk (λ disk. AreTailsRead result self.now grown.now (reads_of disk)) }
         ensures stays { (V.storage volume.new).disk ≡ (V.storage volume.old).disk }
         ensures counted { CountsVol (V.storage volume.old).faults (V.storage volume.new).faults result }
     {
@@ -240,7 +272,7 @@ impl VersionStore {
         Ok(growing)
     }
 
-    /// Reads what rows behind those of a part of the current version go on with.
+    /// Finds what rows behind those of a part of the current version go on with.
     fn read_growing<V: Volume>(
         &self,
         alloc: Global,
@@ -249,7 +281,7 @@ impl VersionStore {
     ) -> Result<Growing, LogFault>
         requires may { MayGrow self.now.versions added.now }
         ensures growing { IfOk result (λ growing. IsGrowing self.now.versions added.now growing) }
-        ensures told { IfSome (V.storage volume.old).disk (λ disk. IsGrowthRead result self.now.versions added.now (reads_of disk)) }
+        ensures told { IfSome (V.storage volume.old).disk (λ disk. IsGrowthRead result self.now added.now (reads_of disk)) }
         ensures stays { (V.storage volume.new).disk ≡ (V.storage volume.old).disk }
         ensures counted { CountsVol (V.storage volume.old).faults (V.storage volume.new).faults result }
     {
@@ -259,7 +291,7 @@ impl VersionStore {
             .shape_of(self.catalog.current())
             .get(added.table);
         let part = *shown.parts.get(added.part);
-        let tail = read_tail(alloc, volume, &shown.schema, part)?;
+        let tail = self.kept.tail_of(alloc, volume, &shown.schema, part)?;
         let rows = added.rows.clone()?;
         Ok(Growing {
             block: part.block,
@@ -282,6 +314,8 @@ impl VersionStore {
         requires older { row ≢ self.old.versions.current }
         ensures retired { Retires self.old.versions self.new.versions row }
         ensures root { self.new.root ≡ self.old.root }
+        ensures kept { self.new.kept ≡ self.old.kept }
+        ensures tails { (disk : Disk) → KeepsTails self.old disk → KeepsTails self.new disk }
     {
         self.catalog.retire(row);
     }
@@ -300,6 +334,7 @@ impl VersionStore {
         ensures same { OnErr result (self.new.versions ≡ self.old.versions) }
         ensures clean { result ≡ Ok true → IsDirty self.new.root.other → ⊥ }
         ensures number { self.new.root.n ≡ self.old.root.n }
+        ensures kept { self.new.kept ≡ self.old.kept }
         ensures told { Told (V.storage volume.old).disk (V.storage volume.new).disk (SweepsFront result self.old self.new) }
 
         // The count of faults rises exactly where `Failed` is answered.
@@ -337,6 +372,57 @@ impl VersionStore {
     {
         let shown = self.catalog.shape_of(row).get(table);
         read_block(alloc, volume, &shown.schema, *shown.parts.get(i))
+    }
+
+    /// Reads the designated times of a part of a live version: of the table of a position, the part of a position. What it costs,
+    /// and where files are damaged, is as [`read_times`] says. What the volume holds stays as it was.
+    pub fn read_times<V: Volume>(
+        &self,
+        alloc: Global,
+        volume: &mut V,
+        row: u8,
+        table: usize,
+        i: usize,
+    ) -> Result<Column<SymbolMap>, LogFault>
+        requires there { (t : TableParts) × (p : Part) × IsPartAt self.now.versions row table i t p }
+        ensures told { (t : TableParts) (p : Part) → IsPartAt self.now.versions row table i t p → IfSome (V.storage volume.old).disk (λ disk. IsColumnRead result t.schema p t.schema.time_col (reads_of disk (column_file p.block t.schema.time_col 0)) (reads_of disk (column_file p.block t.schema.time_col 1))) }
+        ensures fit { (t : TableParts) (p : Part) → IsPartAt self.now.versions row table i t p → IfOk result (λ times. IsFitColumn t.schema p t.schema.time_col times) }
+        ensures stays { (V.storage volume.new).disk ≡ (V.storage volume.old).disk }
+
+        // The count of faults rises exactly where `Vol` is answered.
+        ensures counted { CountsVol (V.storage volume.old).faults (V.storage volume.new).faults result }
+    {
+        let shown = self.catalog.shape_of(row).get(table);
+        read_times(alloc, volume, &shown.schema, *shown.parts.get(i))
+    }
+
+    /// Reads the rows of a part of a live version from row `skip` on, beside its designated times, which
+    /// [`VersionStore::read_times`] gave. What it costs, and where files are damaged, is as [`read_rest`] says. What the volume
+    /// holds stays as it was.
+    pub fn read_rest<V: Volume>(
+        &self,
+        alloc: Global,
+        volume: &mut V,
+        row: u8,
+        table: usize,
+        i: usize,
+        times: &Column<SymbolMap>,
+        skip: u64,
+    ) -> Result<Block<SymbolMap>, LogFault>
+        requires there { (t : TableParts) × (p : Part) × IsPartAt self.now.versions row table i t p }
+        requires times { (t : TableParts) (p : Part) → IsPartAt self.now.versions row table i t p → IsFitColumn t.schema p t.schema.time_col times.now }
+        requires skip { (t : TableParts) (p : Part) → IsPartAt self.now.versions row table i t p → skip ≤ p.rows }
+        ensures told { (t : TableParts) (p : Part) → IsPartAt self.now.versions row table i t p → IfSome (V.storage volume.old).disk (λ disk. IsRestRead result t.schema p times.now skip (reads_of disk)) }
+        ensures rest { (t : TableParts) (p : Part) → IsPartAt self.now.versions row table i t p → IfOk result (λ b. IsRestOf t.schema p times.now skip b) }
+        ensures whole { IfOk result (λ b. IsWhole b) }
+        ensures stays { (V.storage volume.new).disk ≡ (V.storage volume.old).disk }
+
+        // The count of faults rises exactly where `Vol` is answered.
+        ensures counted { CountsVol (V.storage volume.old).faults (V.storage volume.new).faults result }
+    {
+        let shown = self.catalog.shape_of(row).get(table);
+        let part = *shown.parts.get(i);
+        read_rest(alloc, volume, &shown.schema, part, times, skip)
     }
 
     /// Gives the row of the current version, in constant time.

@@ -53,7 +53,7 @@ fn put_files<V: Volume>(
     requires fit { All (IsFit next) growing.old }
     requires apart { IsDistinct nat_eq (blocks_growing growing.old) }
     ensures few { OnOk result (All IsNarrow blocks.now) }
-    ensures told { Told (V.storage volume.old).disk (V.storage volume.new).disk (PutsFiles result next blocks.now growing.old) }
+    ensures told { Told (V.storage volume.old).disk (V.storage volume.new).disk (PutsFiles result next blocks.now growing.old growing.new) }
     ensures counted { Counts (V.storage volume.old).faults (V.storage volume.new).faults result }
 {
     put_blocks(alloc, volume, next, blocks)?;
@@ -81,7 +81,7 @@ fn put_beside<V: Volume>(
     ensures written { OnOk result (root.new ≡ with_other root.old (other.Written n)) }
     ensures clean { IsDirty root.new.other → ⊥ }
     ensures number { root.new.n ≡ root.old.n }
-    ensures told { Told (V.storage volume.old).disk (V.storage volume.new).disk (PutsBeside result root.old root.new next (record { n = n; manifest = manifest.now }) blocks.now growing.old) }
+    ensures told { Told (V.storage volume.old).disk (V.storage volume.new).disk (PutsBeside result root.old root.new next (record { n = n; manifest = manifest.now }) blocks.now growing.old growing.new) }
     ensures counted { Counts (V.storage volume.old).faults (V.storage volume.new).faults result }
 {
     put_files(alloc, volume, next, blocks, growing)?;
@@ -109,7 +109,7 @@ pub(crate) fn lay_down<V: Volume>(
     ensures turned { OnOk result (root.new.n ≡ n) }
     ensures stays { OnErr result (root.new.n ≡ root.old.n) }
     ensures late { IfErr result IsLate }
-    ensures told { Told (V.storage volume.old).disk (V.storage volume.new).disk (LaysDown result root.old root.new next (record { n = n; manifest = manifest.now }) blocks.now growing.old) }
+    ensures told { Told (V.storage volume.old).disk (V.storage volume.new).disk (LaysDown result root.old root.new next (record { n = n; manifest = manifest.now }) blocks.now growing.old growing.new) }
     ensures counted { CountsPublish (V.storage volume.old).faults (V.storage volume.new).faults result }
 {
     root.repair(volume)?;

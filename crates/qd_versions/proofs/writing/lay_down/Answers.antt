@@ -17,7 +17,7 @@ pub returns-in_err-repair-clause-told : goal.returns-in_err-repair-clause-told
 returns-in_err-repair-clause-told g c =
     let p = err_from_is_err_and c.from_residual.result c.from_residual.ensures.1 in
     let v : Version = record { n = c.args.n; manifest = c.args.manifest.now } in
-    rw p.1 (lay_not_repaired_told c.args.root.now c.repair.new.self c.args.next v c.args.blocks.now c.args.growing.now c.requires.fit c.in_err-repair.field-0.0 p.0 _ _ (λ dirty. c.in_err-repair.ensures.stays.0) c.in_err-repair.ensures.told)
+    rw p.1 (lay_not_repaired_told c.args.root.now c.repair.new.self c.args.next v c.args.blocks.now c.args.growing.now c.args.growing.now c.requires.fit c.in_err-repair.field-0.0 p.0 _ _ (λ dirty. c.in_err-repair.ensures.stays.0) c.in_err-repair.ensures.told)
 
 pub put_beside-requires-clause-clean : goal.put_beside-requires-clause-clean
 put_beside-requires-clause-clean g c = repaired_clean c.args.root.now c.repair.new.self c.in_ok-repair.ensures.clean
@@ -25,7 +25,7 @@ put_beside-requires-clause-clean g c = repaired_clean c.args.root.now c.repair.n
 pub returns-in-Err-clause-told : goal.returns-in-Err-clause-told
 returns-in-Err-clause-told g c =
     let v : Version = record { n = c.args.n; manifest = c.args.manifest.now } in
-    lay_given_up_told c.args.root.now c.put_beside.new.root c.args.next v c.args.blocks.now c.args.growing.now c.requires.fit c.repair.new.self c.in_ok-repair.field-0 c.in-Err.cause c.give_up.result _ _ _ _ c.in-Err.ensures.clean c.in_ok-repair.ensures.told c.in-Err.ensures.told c.give_up.ensures.told
+    lay_given_up_told c.args.root.now c.put_beside.new.root c.args.next v c.args.blocks.now c.args.growing.now c.put_beside.new.growing c.requires.fit c.repair.new.self c.in_ok-repair.field-0 c.in-Err.cause c.give_up.result _ _ _ _ c.in-Err.ensures.clean c.in_ok-repair.ensures.told c.in-Err.ensures.told c.give_up.ensures.told
 
 pub returns-in-Err-clause-counted : goal.returns-in-Err-clause-counted
 returns-in-Err-clause-counted g c =
@@ -42,9 +42,9 @@ returns-in_err-flip-clause-told g c =
     let p = err_from_is_err_and c.from_residual-in_err-flip.result c.from_residual-in_err-flip.ensures.1 in
     let v : Version = record { n = c.args.n; manifest = c.args.manifest.now } in
     let dirty : IsDirty c.flip.new.self.other = subst (λ (r : Root). IsDirty r.other) (sym c.in_err-flip.ensures.stays) tt in
-    rw p.1 (lay_not_flipped_told c.args.root.now c.flip.new.self c.args.next v c.args.blocks.now c.args.growing.now c.requires.fit c.repair.new.self c.put_beside.new.root c.in_default.ensures.few c.in_ok-repair.field-0 c.in_default.field-0 _ _ _ _ c.in_ok-repair.ensures.told c.in_default.ensures.told c.in_err-flip.field-0.0 p.0 dirty c.in_err-flip.ensures.told)
+    rw p.1 (lay_not_flipped_told c.args.root.now c.flip.new.self c.args.next v c.args.blocks.now c.args.growing.now c.put_beside.new.growing c.requires.fit c.repair.new.self c.put_beside.new.root c.in_default.ensures.few c.in_ok-repair.field-0 c.in_default.field-0 _ _ _ _ c.in_ok-repair.ensures.told c.in_default.ensures.told c.in_err-flip.field-0.0 p.0 dirty c.in_err-flip.ensures.told)
 
 pub returns-clause-told : goal.returns-clause-told
 returns-clause-told g c =
     let v : Version = record { n = c.args.n; manifest = c.args.manifest.now } in
-    lay_told c.args.root.now c.flip.new.self c.args.next v c.args.blocks.now c.args.growing.now c.requires.fit c.repair.new.self c.put_beside.new.root c.in_default.ensures.few c.in_ok-repair.field-0 c.in_default.field-0 _ _ _ _ c.in_ok-repair.ensures.told c.in_default.ensures.told c.in_ok-flip.field-0 tt c.in_ok-flip.ensures.told
+    lay_told c.args.root.now c.flip.new.self c.args.next v c.args.blocks.now c.args.growing.now c.put_beside.new.growing c.requires.fit c.repair.new.self c.put_beside.new.root c.in_default.ensures.few c.in_ok-repair.field-0 c.in_default.field-0 _ _ _ _ c.in_ok-repair.ensures.told c.in_default.ensures.told c.in_ok-flip.field-0 tt c.in_ok-flip.ensures.told

@@ -13,8 +13,8 @@ grow_blocks-requires-clause-fit g c =
 pub returns-in_err-put_blocks-clause-told : goal.returns-in_err-put_blocks-clause-told
 returns-in_err-put_blocks-clause-told g c =
     let p = err_from_is_err_and c.from_residual.result c.from_residual.ensures.1 in
-    rw p.1 (files_not_put_told c.args.next c.args.blocks.now c.args.growing.now c.requires.fit c.in_err-put_blocks.field-0.0 p.0 _ _ c.in_err-put_blocks.ensures.told)
+    rw p.1 (files_not_put_told c.args.next c.args.blocks.now c.args.growing.now c.args.growing.now c.requires.fit c.in_err-put_blocks.field-0.0 p.0 _ _ c.in_err-put_blocks.ensures.told)
 
 pub returns-clause-told : goal.returns-clause-told
 returns-clause-told g c =
-    files_told c.args.next c.args.blocks.now c.args.growing.now c.requires.fit c.in_ok-put_blocks.ensures.few (numbered_at c.args.next c.args.blocks.now c.requires.numbered) c.in_ok-put_blocks.field-0 c.grow_blocks.result _ _ _ c.in_ok-put_blocks.ensures.told c.grow_blocks.ensures.told
+    files_told c.args.next c.args.blocks.now c.args.growing.now c.grow_blocks.new.growing c.requires.fit c.in_ok-put_blocks.ensures.few (numbered_at c.args.next c.args.blocks.now c.requires.numbered) c.in_ok-put_blocks.field-0 c.grow_blocks.result _ _ _ c.in_ok-put_blocks.ensures.told c.grow_blocks.ensures.told

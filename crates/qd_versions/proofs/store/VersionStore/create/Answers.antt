@@ -25,10 +25,10 @@ returns-in_err-catalog-clause-told g c =
 
 pub invariant_of-result : goal.invariant_of-result
 invariant_of-result g c =
-    store_opened (record { root = c.in_ok-root.root; versions = c.in_ok-catalog.catalog }) 0 0 [] (ap (λ (r : Root). r.n) c.in_ok-root.ensures.root) (omega arith) no_manifest c.in_ok-catalog.ensures.opened
+    store_opened (record { root = c.in_ok-root.root; versions = c.in_ok-catalog.catalog; kept = c.new-kept.result }) 0 0 [] (ap (λ (r : Root). r.n) c.in_ok-root.ensures.root) (omega arith) no_manifest c.in_ok-catalog.ensures.opened
 
 pub returns-clause-told : goal.returns-clause-told
 returns-clause-told g c =
     let v : Version = record { n = 0; manifest = c.bytes.result.now } in
     let is : v ≡ no_tables = ap (λ (l : List ℕ). record { n = 0; manifest = l }) (c.bytes.ensures.same ∙ c.in_ok-manifest.ensures.bytes ∙ ap (λ (l : List TableParts). manifest_bytes (manifest_in 0 l)) c.new.ensures.empty) in
-    create_done_told v is (record { root = c.in_ok-root.root; versions = c.in_ok-catalog.catalog }) _ _ (version_opened c.in_ok-catalog.catalog 0 0 [] c.in_ok-catalog.ensures.opened) c.in_ok-root.ensures.told
+    create_done_told v is (record { root = c.in_ok-root.root; versions = c.in_ok-catalog.catalog; kept = c.new-kept.result }) _ _ (version_opened c.in_ok-catalog.catalog 0 0 [] c.in_ok-catalog.ensures.opened) c.in_ok-root.ensures.told

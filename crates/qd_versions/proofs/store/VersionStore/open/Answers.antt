@@ -18,9 +18,9 @@ returns-in_err-catalog-clause-told g c =
 pub invariant_of-result : goal.invariant_of-result
 invariant_of-result g c =
     let o = c.in_ok-catalog.ensures.opened in
-    store_opened (record { root = c.in_ok-found.found.file; versions = c.in_ok-catalog.catalog }) c.n.result o.0.next_block o.0.shape (sym c.n.ensures.number) (omega (arith, c.in_ok-catalog.ensures.shown, c.requires.few)) o.1.sound o.2
+    store_opened (record { root = c.in_ok-found.found.file; versions = c.in_ok-catalog.catalog; kept = c.new-kept.result }) c.n.result o.0.next_block o.0.shape (sym c.n.ensures.number) (omega (arith, c.in_ok-catalog.ensures.shown, c.requires.few)) o.1.sound o.2
 
 pub returns-clause-told : goal.returns-clause-told
 returns-clause-told g c =
     let o = c.in_ok-catalog.ensures.opened in
-    opened_told c.args.records _ _ c.in_ok-found.found c.in_ok-catalog.catalog o.0 c.n.result c.bytes.result.now c.n.ensures.number c.bytes.ensures.same o.1 o.2 c.in_ok-found.ensures.told
+    opened_told c.args.records _ _ c.in_ok-found.found c.in_ok-catalog.catalog c.new-kept.result o.0 c.n.result c.bytes.result.now c.n.ensures.number c.bytes.ensures.same o.1 o.2 c.in_ok-found.ensures.told

@@ -21,7 +21,7 @@ read_block-requires-clause-schema g c =
     let t = c.requires.there.0 in
     let p = c.requires.there.1 in
     let at = subst (λ (s : Store). IsPartAt s.versions c.args.row c.args.table c.args.i t p) (sym c.self.view_is) c.requires.there.2 in
-    let lawful = part_lawful (record { root = c.self.inside.root; versions = c.self.inside.catalog }) c.args.row c.args.table c.args.i t p c.self.invariant at in
+    let lawful = part_lawful (record { root = c.self.inside.root; versions = c.self.inside.catalog; kept = c.self.inside.kept }) c.args.row c.args.table c.args.i t p c.self.invariant at in
     let same = lent_table c.shape_of.result.now at.version.shape c.args.table t c.get-shown.result.now (c.shape_of.ensures.shape at.version at.live) at.its_table c.get-shown.ensures.item in
     subst (λ (x : TableParts). IsSchema x.schema) same lawful.schema
 
@@ -30,7 +30,7 @@ read_block-requires-clause-part g c =
     let t = c.requires.there.0 in
     let p = c.requires.there.1 in
     let at = subst (λ (s : Store). IsPartAt s.versions c.args.row c.args.table c.args.i t p) (sym c.self.view_is) c.requires.there.2 in
-    let lawful = part_lawful (record { root = c.self.inside.root; versions = c.self.inside.catalog }) c.args.row c.args.table c.args.i t p c.self.invariant at in
+    let lawful = part_lawful (record { root = c.self.inside.root; versions = c.self.inside.catalog; kept = c.self.inside.kept }) c.args.row c.args.table c.args.i t p c.self.invariant at in
     let same = lent_table c.shape_of.result.now at.version.shape c.args.table t c.get-shown.result.now (c.shape_of.ensures.shape at.version at.live) at.its_table c.get-shown.ensures.item in
     let one = lent_part t c.get-shown.result.now c.args.i p c.get.result.now same at.its_part c.get.ensures.item in
     subst (λ (x : TableParts). IsPart x.schema c.get.result.now) same (subst (λ (x : Part). IsPart t.schema x) one lawful.its_part)
@@ -40,7 +40,7 @@ read_block-requires-clause-block g c =
     let t = c.requires.there.0 in
     let p = c.requires.there.1 in
     let at = subst (λ (s : Store). IsPartAt s.versions c.args.row c.args.table c.args.i t p) (sym c.self.view_is) c.requires.there.2 in
-    let lawful = part_lawful (record { root = c.self.inside.root; versions = c.self.inside.catalog }) c.args.row c.args.table c.args.i t p c.self.invariant at in
+    let lawful = part_lawful (record { root = c.self.inside.root; versions = c.self.inside.catalog; kept = c.self.inside.kept }) c.args.row c.args.table c.args.i t p c.self.invariant at in
     let same = lent_table c.shape_of.result.now at.version.shape c.args.table t c.get-shown.result.now (c.shape_of.ensures.shape at.version at.live) at.its_table c.get-shown.ensures.item in
     let one = lent_part t c.get-shown.result.now c.args.i p c.get.result.now same at.its_part c.get.ensures.item in
     subst (λ (x : Part). x.block < 2 ^ 52) one lawful.small

@@ -14,7 +14,7 @@ pub loop-added-init : goal.loop-added-init
 loop-added-init g c = record {
   count = ap (λ (ys : List Growing). length ys) c.in_ok-growing.ensures.items;
   each = λ k d e less. absurd (omega arith);
-  told = tails_none c.args.self.now.versions c.args.grown.now c.in_ok-growing.growing.items _;
+  told = tails_none c.args.self.now c.args.grown.now c.in_ok-growing.growing.items _;
   stays = refl;
   counted = refl;
 }
@@ -30,8 +30,8 @@ returns-in_err-one-clause-told g c =
     let x = c.added-item.result in
     let is = item_is grown i x here c.added-item.is in
     rw p.1
-    (subst (λ (f : LogFault). IfSome (g.V.Volume.storage c.args.volume.now).disk (λ disk. AreTailsRead (Err f) v grown (reads_of disk))) (sym p.2)
-    (tails_lost v grown c.loop-added.growing.items x i is c.in_err-one.field-0.0 _ _ here inv.stays c.in_err-one.ensures.told))
+    (subst (λ (f : LogFault). IfSome (g.V.Volume.storage c.args.volume.now).disk (λ disk. AreTailsRead (Err f) c.args.self.now grown (reads_of disk))) (sym p.2)
+    (tails_lost c.args.self.now grown c.loop-added.growing.items x i is c.in_err-one.field-0.0 _ _ here inv.stays c.in_err-one.ensures.told))
 
 pub loop-added-preserved : goal.loop-added-preserved
 loop-added-preserved g c =
@@ -48,7 +48,7 @@ loop-added-preserved g c =
     record {
       count = ap (λ (ys : List Growing). length ys) pushed ∙ length_push xs one ∙ ap (λ n. n + 1) inv.count;
       each = subst (λ (ys : List Growing). (k : ℕ) (d : GrownBlock) (e : Growing) → k < i + 1 → IsGrowing v (get_or grown k d) (get_or ys k e)) (sym pushed) (pairs_more (IsGrowing v) grown xs x one i inv.count is c.in_ok-one.ensures.growing inv.each);
-      told = subst (λ (ys : List Growing). IfSome (g.V.Volume.storage c.args.volume.now).disk (λ disk. AreTails (i + 1) v grown ys (reads_of disk))) (sym pushed) (tails_more v grown xs x i is one _ _ inv.count inv.stays inv.told c.in_ok-one.ensures.told);
+      told = subst (λ (ys : List Growing). IfSome (g.V.Volume.storage c.args.volume.now).disk (λ disk. AreTails (i + 1) c.args.self.now grown ys (reads_of disk))) (sym pushed) (tails_more c.args.self.now grown xs x i is one _ _ inv.count inv.stays inv.told c.in_ok-one.ensures.told);
       stays = c.in_ok-one.ensures.stays ∙ inv.stays;
       counted = c.in_ok-one.ensures.counted ∙ inv.counted;
     }
@@ -65,4 +65,4 @@ returns-clause-growing g c =
 pub returns-clause-told : goal.returns-clause-told
 returns-clause-told g c =
     let all : c.loop-added.added-index ≡ length c.args.grown.now = omega (arith, c.loop-added-test.false, c.loop-added.auto.added-index-end) in
-    subst (λ n. IfSome (g.V.Volume.storage c.args.volume.now).disk (λ disk. AreTails n c.args.self.now.versions c.args.grown.now c.loop-added.growing.items (reads_of disk))) all c.loop-added.invariant.told
+    subst (λ n. IfSome (g.V.Volume.storage c.args.volume.now).disk (λ disk. AreTails n c.args.self.now c.args.grown.now c.loop-added.growing.items (reads_of disk))) all c.loop-added.invariant.told

@@ -10,7 +10,7 @@ abbrev pub invariant-loop-added : goal.invariant-loop-added
 invariant-loop-added g l = record {
   count : length l.growing.items ≡ l.added-index;
   each : (k : ℕ) (d : GrownBlock) (e : Growing) → k < l.added-index → IsGrowing l.self.versions (get_or l.grown k d) (get_or l.growing.items k e);
-  told : IfSome (g.V.Volume.storage l.fn.volume).disk (λ disk. AreTails l.added-index l.self.versions l.grown l.growing.items (reads_of disk));
+  told : IfSome (g.V.Volume.storage l.fn.volume).disk (λ disk. AreTails l.added-index l.self l.grown l.growing.items (reads_of disk));
   stays : (g.V.Volume.storage l.volume).disk ≡ (g.V.Volume.storage l.fn.volume).disk;
   counted : (g.V.Volume.storage l.volume).faults ≡ (g.V.Volume.storage l.fn.volume).faults;
 }

@@ -9,11 +9,11 @@ use Rattle.qd_versions.proofs.store.VersionStore.repair.Goals as goal
 
 pub invariant_of-self : goal.invariant_of-self
 invariant_of-self g c =
-    store_same (record { root = c.self.inside.root; versions = c.self.inside.catalog }) (record { root = c.repair.new.self; versions = c.self.inside.catalog }) c.self.invariant
+    store_same (record { root = c.self.inside.root; versions = c.self.inside.catalog; kept = c.self.inside.kept }) (record { root = c.repair.new.self; versions = c.self.inside.catalog; kept = c.self.inside.kept }) c.self.invariant
     (same_versions c.self.inside.catalog) (repaired_number c.repair.result c.self.inside.root c.repair.new.self c.repair.ensures.clean c.repair.ensures.stays)
 
 pub returns-clause-told : goal.returns-clause-told
 returns-clause-told g c =
-    let after : Store = record { root = c.repair.new.self; versions = c.self.inside.catalog } in
+    let after : Store = record { root = c.repair.new.self; versions = c.self.inside.catalog; kept = c.self.inside.kept } in
     subst (λ (s : Store). Told (g.V.Volume.storage c.args.volume.now).disk (g.V.Volume.storage c.repair.new.volume).disk (Repairs {T = Unit {0}} {E = IoFault} c.repair.result s after)) c.self.view_is
-    (repair_told c.repair.result (record { root = c.self.inside.root; versions = c.self.inside.catalog }) after _ _ refl c.repair.ensures.told)
+    (repair_told c.repair.result (record { root = c.self.inside.root; versions = c.self.inside.catalog; kept = c.self.inside.kept }) after _ _ refl refl c.repair.ensures.told)

@@ -7,6 +7,7 @@ use Rattle.qd_durable.specs.Moments.{Told}
 use Rattle.qd_durable.proofs.Writes.{told_map}
 use Rattle.qd_sequencer.specs.Calls.{Accepts}
 use Rattle.qd_txnfile.specs.Versions.{Version}
+use Rattle.qd_versions.specs.Kept.{KeepsTails}
 use Rattle.qd_versions.specs.Stores as versions
 use Rattle.qd_volume.specs.Disk.{Disk}
 use Rattle.qd_sequencer.specs.Laws.{OtherFilesLeaveTheSequence}
@@ -22,12 +23,12 @@ pub commit_told : {T E : Type 0} (result : Result T E) (old inside new : Book) �
 commit_told result old inside new is same law Own before after told = subst (λ (s : Book). Told before after (Commits result s new Own)) (sym is)
     (told_map (Accepts result inside.sequence new.sequence Own) (Commits result inside new Own) before after (λ a b accepts. committed result inside new Own a b law same accepts) told)
 
-pub retired_holds : (old inside new : Book) (row : ℕ) → old ≡ inside → new.sequence ≡ inside.sequence → Retires inside.versions.versions new.versions.versions row → row ≢ inside.versions.versions.current → new.versions.root ≡ inside.versions.root
+pub retired_holds : (old inside new : Book) (row : ℕ) → old ≡ inside → new.sequence ≡ inside.sequence → Retires inside.versions.versions new.versions.versions row → row ≢ inside.versions.versions.current → new.versions.root ≡ inside.versions.root → ((disk : Disk) → KeepsTails inside.versions disk → KeepsTails new.versions disk)
     → (h : List Entry) (next : Version) (disk : Disk) → IsStore old h next disk → IsStore new h next disk
-retired_holds old inside new row is same retired older root h next disk stands =
+retired_holds old inside new row is same retired older root tails h next disk stands =
     let s = subst (λ (s : Book). IsStore s h next disk) is stands in record {
       sequence = subst (λ (q : Rattle.qd_sequencer.specs.Sequences.Sequence). Rattle.qd_sequencer.specs.Sequences.IsSequence q h disk) (sym same) s.sequence;
-      versions = retired_versions inside.versions new.versions row h next disk retired older root s.versions;
+      versions = retired_versions inside.versions new.versions row h next disk retired older root (tails disk) s.versions;
     }
 
 module _ {E : Type 0} (X : Type 0) (inside new : versions.Store) where

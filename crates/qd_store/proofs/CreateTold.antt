@@ -63,7 +63,7 @@ module _ (sequence : Sequence) where
       told_both (logs.Makes {E = IoFault} (Ok sequence)) (roots.Creates {E = IoFault} (Err fault)) (Creates {E = IoFault} (Err answer)) before between after (λ a b c made rooted. not_rooted fault answer a b c made rooted) first second
 
 module _ (s : Book) where
-  module _ (law : OtherFilesLeaveTheSequence) (sound : IsManifest 0 nothing.manifest) (clean : IsDirty s.versions.root.other → ⊥) (opened : rows.IsOpened s.versions.versions 0 0 []) where
+  module _ (law : OtherFilesLeaveTheSequence) (sound : IsManifest 0 nothing.manifest) (clean : IsDirty s.versions.root.other → ⊥) (opened : rows.IsOpened s.versions.versions 0 0 []) (nothing_kept : s.versions.kept ≡ []) where
     abbrev Both : Disk → Disk → Type 0
     Both a c = (b : Disk) × logs.Makes {E = IoFault} (Ok s.sequence) a b × roots.Creates {E = IoFault} (Ok s.versions) b c
 
@@ -72,8 +72,8 @@ module _ (s : Book) where
 
     not_marked : (fault answer : IoFault) (a c d : Disk) → Both a c → Marks {T = Unit {0}} {E = IoFault} (Err fault) c d → Creates {E = IoFault} (Err answer) a d
     not_marked fault answer a c d both marks = record {
-      any_moment = λ unmade. any_moment {T = Unit {0}} {E = IoFault} (Err fault) s law sound clean opened a both.0 c d both.1 both.2 marks unmade;
-      created = λ unmade. behind {T = Unit {0}} {E = IoFault} (Err fault) s law sound clean opened a both.0 c d both.1 both.2 marks;
+      any_moment = λ unmade. any_moment {T = Unit {0}} {E = IoFault} (Err fault) s law sound clean opened nothing_kept a both.0 c d both.1 both.2 marks unmade;
+      created = λ unmade. behind {T = Unit {0}} {E = IoFault} (Err fault) s law sound clean opened nothing_kept a both.0 c d both.1 both.2 marks;
     }
 
     pub not_marked_told : (fault answer : IoFault) (before between late after : Option Disk) → Told before between (logs.Makes {E = IoFault} (Ok s.sequence)) → Told between late (roots.Creates {E = IoFault} (Ok s.versions)) → Told late after (Marks {T = Unit {0}} {E = IoFault} (Err fault)) → Told before after (Creates {E = IoFault} (Err answer))
@@ -82,8 +82,8 @@ module _ (s : Book) where
 
     is_marked : (done : Unit {0}) (a c d : Disk) → Both a c → Marks {T = Unit {0}} {E = IoFault} (Ok done) c d → Creates {E = IoFault} (Ok s) a d
     is_marked done a c d both marks = record {
-      any_moment = λ unmade. any_moment {T = Unit {0}} {E = IoFault} (Ok done) s law sound clean opened a both.0 c d both.1 both.2 marks unmade;
-      created = λ unmade. made_whole {T = Unit {0}} {E = IoFault} (Ok done) s law sound clean opened a both.0 c d both.1 both.2 marks marks.marked;
+      any_moment = λ unmade. any_moment {T = Unit {0}} {E = IoFault} (Ok done) s law sound clean opened nothing_kept a both.0 c d both.1 both.2 marks unmade;
+      created = λ unmade. made_whole {T = Unit {0}} {E = IoFault} (Ok done) s law sound clean opened nothing_kept a both.0 c d both.1 both.2 marks marks.marked;
     }
 
     pub is_marked_told : (done : Unit {0}) (before between late after : Option Disk) → Told before between (logs.Makes {E = IoFault} (Ok s.sequence)) → Told between late (roots.Creates {E = IoFault} (Ok s.versions)) → Told late after (Marks {T = Unit {0}} {E = IoFault} (Ok done)) → Told before after (Creates {E = IoFault} (Ok s))

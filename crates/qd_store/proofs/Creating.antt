@@ -23,6 +23,7 @@ use Rattle.qd_txnfile.specs.Versions.{GivesVersion, Version, is_version_file}
 use Rattle.qd_versions.specs.Calls as roots
 use Rattle.qd_versions.specs.Stores.{current_version}
 use Rattle.qd_versions.proofs.Kept.{files_same, gives_kept, knows_kept}
+use Rattle.qd_versions.proofs.KeptTails.{none_kept}
 use Rattle.qd_volume.specs.Disk.{Disk, Image}
 use Rattle.qd_store.specs.Marks.{IsMade, Marks}
 use Rattle.qd_store.specs.Prefixes.{HoldsTables, IsShown}
@@ -158,7 +159,7 @@ row_is x y (suc row) (suc count) at = by row count at
     by (suc row) (suc count) e = by row count e
 
 module _ {T E : Type 0} (result : Result T E) (s : Book) (law : OtherFilesLeaveTheSequence) (sound : IsManifest 0 nothing.manifest)
-    (clean : IsDirty s.versions.root.other → ⊥) (opened : rows.IsOpened s.versions.versions 0 0 [])
+    (clean : IsDirty s.versions.root.other → ⊥) (opened : rows.IsOpened s.versions.versions 0 0 []) (nothing_kept : s.versions.kept ≡ [])
     (d0 d1 d2 d3 : Disk) (logged : logs.Makes {E = E} (Ok s.sequence) d0 d1) (rooted : roots.Creates {E = E} (Ok s.versions) d1 d2) (marks : Marks result d2 d3) where
   ready : EachNow d2 IsReady
   ready image now = record {
@@ -190,6 +191,7 @@ module _ {T E : Type 0} (result : Result T E) (s : Book) (law : OtherFilesLeaveT
         subst (λ (y : catalog.Version). IsShown [] y.n y.shape d3)
         (sym (row_is x (record { n = 0; shape = [] }) row 63 (subst (λ (l : List (Option catalog.Version)). get_or l row None ≡ Some x) opened.versions at)))
         (none_shown d3);
+    kept = none_kept s.versions d3 nothing_kept;
   }
 
   pub made_whole : EachNow d3 IsMade → EachNow d3 (Finds nothing) × ((next : Version) → IsStore s [] next d3)

@@ -1,7 +1,5 @@
 -- Drafts of the transactions behind the current version.
 use Rattle.std.proofs.Common.{◌≡◌, ℕ, ◌+◌, ◌*◌, ◌^◌, ◌<◌, ◌≤◌, List, [], ◌∷◌, length, map, take, All, Option, Some, None, IfSome, Result, Ok, Err, refl, sym, ap, ap₂, subst, ◌∙◌, arith, Vec}
-use Rattle.std.specs.Arc.{arc_value}
-use Rattle.std.specs.declared.sync.Arc.{Arc}
 use Rattle.std.specs.declared.alloc.Global.{Global}
 use Rattle.std.proofs.lemmas.List.{length-drop, length-map, length-take}
 use Rattle.std.proofs.lemmas.List.Elements.{All-weaker}
@@ -11,12 +9,16 @@ use Rattle.qd_base.specs.declared.schema.Schema.{Schema}
 use Rattle.qd_base.specs.Database.{StoredTable}
 use Rattle.qd_base.specs.Lawful.{LawfulFrom}
 use Rattle.qd_base.specs.Replay.{first}
-use Rattle.qd_block.specs.Blocks.{Block}
 use Rattle.qd_catalog.specs.declared.version.Version.{Version}
 use Rattle.qd_catalog.specs.Versions.{current_n, n_of, version_at, written_of, Versions}
+use Rattle.qd_column_format.specs.Laws.{OneColumnIsSpelled}
+use Rattle.qd_column_files.specs.Laws.{OneBlockIsHeld}
 use Rattle.qd_apply.specs.Drafts.{Drafting, Planning}
 use Rattle.qd_apply.specs.Laws.{CountsParts, RowsAreFew}
-use Rattle.qd_apply.specs.Plans.{all_touched, read_in, with_batch}
+use Rattle.qd_apply.specs.declared.olds.Late.{Late}
+use Rattle.qd_apply.specs.declared.olds.OldPart.{OldPart}
+use Rattle.qd_apply.specs.Olds.{all_late}
+use Rattle.qd_apply.specs.Plans.{with_batch}
 use Rattle.qd_apply.specs.Stands.{StandsFor}
 use Rattle.qd_durable.specs.declared.fault.LogFault.{LogFault}
 use Rattle.qd_durable.specs.declared.fault.LogFault.TheVariants as fault
@@ -26,14 +28,14 @@ use Rattle.qd_txnfile.specs.Versions as root
 use Rattle.qd_versions.specs.Stores as versions
 use Rattle.qd_volume.specs.Disk.{Disk, Image, reads_of}
 use Rattle.qd_store.specs.Damage.{IsDamagedOver, IsDraftDamage, LosesBlock}
-use Rattle.qd_store.specs.Drafting.{AreArrived, AreRead, AreReadFrom, HasArrived, IsArrived, IsArrivedFrom}
+use Rattle.qd_store.specs.Drafting.{AreArrived, ArePartsRead, AreRead, HasArrived, IsArrived, IsArrivedFrom}
 use Rattle.qd_store.specs.Drafts.{Drafted, IsDraftOver, IsDraftedFrom, between, plan_of}
 use Rattle.qd_store.specs.Grown.{rows_written}
 use Rattle.qd_store.specs.Prefixes.{IsShown}
 use Rattle.qd_store.specs.Stores.{Book, IsStore}
 use Rattle.qd_store.proofs.Arrived.{shown_now}
 use Rattle.qd_store.proofs.Between.{replay_between}
-use Rattle.qd_store.proofs.BlocksRead.{same_cause}
+use Rattle.qd_store.proofs.OldsRead.{none_lost, reads_are, same_cause}
 use Rattle.qd_store.proofs.Fills.{drafted}
 use Rattle.qd_store.proofs.FewRows.{rows_few}
 
@@ -72,10 +74,10 @@ counts_parts s upto arrived (x, es, at, has) written rows =
 
 module _ (v : versions.Store) (law : versions.IsStore v) (written : List (List ℕ)) (split upto : ℕ) (arrived : Drafting) (is : IsArrived v.versions upto arrived) where
   module _ (plan : Planning) (plan_is : plan ≡ planning arrived written split) where
-    pub drafted_over : (few : upto ≤ 2 ^ 30) (more : (n : ℕ) → current_n v.versions ≡ Some n → n < upto) (blocks : List Block)
+    pub drafted_over : (few : upto ≤ 2 ^ 30) (more : (n : ℕ) → current_n v.versions ≡ Some n → n < upto) (olds : List OldPart)
         → ((x : Version) → version_at v.versions v.versions.current ≡ Some x → written ≡ rows_written v.versions x.shape)
-        → AreRead plan.written plan.split_rows plan.shape plan.tables blocks → IsDraftOver v.versions (record { plan = plan; blocks = blocks })
-    drafted_over few more blocks rows read =
+        → AreRead plan.written plan.split_rows plan.shape plan.tables olds → IsDraftOver v.versions (record { plan = plan; olds = olds })
+    drafted_over few more olds rows read =
         let x = is.0 in
         let es = is.1 in
         let next = v.versions.next_block in
@@ -83,21 +85,25 @@ module _ (v : versions.Store) (law : versions.IsStore v) (written : List (List �
         let room : x.n + length es ≤ 2 ^ 30 = omega (arith, counted, few) in
         let so : plan ≡ plan_of written split next x es = planned written split next x es upto arrived plan is.3 plan_is in
         let some : 0 < length es = omega (arith, counted, more x.n (ap n_of is.2)) in
-        let same : AreRead written split x.shape (plan_of written split next x es).tables blocks = subst (λ (p : Planning). AreRead p.written p.split_rows p.shape p.tables blocks) so read in (
+        let same : AreRead written split x.shape (plan_of written split next x es).tables olds = subst (λ (p : Planning). AreRead p.written p.split_rows p.shape p.tables olds) so read in (
           x,
           is.2,
-          drafted written split next x es (record { plan = plan; blocks = blocks }) (law.current x is.2).sound is.3.lawful some room so same,
+          drafted written split next x es (record { plan = plan; olds = olds }) (law.current x is.2).sound is.3.lawful some room so same,
           ap (λ (p : Planning). p.written) so ∙ rows x is.2,
         )
 
+-- what a plan's merge reads, of an image
+abbrev pub FilesRead : Result (Vec OldPart Global) LogFault → Planning → Image → Type 0
+FilesRead result plan image = ArePartsRead result plan.split_rows (all_late 0 plan.written plan.split_rows plan.shape plan.tables) plan.shape image
+
 -- ---- of a history
 
-module _ (s : Book) (law : versions.IsStore s.versions) (rows : RowsAreFew) (upto : ℕ) (h : List Entry) (next : root.Version) (disk : Disk) (is : IsStore s h next disk) where
+module _ (one : OneBlockIsHeld) (spelled : OneColumnIsSpelled) (s : Book) (law : versions.IsStore s.versions) (rows : RowsAreFew) (upto : ℕ) (h : List Entry) (next : root.Version) (disk : Disk) (is : IsStore s h next disk) where
   pub drafted_from : (few : upto ≤ 2 ^ 30) (more : (n : ℕ) → current_n s.versions.versions ≡ Some n → n < upto) (written : List (List ℕ)) (split : ℕ) (arrived : Drafting) (plan : Planning)
       → IsArrivedFrom (Ok arrived) s h upto → plan ≡ planning arrived written split
-      → (list : Vec (Arc Block Global) Global)
-      → ((x : Version) → version_at s.versions.versions s.versions.versions.current ≡ Some x → AreReadFrom (Ok list) plan.written plan.split_rows plan.shape plan.tables h x.n)
-      → IsDraftedFrom (Ok (record { plan = plan; blocks = map arc_value list.items })) s h upto
+      → (list : Vec OldPart Global)
+      → FilesRead (Ok list) plan (reads_of disk)
+      → IsDraftedFrom (Ok (record { plan = plan; olds = list.items })) s h upto
   drafted_from few more written split arrived plan (x, at, has) plan_is list read =
       let shown : IsShown h x.n x.shape disk = shown_now s h next disk is x at in
       let es : List Entry = between h x.n upto in
@@ -107,7 +113,9 @@ module _ (s : Book) (law : versions.IsStore s.versions) (rows : RowsAreFew) (upt
       let room : x.n + length es ≤ 2 ^ 30 = omega (arith, counted, few) in
       let within : upto ≤ length h = omega (arith, counted, low, length-drop x.n (take upto h), length-take upto h) in
       let so : plan ≡ plan_of written split s.versions.versions.next_block x es = planned written split s.versions.versions.next_block x es upto arrived plan has plan_is in
-      let stands : StandsFor shown.blocks x.shape (first h x.n) = shown.stands in (
+      let stands : StandsFor shown.blocks x.shape (first h x.n) = shown.stands in
+      let tables : List StoredTable = (plan_of written split s.versions.versions.next_block x es).tables in
+      let files : ArePartsRead (Ok list) split (all_late 0 written split x.shape tables) x.shape (reads_of disk) = subst (λ (p : Planning). FilesRead (Ok list) p (reads_of disk)) so read in (
         x,
         shown.blocks,
         at,
@@ -125,46 +133,45 @@ module _ (s : Book) (law : versions.IsStore s.versions) (rows : RowsAreFew) (upt
           written = written;
           split = split;
           plan = so;
-          read = subst (λ (p : Planning). StandsFor shown.blocks p.shape (first h x.n) → map arc_value list.items ≡ read_in shown.blocks p.written p.split_rows p.shape p.tables) so (read x at shown.blocks) stands;
+          read = reads_are one spelled s h next disk is x at split written tables list files shown.blocks stands;
         },
       )
 
-  -- where the blocks aren't read
-  pub none_read : (cause : LogFault) (arrived : Drafting) (plan : Planning) → IsArrivedFrom (Ok arrived) s h upto
-      → ((x : Version) → version_at s.versions.versions s.versions.versions.current ≡ Some x → AreReadFrom (Err cause) plan.written plan.split_rows plan.shape plan.tables h x.n)
+  -- where a part isn't read
+  pub none_read : (cause : LogFault) (written : List (List ℕ)) (split : ℕ) (arrived : Drafting) (plan : Planning) → IsArrivedFrom (Ok arrived) s h upto → plan ≡ planning arrived written split
+      → FilesRead (Err cause) plan (reads_of disk)
       → IsDraftedFrom (Err cause) s h upto
-  none_read cause arrived plan (x, at, has) read = by cause (read x at)
+  none_read cause written split arrived plan (x, at, has) plan_is read =
+      let es : List Entry = between h x.n upto in
+      let so : plan ≡ plan_of written split s.versions.versions.next_block x es = planned written split s.versions.versions.next_block x es upto arrived plan has plan_is in
+      by cause (all_late 0 written split x.shape (plan_of written split s.versions.versions.next_block x es).tables) (subst (λ (p : Planning). FilesRead (Err cause) p (reads_of disk)) so read)
     where
-      by : (cause : LogFault) → AreReadFrom (Err cause) plan.written plan.split_rows plan.shape plan.tables h x.n → IsDraftedFrom (Err cause) s h upto
-      by (fault.Damaged file place) none = none
-      by fault.Vol none = tt
-      by fault.Memory none = tt
+      by : (cause : LogFault) (lates : List Late) → ArePartsRead (Err cause) split lates x.shape (reads_of disk) → IsDraftedFrom (Err cause) s h upto
+      by (fault.Damaged file place) lates lost = none_lost one spelled s h next disk is x at split lates file place lost
+      by fault.Vol lates lost = tt
+      by fault.Memory lates lost = tt
 
 -- the same of a volume that may tell nothing
-module _ (s : Book) (law : versions.IsStore s.versions) (rows : RowsAreFew) (upto : ℕ) (few : upto ≤ 2 ^ 30) (more : (n : ℕ) → current_n s.versions.versions ≡ Some n → n < upto)
+module _ (one : OneBlockIsHeld) (spelled : OneColumnIsSpelled) (s : Book) (law : versions.IsStore s.versions) (rows : RowsAreFew) (upto : ℕ) (few : upto ≤ 2 ^ 30) (more : (n : ℕ) → current_n s.versions.versions ≡ Some n → n < upto)
     (written : List (List ℕ)) (split : ℕ) (arrived : Drafting) (plan : Planning) (plan_is : plan ≡ planning arrived written split) where
   abbrev pub HasTold : Disk → Type 0
   HasTold disk = (h : List Entry) (next : root.Version) → IsStore s h next disk → IsArrivedFrom (Ok arrived) s h upto
 
-  abbrev pub ReadsTold : Result (Vec (Arc Block Global) Global) LogFault → Disk → Type 0
-  ReadsTold result disk = (h : List Entry) (next : root.Version) → IsStore s h next disk → (x : Version)
-      → version_at s.versions.versions s.versions.versions.current ≡ Some x → AreReadFrom result plan.written plan.split_rows plan.shape plan.tables h x.n
-
   abbrev pub DraftsTold : Result Drafted LogFault → Disk → Type 0
   DraftsTold result disk = (h : List Entry) (next : root.Version) → IsStore s h next disk → IsDraftedFrom result s h upto
 
-  pub drafted_told : (list : Vec (Arc Block Global) Global) (o now : Option Disk) → now ≡ o → IfSome o HasTold → IfSome now (ReadsTold (Ok list))
-      → IfSome o (DraftsTold (Ok (record { plan = plan; blocks = map arc_value list.items })))
+  pub drafted_told : (list : Vec OldPart Global) (o now : Option Disk) → now ≡ o → IfSome o HasTold → IfSome now (λ disk. FilesRead (Ok list) plan (reads_of disk))
+      → IfSome o (DraftsTold (Ok (record { plan = plan; olds = list.items })))
   drafted_told list None now same has read = tt
   drafted_told list (Some disk) now same has read =
-      let told : ReadsTold (Ok list) disk = subst (λ (o : Option Disk). IfSome o (ReadsTold (Ok list))) same read in
-      λ h next is. drafted_from s law rows upto h next disk is few more written split arrived plan (has h next is) plan_is list (told h next is)
+      let told : FilesRead (Ok list) plan (reads_of disk) = subst (λ (o : Option Disk). IfSome o (λ disk. FilesRead (Ok list) plan (reads_of disk))) same read in
+      λ h next is. drafted_from one spelled s law rows upto h next disk is few more written split arrived plan (has h next is) plan_is list told
 
-  pub undrafted_told : (cause : LogFault) (o now : Option Disk) → now ≡ o → IfSome o HasTold → IfSome now (ReadsTold (Err cause)) → IfSome o (DraftsTold (Err cause))
+  pub undrafted_told : (cause : LogFault) (o now : Option Disk) → now ≡ o → IfSome o HasTold → IfSome now (λ disk. FilesRead (Err cause) plan (reads_of disk)) → IfSome o (DraftsTold (Err cause))
   undrafted_told cause None now same has read = tt
   undrafted_told cause (Some disk) now same has read =
-      let told : ReadsTold (Err cause) disk = subst (λ (o : Option Disk). IfSome o (ReadsTold (Err cause))) same read in
-      λ h next is. none_read s law rows upto h next disk is cause arrived plan (has h next is) (told h next is)
+      let told : FilesRead (Err cause) plan (reads_of disk) = subst (λ (o : Option Disk). IfSome o (λ disk. FilesRead (Err cause) plan (reads_of disk))) same read in
+      λ h next is. none_read one spelled s law rows upto h next disk is cause written split arrived plan (has h next is) plan_is told
 
 -- ---- where a draft finds damage
 
@@ -177,22 +184,24 @@ module _ {T : Type 0} (result : Result T LogFault) (cause : LogFault) (failed : 
       subst (λ (f : LogFault). AreArrived (Err f) s upto (reads_of disk)) (same_cause result cause (fault.Damaged file at) failed damaged) read
 
   -- behind that
-  module _ {B : Type 0} (blocks : Result B LogFault) (lost : blocks ≡ Err cause) (written : List (List ℕ)) (arrived : Drafting) (plan : Planning) (plan_is : plan ≡ planning arrived written s.limits.split_rows)
+  module _ (written : List (List ℕ)) (arrived : Drafting) (plan : Planning) (plan_is : plan ≡ planning arrived written s.limits.split_rows)
       (rows : (x : Version) → version_at s.versions.versions s.versions.versions.current ≡ Some x → written ≡ rows_written s.versions.versions x.shape) where
-    in_blocks : (image : Image) (file at : ℕ) → AreArrived (Ok arrived) s upto image → LosesBlock (all_touched 0 plan.written plan.split_rows plan.shape plan.tables) plan.shape image file at → IsDraftDamage s upto image file at
-    in_blocks image file at (x, es, current, spelled, has) loses = (
-      x,
-      current,
-      IsDamagedOver.InBlocks es file at spelled has.lawful
-          (subst (λ (w : List (List ℕ)). LosesBlock (all_touched 0 w s.limits.split_rows x.shape (plan_of w s.limits.split_rows s.versions.versions.next_block x es).tables) x.shape image file at) (rows x current)
-          (subst (λ (p : Planning). LosesBlock (all_touched 0 p.written p.split_rows p.shape p.tables) p.shape image file at) (planned written s.limits.split_rows s.versions.versions.next_block x es upto arrived plan has plan_is) loses)),
-    )
+    in_blocks : (image : Image) (file at : ℕ) → AreArrived (Ok arrived) s upto image → FilesRead (Err (fault.Damaged file at)) plan image → IsDraftDamage s upto image file at
+    in_blocks image file at (x, es, current, spelled, has) loses =
+        let split : ℕ = s.limits.split_rows in
+        let next : ℕ = s.versions.versions.next_block in (
+          x,
+          current,
+          IsDamagedOver.InBlocks es file at spelled has.lawful
+              (subst (λ (w : List (List ℕ)). LosesBlock split (all_late 0 w split x.shape (plan_of w split next x es).tables) x.shape image file at) (rows x current)
+              (subst (λ (p : Planning). FilesRead (Err (fault.Damaged file at)) p image) (planned written split next x es upto arrived plan has plan_is) loses)),
+        )
 
     pub reads_damaged : (o now : Option Disk) → now ≡ o → IfSome o (λ disk. AreArrived (Ok arrived) s upto (reads_of disk))
-        → IfSome now (λ disk. (file at : ℕ) → blocks ≡ Err (fault.Damaged file at) → LosesBlock (all_touched 0 plan.written plan.split_rows plan.shape plan.tables) plan.shape (reads_of disk) file at)
+        → IfSome now (λ disk. FilesRead (Err cause) plan (reads_of disk))
         → IfSome o (λ disk. (file at : ℕ) → result ≡ Err (fault.Damaged file at) → IsDraftDamage s upto (reads_of disk) file at)
     reads_damaged None now same has loses = tt
     reads_damaged (Some disk) now same has loses = λ file at damaged.
         in_blocks (reads_of disk) file at has
-        (subst (λ (p : Option Disk). IfSome p (λ disk. (file at : ℕ) → blocks ≡ Err (fault.Damaged file at) → LosesBlock (all_touched 0 plan.written plan.split_rows plan.shape plan.tables) plan.shape (reads_of disk) file at)) same loses
-        file at (subst (λ (f : LogFault). blocks ≡ Err f) (same_cause result cause (fault.Damaged file at) failed damaged) lost))
+        (subst (λ (f : LogFault). FilesRead (Err f) plan (reads_of disk)) (same_cause result cause (fault.Damaged file at) failed damaged)
+        (subst (λ (p : Option Disk). IfSome p (λ disk. FilesRead (Err cause) plan (reads_of disk))) same loses))

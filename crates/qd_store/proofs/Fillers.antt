@@ -4,8 +4,8 @@ use Rattle.std.proofs.Common.{◌≡◌, ℕ, zero, suc, ◌-◌, ◌<◌, ◌�
 use Rattle.std.specs.List.{AllByRecursion}
 use Rattle.std.proofs.lemmas.List.{get_or-replicate, length-map, length-replicate, length-take-le}
 use Rattle.std.proofs.lemmas.List.Elements.{All-from_recursion}
+use Rattle.qd_base.specs.declared.cell.Cell.{Cell}
 use Rattle.qd_base.specs.declared.cell.Cell.TheVariants as cell
-use Rattle.qd_base.specs.declared.limits.TheConstants.{MAX_TIME}
 use Rattle.qd_base.specs.declared.part.Part.{Part}
 use Rattle.qd_base.specs.declared.schema.Col.{Col}
 use Rattle.qd_base.specs.declared.schema.ColType.{ColType}
@@ -23,41 +23,44 @@ use Rattle.qd_scan.specs.Sources.{IsBlockOf}
 
 -- ---- a row
 
--- a time in one column, and in each other one what a row lacks
-abbrev pub row_of : List Col → ℕ → ℕ → Row
-row_of [] col time = []
-row_of (c ∷ cols) zero time = cell.Time time ∷ absent cols
-row_of (c ∷ cols) (suc col) time = missing c.kind ∷ row_of cols col time
+-- a cell in one column, and in each other one what a row lacks
+abbrev pub row_with : List Col → ℕ → Cell → Row
+row_with [] col x = []
+row_with (c ∷ cols) zero x = x ∷ absent cols
+row_with (c ∷ cols) (suc col) x = missing c.kind ∷ row_with cols col x
 
-abbrev IsTime : Col → Type 0
+abbrev pub row_of : List Col → ℕ → ℕ → Row
+row_of cols col time = row_with cols col (cell.Time time)
+
+abbrev pub IsTime : Col → Type 0
 IsTime c = c.kind ≡ kind.Time
 
 absent_fits : (cols : List Col) → HasKinds cols (absent cols)
 absent_fits [] = tt
 absent_fits (c ∷ cols) = (missing-taken c.kind, absent_fits cols)
 
-row_fits : (cols : List Col) (col time : ℕ) → IsSomeAnd (slice_get cols col) IsTime → time ≤ MAX_TIME → HasKinds cols (row_of cols col time)
-row_fits [] col time there few = absurd there
-row_fits (c ∷ cols) zero time there few = (subst (λ (k : ColType). Takes k (cell.Time time)) (sym there) few, absent_fits cols)
-row_fits (c ∷ cols) (suc col) time there few = (missing-taken c.kind, row_fits cols col time there few)
+pub row_fits : (cols : List Col) (col : ℕ) (x : Cell) → IsSomeAnd (slice_get cols col) IsTime → Takes kind.Time x → HasKinds cols (row_with cols col x)
+row_fits [] col x there takes = absurd there
+row_fits (c ∷ cols) zero x there takes = (subst (λ (k : ColType). Takes k x) (sym there) takes, absent_fits cols)
+row_fits (c ∷ cols) (suc col) x there takes = (missing-taken c.kind, row_fits cols col x there takes)
 
-row_timed : (cols : List Col) (col time : ℕ) → IsSomeAnd (slice_get cols col) IsTime → cell_at (row_of cols col time) col ≡ cell.Time time
-row_timed [] col time there = absurd there
-row_timed (c ∷ cols) zero time there = refl
-row_timed (c ∷ cols) (suc col) time there = row_timed cols col time there
+pub row_has : (cols : List Col) (col : ℕ) (x : Cell) → IsSomeAnd (slice_get cols col) IsTime → cell_at (row_with cols col x) col ≡ x
+row_has [] col x there = absurd there
+row_has (c ∷ cols) zero x there = refl
+row_has (c ∷ cols) (suc col) x there = row_has cols col x there
 
 is_timed : (row : Row) (col time : ℕ) → cell_at row col ≡ cell.Time time → IsTimed col row
 is_timed row col time at null = let other : cell.Time time ≡ cell.Null = sym at ∙ null in cc
 
 -- ---- the first columns
 
-first_there : (cols : List Col) (n col : ℕ) → col < n → IsSomeAnd (slice_get cols col) IsTime → IsSomeAnd (slice_get (take n cols) col) IsTime
+pub first_there : (cols : List Col) (n col : ℕ) → col < n → IsSomeAnd (slice_get cols col) IsTime → IsSomeAnd (slice_get (take n cols) col) IsTime
 first_there cols zero col lt there = absurd (omega arith)
 first_there [] (suc n) col lt there = absurd there
 first_there (c ∷ cols) (suc n) zero lt there = there
 first_there (c ∷ cols) (suc n) (suc col) lt there = first_there cols n col (omega arith) there
 
-kind_there : (cols : List Col) (n col : ℕ) → col < n → IsSomeAnd (slice_get cols col) IsTime → slice_get (take n (kinds_in cols)) col ≡ Some kind.Time
+pub kind_there : (cols : List Col) (n col : ℕ) → col < n → IsSomeAnd (slice_get cols col) IsTime → slice_get (take n (kinds_in cols)) col ≡ Some kind.Time
 kind_there cols zero col lt there = absurd (omega arith)
 kind_there [] (suc n) col lt there = absurd there
 kind_there (c ∷ cols) (suc n) zero lt there = ap Some there
@@ -132,10 +135,10 @@ filler_fits s p schema is one =
     let there = first_there s.cols p.cols col is.timed schema.designated in
     let size : length cols ≡ p.cols = length-take-le p.cols s.cols is.columns in
     let kinds_size : length (take p.cols (kinds_in s.cols)) ≡ p.cols = length-take-le p.cols (kinds_in s.cols) (let e = length-map s.cols (λ (c : Col). c.kind) in let few = is.columns in omega (arith, e, few)) in
-    let low_fits = row_fits cols col p.lo there (let a = is.in_order in let b = is.timely in omega (arith, a, b)) in
-    let high_fits = row_fits cols col p.hi there is.timely in
-    let low_at = row_timed cols col p.lo there in
-    let high_at = row_timed cols col p.hi there in
+    let low_fits = row_fits cols col (cell.Time p.lo) there (let a = is.in_order in let b = is.timely in omega (arith, a, b)) in
+    let high_fits = row_fits cols col (cell.Time p.hi) there is.timely in
+    let low_at = row_has cols col (cell.Time p.lo) there in
+    let high_at = row_has cols col (cell.Time p.hi) there in
     let low_time : time_of col low ≡ p.lo = ap time_in low_at in
     let high_time : time_of col high ≡ p.hi = ap time_in high_at in
     let wide : (time : ℕ) → HasKinds cols (row_of cols col time) → length (row_of cols col time) ≡ length (take p.cols (kinds_in s.cols)) =

@@ -9,7 +9,8 @@ use Rattle.qd_apply.specs.Arrivals.{arrivals}
 use Rattle.qd_apply.specs.Drafts.{Planning}
 use Rattle.qd_apply.specs.Laws.{IsGrowth, MergingStands}
 use Rattle.qd_apply.specs.Next.{all_grown, all_made, shape_after, TableGrowth}
-use Rattle.qd_apply.specs.Plans.{read_in}
+use Rattle.qd_apply.specs.declared.olds.OldPart.{OldPart}
+use Rattle.qd_apply.specs.Olds.{old_read}
 use Rattle.qd_apply.proofs.ServeLemmas.{grown_again, made_again, shape_again}
 use Rattle.qd_manifest.specs.Spelling.{schemas_in}
 use Rattle.qd_versions.specs.declared.published.NewBlock.{NewBlock}
@@ -23,40 +24,40 @@ pub record Makes (d : Drafted) (m : Merging) (first : ℕ) : Type 0 where
   pub base : m.base ≡ d.plan.base
   pub upto : m.upto ≡ d.plan.upto
   pub first_is : first ≡ d.plan.next_block
-  pub shape : (contents : ℕ → Block) → d.blocks ≡ read_in contents d.plan.written d.plan.split_rows d.plan.shape d.plan.tables
+  pub shape : (contents : ℕ → Block) → d.olds ≡ old_read contents d.plan.written d.plan.split_rows d.plan.shape d.plan.tables
       → m.shape ≡ shape_after contents d.plan.next_block d.plan.written d.plan.split_rows d.plan.shape d.plan.tables
   pub numbered : AreNumbered first m.blocks
-  pub blocks : (contents : ℕ → Block) → d.blocks ≡ read_in contents d.plan.written d.plan.split_rows d.plan.shape d.plan.tables
+  pub blocks : (contents : ℕ → Block) → d.olds ≡ old_read contents d.plan.written d.plan.split_rows d.plan.shape d.plan.tables
       → map (λ (b : NewBlock). arc_value b.of) m.blocks ≡ all_made contents d.plan.written d.plan.split_rows d.plan.shape d.plan.tables
-  pub grown : (contents : ℕ → Block) → d.blocks ≡ read_in contents d.plan.written d.plan.split_rows d.plan.shape d.plan.tables
+  pub grown : (contents : ℕ → Block) → d.olds ≡ old_read contents d.plan.written d.plan.split_rows d.plan.shape d.plan.tables
       → map growth_of m.grown ≡ all_grown contents d.plan.written d.plan.split_rows d.plan.shape d.plan.tables
 
--- by what is lent of the blocks that are read, of those that are made, and of the rows that go behind others
-module _ {A G : Type 0} (value : A → Block) (growth : G → TableGrowth) (plan : Planning) (blocks given made lent : List A) (more rows : List G) (m : Merging) (first : ℕ)
-    (given_is : given ≡ blocks) (lent_is : lent ≡ made) (rows_is : rows ≡ more) where
+-- by what is lent of what is read, of the blocks that are made, and of the rows that go behind others
+module _ {A G : Type 0} (value : A → Block) (growth : G → TableGrowth) (plan : Planning) (olds given : List OldPart) (made lent : List A) (more rows : List G) (m : Merging) (first : ℕ)
+    (given_is : given ≡ olds) (lent_is : lent ≡ made) (rows_is : rows ≡ more) where
   abbrev AreGiven : (ℕ → Block) → Type 0
-  AreGiven contents = map value given ≡ read_in contents plan.written plan.split_rows plan.shape plan.tables
+  AreGiven contents = given ≡ old_read contents plan.written plan.split_rows plan.shape plan.tables
 
   pub makes : m.base ≡ plan.base → m.upto ≡ plan.upto → first ≡ plan.next_block
       → ((contents : ℕ → Block) → AreGiven contents → m.shape ≡ shape_after contents plan.next_block plan.written plan.split_rows plan.shape plan.tables)
       → ((contents : ℕ → Block) → AreGiven contents → map value made ≡ all_made contents plan.written plan.split_rows plan.shape plan.tables)
       → ((contents : ℕ → Block) → AreGiven contents → map growth more ≡ all_grown contents plan.written plan.split_rows plan.shape plan.tables)
       → AreNumbered first m.blocks → map (λ (b : NewBlock). arc_value b.of) m.blocks ≡ map value lent → map growth_of m.grown ≡ map growth rows
-      → Makes (record { plan = plan; blocks = map value blocks }) m first
+      → Makes (record { plan = plan; olds = olds }) m first
   makes base upto first_is shape all behind numbered new put = record {
     base = base;
     upto = upto;
     first_is = first_is;
-    shape = λ contents e. shape contents (ap (map value) given_is ∙ e);
+    shape = λ contents e. shape contents (given_is ∙ e);
     numbered = numbered;
-    blocks = λ contents e. new ∙ ap (map value) lent_is ∙ all contents (ap (map value) given_is ∙ e);
-    grown = λ contents e. put ∙ ap (map growth) rows_is ∙ behind contents (ap (map value) given_is ∙ e);
+    blocks = λ contents e. new ∙ ap (map value) lent_is ∙ all contents (given_is ∙ e);
+    grown = λ contents e. put ∙ ap (map growth) rows_is ∙ behind contents (given_is ∙ e);
   }
 
 module _ (next : ℕ) (x : Version) (es : List Entry) (contents : ℕ → Block) (db : Database) (d : Drafted) (is : IsDraft next x es contents db d) where
-  -- the blocks that are read, as the plan has it
-  read_as : d.blocks ≡ read_in contents d.plan.written d.plan.split_rows d.plan.shape d.plan.tables
-  read_as = is.read ∙ ap (λ (p : Planning). read_in contents p.written p.split_rows p.shape p.tables) (sym is.plan)
+  -- what is read, as the plan has it
+  read_as : d.olds ≡ old_read contents d.plan.written d.plan.split_rows d.plan.shape d.plan.tables
+  read_as = is.read ∙ ap (λ (p : Planning). old_read contents p.written p.split_rows p.shape p.tables) (sym is.plan)
 
   pub is_merged : (m : Merging) (first : ℕ) → Makes d m first → IsMerged next x es contents db m
   is_merged m first makes =

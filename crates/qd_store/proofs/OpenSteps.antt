@@ -1,5 +1,5 @@
 -- What the calls of an opening make of a volume that may be told, one behind another.
-use Rattle.std.proofs.Common.{◌≡◌, ℕ, Bool, true, false, List, length, Option, Some, None, Ok, Err, IfSome, unwrap_or, ◌≤◌, sym, ◌∙◌, ap, subst}
+use Rattle.std.proofs.Common.{◌≡◌, ℕ, Bool, true, false, List, [], length, Option, Some, None, Ok, Err, IfSome, unwrap_or, ◌≤◌, sym, ◌∙◌, ap, subst}
 use Rattle.qd_base.specs.declared.part.WalRef.{WalRef}
 use Rattle.qd_base.specs.declared.schema.Schema.{Schema}
 use Rattle.qd_catalog.specs.declared.version.Version as catalog
@@ -105,10 +105,10 @@ module _ (lists : OneListIsGiven) (roots : OneVersionIsGiven) (manifests : OneMa
       (subst (λ (k : ℕ). IfSome between (IsTakenOver (Err e) refs k schemas)) number over)
       (λ a b root over. told.entries_failed lists roots manifests refs v m sound opened schemas schemas_are a b root e over)
 
-  pub store_opened : DamagedGivesNone → DamagedGivesNoStore → v.root.n ≤ length refs → (s : Book) → s.versions ≡ v → s.sequence.refs ≡ refs → IfSome between (IsTakenOver (Ok s.sequence) refs n schemas) → Told old now (Opens (Ok s))
-  store_opened log_none none few s versions_are refs_same over = told_with (HasRoot refs v) (IsTakenOver (Ok s.sequence) refs v.root.n schemas) (Opens (Ok s)) old between now has same
+  pub store_opened : DamagedGivesNone → DamagedGivesNoStore → v.root.n ≤ length refs → v.kept ≡ [] → (s : Book) → s.versions ≡ v → s.sequence.refs ≡ refs → IfSome between (IsTakenOver (Ok s.sequence) refs n schemas) → Told old now (Opens (Ok s))
+  store_opened log_none none few nothing s versions_are refs_same over = told_with (HasRoot refs v) (IsTakenOver (Ok s.sequence) refs v.root.n schemas) (Opens (Ok s)) old between now has same
       (subst (λ (k : ℕ). IfSome between (IsTakenOver (Ok s.sequence) refs k schemas)) number over)
-      (λ a b root over. told.store_opened lists roots manifests refs v m sound opened schemas schemas_are a b root log_none none few s versions_are refs_same over)
+      (λ a b root over. told.store_opened lists roots manifests refs v m sound opened schemas schemas_are a b root log_none none few nothing s versions_are refs_same over)
 
 pub book_of_one : (s : Book) (m : Manifest) → AreLimits s.limits → length s.sequence.refs ≤ MAX_TXNS → rows.IsOpened s.versions.versions s.versions.root.n m.next_block m.shape → s.versions.root.n ≤ length s.sequence.refs → IsBook s
 book_of_one s m limits few opened all = record {

@@ -259,8 +259,8 @@ module _ (lists : OneListIsGiven) (roots : OneVersionIsGiven) (manifests : OneMa
     undamaged file at (InVersions others place byte gives damaged) = versions_whole others gives place byte damaged
     undamaged file at (InEntries others n k place byte gives other given breaks) = entries_whole others gives n k place byte other given breaks
 
-  pub store_opened : DamagedGivesNone → DamagedGivesNoStore → v.root.n ≤ length refs → (s : Book) → s.versions ≡ v → s.sequence.refs ≡ refs → IsTakenOver (Ok s.sequence) refs v.root.n schemas after → Opens (Ok s) before after
-  store_opened log_none none few s versions_are refs_same over = record {
+  pub store_opened : DamagedGivesNone → DamagedGivesNoStore → v.root.n ≤ length refs → v.kept ≡ [] → (s : Book) → s.versions ≡ v → s.sequence.refs ≡ refs → IsTakenOver (Ok s.sequence) refs v.root.n schemas after → Opens (Ok s) before after
+  store_opened log_none none few nothing s versions_are refs_same over = record {
     found = (
       has.log.made,
       λ whole g finds.
@@ -271,7 +271,7 @@ module _ (lists : OneListIsGiven) (roots : OneVersionIsGiven) (manifests : OneMa
             stands = λ next. record {
               sequence = over.1 g.history (found_here whole g finds);
               versions = subst (λ (x : stores.Store). HasVersions x g.history next after) (sym versions_are)
-                  (opened_versions manifests v m sound opened g finds.manifest is after next
+                  (opened_versions manifests v m sound opened g finds.manifest is nothing after next
                   (made_there lists roots manifests before after whole g finds (reads_now before) has.log.synced.images.now refs has.log.read has.log.now (current_version v.versions) has.read has.now)
                   has.rooted
                   (shown_there lists roots manifests before after whole g finds (reads_now before) has.log.synced.images.now refs has.log.read has.log.now (current_version v.versions) has.read has.now));

@@ -14,6 +14,7 @@ use Rattle.qd_txnfile.specs.States.{HasNext, IsDirty, IsNext}
 use Rattle.qd_txnfile.specs.Versions.{Version}
 use Rattle.qd_versions.specs.Stores as versions
 use Rattle.qd_versions.specs.Stores.{IsRooted, current_version, stored, stored_version}
+use Rattle.qd_versions.proofs.KeptTails.{none_kept}
 use Rattle.qd_volume.specs.Disk.{Disk}
 use Rattle.qd_store.specs.Marks.{IsMade}
 use Rattle.qd_store.specs.Prefixes.{IsShown}
@@ -76,12 +77,13 @@ module _ (manifests : OneManifestIsSpelled) (v : versions.Store) (m : Manifest) 
   pub shape_is : m.shape ≡ f.manifest.shape
   shape_is = ap (λ (x : Manifest). x.shape) same.1
 
-  pub opened_versions : (disk : Disk) (next : Version) → EachNow disk IsMade → ((next : Version) → IsRooted v next disk) → IsShown f.history f.n f.manifest.shape disk → HasVersions v f.history next disk
-  opened_versions disk next made rooted shown = record {
+  pub opened_versions : v.kept ≡ [] → (disk : Disk) (next : Version) → EachNow disk IsMade → ((next : Version) → IsRooted v next disk) → IsShown f.history f.n f.manifest.shape disk → HasVersions v f.history next disk
+  opened_versions none disk next made rooted shown = record {
     made = made;
     rooted = rooted next;
     pending = λ dirty. absurd (never_dirty v disk rooted dirty);
     live = λ row x at.
         let here : IsShown f.history v.root.n m.shape disk = subst (λ (k : ℕ). IsShown f.history k m.shape disk) (sym number_is) (subst (λ (l : List TableParts). IsShown f.history f.n l disk) (sym shape_is) shown) in
         subst (λ (y : catalog.Version). IsShown f.history y.n y.shape disk) (sym (one_of_it v.versions v.root.n m.next_block m.shape opened row x at)) here;
+    kept = none_kept v disk none;
   }

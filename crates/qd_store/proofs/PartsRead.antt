@@ -157,7 +157,7 @@ module _ (blocks : ℕ → Block) (shape : List TableParts) (db : Database) (sta
 -- ---- what is read
 
 module _ (one : OneBlockIsHeld) (h : List Entry) (n : ℕ) (shape : List TableParts) (disk : Disk) (shown : IsShown h n shape disk) (t : TableParts) (p : Part) (table i : ℕ) (its_table : slice_get shape table ≡ Some t) (its_part : slice_get t.parts i ≡ Some p) where
-  held_there : HoldsBlock p.block (shown.blocks p.block) (reads_of disk)
+  pub held_there : HoldsBlock p.block (shown.blocks p.block) (reads_of disk)
   held_there =
       All-contains (λ b. HoldsBlock b (shown.blocks b) (reads_of disk)) (blocks_of shape) p.block (shown.held (reads_of disk) (reads_left disk))
       (in_shape shape t p (got shape table t its_table) (got t.parts i p its_part))
@@ -168,7 +168,7 @@ module _ (one : OneBlockIsHeld) (h : List Entry) (n : ℕ) (shape : List TablePa
   pub read_is : (b : Block) → IsBlockRead (Ok b) t.schema p (reads_of disk) → b ≡ shown.blocks p.block
   read_is b read = one t.schema p p.block b (shown.blocks p.block) (reads_of disk) read.1 fits read.0 held_there
 
-  there_whole : IsWhole (shown.blocks p.block)
+  pub there_whole : IsWhole (shown.blocks p.block)
   there_whole =
       All-contains (λ (q : Part). IsWhole (shown.blocks q.block)) t.parts p
       (All-contains (λ (u : TableParts). All (λ (q : Part). IsWhole (shown.blocks q.block)) u.parts) shape t shown.stands.whole (got shape table t its_table)) (got t.parts i p its_part)

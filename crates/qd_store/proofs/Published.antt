@@ -16,6 +16,7 @@ use Rattle.qd_versions.specs.declared.fault.PublishFault.{PublishFault}
 use Rattle.qd_versions.specs.declared.published.GrownBlock.{GrownBlock}
 use Rattle.qd_versions.specs.declared.published.NewBlock.{NewBlock}
 use Rattle.qd_versions.specs.Calls as roots
+use Rattle.qd_versions.specs.Kept.{KeepsTails}
 use Rattle.qd_versions.specs.Publishing.{MayGrow, MayPublish, grown_blocks, is_published_file}
 use Rattle.qd_versions.specs.Stores as versions
 use Rattle.qd_versions.specs.Stores.{IsRooted, stored}
@@ -35,20 +36,24 @@ module _ (result : Result ℕ PublishFault) (old new : Book) (n : ℕ) (shape : 
     (p : roots.Publishes result old.versions new.versions v blocks grown before after) where
   pub publishes : Publishes result old new n shape blocks grown v before after
   publishes = record {
-    any_moment = λ h last is next. publish_moments old n shape blocks grown v before after law logs fronts columns v_is may grows numbered p.elsewhere p.keeps h last is next (p.any_moment last (shown old n shape blocks grown v before after law logs fronts columns v_is may grows numbered p.elsewhere p.keeps h last is next).blocks is.versions.rooted (shown_held old n shape blocks grown v before after law logs fronts columns v_is may grows numbered p.elsewhere p.keeps h last is next));
-    behind = λ h last is next. by h last is next result added same (p.behind last (shown old n shape blocks grown v before after law logs fronts columns v_is may grows numbered p.elsewhere p.keeps h last is next).blocks is.versions.rooted (shown_held old n shape blocks grown v before after law logs fronts columns v_is may grows numbered p.elsewhere p.keeps h last is next));
+    any_moment = λ h last is next. publish_moments old n shape blocks grown v before after law logs fronts columns v_is may grows numbered p.elsewhere (λ held. p.keeps held is.versions.kept) h last is next (p.any_moment last (shown old n shape blocks grown v before after law logs fronts columns v_is may grows numbered p.elsewhere (λ held. p.keeps held is.versions.kept) h last is next).blocks is.versions.rooted is.versions.kept (shown_held old n shape blocks grown v before after law logs fronts columns v_is may grows numbered p.elsewhere (λ held. p.keeps held is.versions.kept) h last is next));
+    behind = λ h last is next. by h last is next result added same (p.behind last (shown old n shape blocks grown v before after law logs fronts columns v_is may grows numbered p.elsewhere (λ held. p.keeps held is.versions.kept) h last is next).blocks is.versions.rooted is.versions.kept (shown_held old n shape blocks grown v before after law logs fronts columns v_is may grows numbered p.elsewhere (λ held. p.keeps held is.versions.kept) h last is next));
     pending = λ h last is.
         subst (λ (q : Sequence). PendsAsBefore old.sequence.pending q.pending before after) (sym logs_same)
         (logs (is_published_file old.versions.versions.next_block (grown_blocks old.versions.versions grown)) old.sequence h before after
         (publish_elsewhere old.versions.versions.next_block (grown_blocks old.versions.versions grown) (small_numbers old.versions law grown grows)) p.elsewhere is.sequence).2;
   }
     where
+      tails : (h : List Entry) (last : Version) → IsStore old h last before → StandsNext old h n shape blocks grown → KeepsTails new.versions after
+      tails h last is next = p.tails (shown old n shape blocks grown v before after law logs fronts columns v_is may grows numbered p.elsewhere (λ held. p.keeps held is.versions.kept) h last is next).blocks is.versions.kept
+          (shown_held old n shape blocks grown v before after law logs fronts columns v_is may grows numbered p.elsewhere (λ held. p.keeps held is.versions.kept) h last is next)
+
       by : (h : List Entry) (last : Version) (is : IsStore old h last before) (next : StandsNext old h n shape blocks grown) → (r : Result ℕ PublishFault) → IfOk r (λ row. Adds old.versions.versions new.versions.versions n shape row) → OnErr r (SameVersions old.versions.versions new.versions.versions)
-          → roots.IsPublished r old.versions new.versions last v blocks grown (shown old n shape blocks grown v before after law logs fronts columns v_is may grows numbered p.elsewhere p.keeps h last is next).blocks before after → IsPublished r new h last v after
-      by h last is next (Ok row) adds other (whole, rooted) = λ later. is_published old n shape blocks grown v before after law logs fronts columns v_is may grows numbered p.elsewhere p.keeps h last is next new logs_same row adds whole rooted later
-      by h last is next (Err fault) other rows_same (inl (dirty, (rooted, alone))) = inl (failed_in_repair old n shape blocks grown v before after law logs fronts columns v_is may grows numbered p.elsewhere p.keeps h last is next new logs_same rows_same dirty rooted alone)
-      by h last is next (Err fault) other rows_same (inr (inl (rooted, clean))) = inl (failed_clean old n shape blocks grown v before after law logs fronts columns v_is may grows numbered p.elsewhere p.keeps h last is next new logs_same rows_same clean rooted)
-      by h last is next (Err fault) other rows_same (inr (inr (rooted, all))) = inr (failed_at_gate old n shape blocks grown v before after law logs fronts columns v_is may grows numbered p.elsewhere p.keeps h last is next new logs_same rows_same rooted all)
+          → roots.IsPublished r old.versions new.versions last v blocks grown (shown old n shape blocks grown v before after law logs fronts columns v_is may grows numbered p.elsewhere (λ held. p.keeps held is.versions.kept) h last is next).blocks before after → IsPublished r new h last v after
+      by h last is next (Ok row) adds other (whole, rooted) = λ later. is_published old n shape blocks grown v before after law logs fronts columns v_is may grows numbered p.elsewhere (λ held. p.keeps held is.versions.kept) h last is next new logs_same (tails h last is next) row adds whole rooted later
+      by h last is next (Err fault) other rows_same (inl (dirty, (rooted, alone))) = inl (failed_in_repair old n shape blocks grown v before after law logs fronts columns v_is may grows numbered p.elsewhere (λ held. p.keeps held is.versions.kept) h last is next new logs_same (tails h last is next) rows_same dirty rooted alone)
+      by h last is next (Err fault) other rows_same (inr (inl (rooted, clean))) = inl (failed_clean old n shape blocks grown v before after law logs fronts columns v_is may grows numbered p.elsewhere (λ held. p.keeps held is.versions.kept) h last is next new logs_same (tails h last is next) rows_same clean rooted)
+      by h last is next (Err fault) other rows_same (inr (inr (rooted, all))) = inr (failed_at_gate old n shape blocks grown v before after law logs fronts columns v_is may grows numbered p.elsewhere (λ held. p.keeps held is.versions.kept) h last is next new logs_same (tails h last is next) rows_same rooted all)
 
 pub published_told : (result : Result ℕ PublishFault) (old inside new : Book) (n : ℕ) (shape : List TableParts) (blocks : List NewBlock) (grown : List GrownBlock) (before after : Option Disk) → old ≡ inside → versions.IsStore inside.versions → OtherFilesLeaveTheSequence
     → FirstRowsAreHeld → OneColumnIsSpelled

@@ -33,6 +33,7 @@ use Rattle.qd_txnfile.specs.Versions.{GivesVersion, Version, is_version_file}
 use Rattle.qd_versions.specs.declared.published.GrownBlock.{GrownBlock}
 use Rattle.qd_versions.specs.declared.published.NewBlock.{NewBlock}
 use Rattle.qd_versions.specs.Publishing.{AreHeldBy, GivesBefore, GivesWhole, HoldsAll, HoldsGrown, KeepsGrown, MayGrow, MayPublish, grown_blocks, is_published_file}
+use Rattle.qd_versions.specs.Kept.{KeepsTails}
 use Rattle.qd_versions.specs.Reading.{IsPartAt}
 use Rattle.qd_versions.specs.Stores as versions
 use Rattle.qd_versions.specs.Stores.{IsRooted, current_version, manifest_in, stored}
@@ -260,7 +261,7 @@ module _ (old : Book) (n : ℕ) (shape : List TableParts) (blocks : List NewBloc
         held = live_held row y there theirs (nat_eq row old.versions.versions.current) refl;
       }
 
-  module _ (new : Book) (logs_same : new.sequence ≡ old.sequence) where
+  module _ (new : Book) (logs_same : new.sequence ≡ old.sequence) (kept : KeepsTails new.versions after) where
     sequence_now : IsSequence new.sequence h after
     sequence_now = subst (λ (s : _). IsSequence s h after) (sym logs_same) sequence_kept
 
@@ -272,6 +273,7 @@ module _ (old : Book) (n : ℕ) (shape : List TableParts) (blocks : List NewBloc
         rooted = rooted later;
         pending = λ dirty. absurd (never_dirty new.versions after rooted dirty);
         live = λ r y there. by r y (set_some old.versions.versions.versions row r (record { n = n; shape = shape }) y (subst (λ (l : List (Option catalog.Version)). get_or l r None ≡ Some y) adds.versions there));
+        kept = kept;
       };
     }
       where
@@ -304,6 +306,7 @@ module _ (old : Book) (n : ℕ) (shape : List TableParts) (blocks : List NewBloc
             blocks = λ b in_shape. by b (p.blocks b in_shape);
           };
           live = live_same;
+          kept = kept;
         };
       }
         where
@@ -315,7 +318,7 @@ module _ (old : Book) (n : ℕ) (shape : List TableParts) (blocks : List NewBloc
       pub failed_clean : (IsDirty new.versions.root.other → ⊥) → IsRooted new.versions last after → IsStore new h last after
       failed_clean clean rooted = record {
         sequence = sequence_now;
-        versions = record { made = made_same; rooted = rooted; pending = λ dirty. absurd (clean dirty); live = live_same };
+        versions = record { made = made_same; rooted = rooted; pending = λ dirty. absurd (clean dirty); live = live_same; kept = kept };
       }
 
       -- at the gate of the new version
@@ -335,6 +338,7 @@ module _ (old : Book) (n : ℕ) (shape : List TableParts) (blocks : List NewBloc
             blocks = λ b in_shape. by b in_shape (nat_lt b from) refl;
           };
           live = live_same;
+          kept = kept;
         };
       }
         where

@@ -6,6 +6,7 @@ use Rattle.qd_catalog.specs.declared.version.Version as catalog
 use Rattle.qd_catalog.specs.Versions.{Retires, lists, version_at}
 use Rattle.qd_txnfile.specs.States.{IsDirty}
 use Rattle.qd_txnfile.specs.Versions.{Version}
+use Rattle.qd_versions.specs.Kept.{KeepsTails}
 use Rattle.qd_versions.specs.Stores as versions
 use Rattle.qd_versions.specs.Stores.{IsRooted, current_version, stored_version}
 use Rattle.qd_volume.specs.Disk.{Disk}
@@ -45,8 +46,8 @@ module _ (old new : versions.Store) (row : ℕ) (h : List Entry) (next : Version
       ap (λ (n : ℕ). stored_version n (version_at new.versions new.versions.current)) retired.next_block
       ∙ ap (stored_version old.versions.next_block) current_row
 
-  pub retired_versions : HasVersions old h next disk → HasVersions new h next disk
-  retired_versions has = record {
+  pub retired_versions : (KeepsTails old disk → KeepsTails new disk) → HasVersions old h next disk → HasVersions new h next disk
+  retired_versions tails has = record {
     made = has.made;
     rooted = record { root = subst (λ (v : Version). Rattle.qd_txnfile.specs.States.Knows new.root v next disk) (sym current_same) (subst (λ (r : Rattle.qd_txnfile.specs.States.Root). Rattle.qd_txnfile.specs.States.Knows r (current_version old.versions) next disk) (sym root) has.rooted.root) };
     pending = λ dirty. let p = has.pending (subst (λ (r : Rattle.qd_txnfile.specs.States.Root). IsDirty r.other) root dirty) in record {
@@ -54,6 +55,7 @@ module _ (old new : versions.Store) (row : ℕ) (h : List Entry) (next : Version
       blocks = λ b in_shape. by b (p.blocks b in_shape);
     };
     live = λ r x at. has.live r x (was_live old new row retired r x at);
+    kept = tails has.kept;
   }
     where
       by : (b : ℕ) → (lists (version_at old.versions old.versions.current) b ≡ true) ⊎ (old.versions.next_block ≤ b) → (lists (version_at new.versions new.versions.current) b ≡ true) ⊎ (new.versions.next_block ≤ b)

@@ -1,4 +1,4 @@
--- The blocks of a draft serve its merge, and there are numbers for those that it writes.
+-- What a draft has read serves its merge, and there are numbers for those that it writes.
 use Rattle.std.proofs.Common.{◌≡◌, ℕ, ◌+◌, ◌*◌, ◌^◌, ◌<◌, ◌≤◌, ◌++◌, ◌&&◌, leb, nat_eq, cond, Bool, true, false, List, [], ◌∷◌, Some, get_or, length, map, take, refl, sym, ◌∙◌, ap, subst, arith, length-append}
 use Rattle.std.specs.List.{flat_map, AllByRecursion}
 use Rattle.std.proofs.lemmas.List.{drop_at, get_or-map, length-map, take_at}
@@ -24,19 +24,21 @@ use Rattle.qd_scan.specs.Sources.{IsBlockOf}
 use Rattle.qd_versions.specs.Stores.{manifest_in}
 use Rattle.qd_apply.specs.Arrivals.{arrivals, rest}
 use Rattle.qd_apply.specs.Drafts.{Planning}
-use Rattle.qd_apply.specs.Given.{reads, touched, writes, written_by, IsEarlier}
+use Rattle.qd_apply.specs.declared.olds.OldPart.{OldPart}
+use Rattle.qd_apply.specs.Given.{reads, writes, written_by, IsEarlier, IsOld as IsOldRest}
 use Rattle.qd_apply.specs.Laws.{Merges, MergingStands}
 use Rattle.qd_apply.specs.Next.{all_made, batch_of, blocks_made, first_counts, first_parts, made_after, no_piece, pieces_in, rules_of, shares_of, table_made, times_in, Piece}
-use Rattle.qd_apply.specs.Plans.{block_at, read_in, writes_in, AreBlocksFor}
+use Rattle.qd_apply.specs.Olds.{late_by, old_read, part_read}
+use Rattle.qd_apply.specs.Plans.{writes_in, AreOldsFor}
 use Rattle.qd_apply.proofs.PieceLemmas.{IsPiece}
 use Rattle.qd_apply.proofs.ServeLemmas.{made_again}
 use Rattle.qd_apply.proofs.ShapeLemmas.{first_pieces, AreGrown, IsOld}
 use Rattle.qd_apply.proofs.VersionLemmas.{all_old}
 use Rattle.qd_store.specs.Drafts.{plan_of, Drafted, IsSomeDraft, MayFollow}
 use Rattle.qd_store.proofs.GrownTables.{batches_grown}
-use Rattle.qd_store.proofs.Touching.{rises_low, table_rises}
+use Rattle.qd_store.proofs.LateNumbers.{rises_low, table_rises, touched}
 
--- ---- blocks that are read
+-- ---- what is read
 
 -- a part's block is one of the table's first columns
 earlier_block : (s : Schema) (p : Part) (b : Block) → IsBlockOf s p b → IsEarlier s b
@@ -45,42 +47,51 @@ earlier_block s p b is = record {
   time_col = is.time_col;
 }
 
-touched_count : (list : List Share) → length (touched list) ≡ reads list
-touched_count [] = refl
-touched_count (share.Keep n ∷ list) = let e = touched_count list in omega (arith, e)
-touched_count (share.Append n i j ∷ list) = let e = touched_count list in omega (arith, e)
-touched_count (share.Merge n i j ∷ list) = let e = touched_count list in omega (arith, e)
-touched_count (share.New i j ∷ list) = let e = touched_count list in omega (arith, e)
+late_count : (n : ℕ) (times : List ℕ) (list : List Share) → length (late_by n times list) ≡ reads list
+late_count n times [] = refl
+late_count n times (share.Keep k ∷ list) = let e = late_count n times list in omega (arith, e)
+late_count n times (share.Append k i j ∷ list) = let e = late_count n times list in omega (arith, e)
+late_count n times (share.Merge k i j ∷ list) = let e = late_count n times list in omega (arith, e)
+late_count n times (share.New i j ∷ list) = let e = late_count n times list in omega (arith, e)
 
-earlier_parts : (blocks : ℕ → Block) (s : Schema) (parts : List Part) (ns : List ℕ) → AllByRecursion (IsPiece s) (pieces_in blocks parts)
-    → AllByRecursion (λ (n : ℕ). n < length parts) ns → AllByRecursion (IsEarlier s) (map (block_at blocks parts) ns)
-earlier_parts blocks s parts [] each low = tt
-earlier_parts blocks s parts (n ∷ ns) each low = (earlier_block s (get_or parts n no_part) (block_at blocks parts n) there.block, earlier_parts blocks s parts ns each low.1)
+earlier_part : (blocks : ℕ → Block) (s : Schema) (parts : List Part) (n : ℕ) → AllByRecursion (IsPiece s) (pieces_in blocks parts) → n < length parts → IsEarlier s (blocks (get_or parts n no_part).block)
+earlier_part blocks s parts n each low = earlier_block s (get_or parts n no_part) (blocks (get_or parts n no_part).block) there.block
   where
     within : n < length (pieces_in blocks parts)
-    within = let lt = low.0 in omega (arith, lt, length-map parts (λ (q : Part). let x : Piece = record { part = q; block = blocks q.block } in x))
+    within = omega (arith, low, length-map parts (λ (q : Part). let x : Piece = record { part = q; block = blocks q.block } in x))
 
     there : IsPiece s (record { part = get_or parts n no_part; block = blocks (get_or parts n no_part).block })
-    there = subst (IsPiece s) (get_or-map (λ (q : Part). let x : Piece = record { part = q; block = blocks q.block } in x) parts n no_part no_piece low.0) (All-from_recursion (IsPiece s) (pieces_in blocks parts) each n no_piece within)
+    there = subst (IsPiece s) (get_or-map (λ (q : Part). let x : Piece = record { part = q; block = blocks q.block } in x) parts n no_part no_piece low) (All-from_recursion (IsPiece s) (pieces_in blocks parts) each n no_piece within)
+
+earlier_parts : (blocks : ℕ → Block) (split : ℕ) (s : Schema) (parts : List Part) (n : ℕ) (times : List ℕ) (list : List Share) → AllByRecursion (IsPiece s) (pieces_in blocks parts)
+    → AllByRecursion (λ (k : ℕ). k < length parts) (touched list) → AllByRecursion (IsOldRest s) (map (part_read blocks split parts) (late_by n times list))
+earlier_parts blocks split s parts n times [] each low = tt
+earlier_parts blocks split s parts n times (share.Keep k ∷ list) each low = earlier_parts blocks split s parts n times list each low
+earlier_parts blocks split s parts n times (share.Append k i j ∷ list) each low = earlier_parts blocks split s parts n times list each low
+earlier_parts blocks split s parts n times (share.Merge k i j ∷ list) each low =
+    let e = earlier_part blocks s parts k each low.0 in
+    (record { kinds = e.kinds; time_col = e.time_col }, earlier_parts blocks split s parts n times list each low.1)
+earlier_parts blocks split s parts n times (share.New i j ∷ list) each low = earlier_parts blocks split s parts n times list each low
 
 old_rest : (blocks : ℕ → Block) (shape : List TableParts) → AllByRecursion (IsOld blocks) shape → AllByRecursion (IsOld blocks) (rest shape)
 old_rest blocks [] old = tt
 old_rest blocks (x ∷ xs) old = old.1
 
 serves : (blocks : ℕ → Block) (written : List (List ℕ)) (split : ℕ) (shape : List TableParts) (ts : List StoredTable) → AllByRecursion (IsOld blocks) shape → AreGrown shape ts
-    → AreBlocksFor written split shape ts (read_in blocks written split shape ts)
+    → AreOldsFor written split shape ts (old_read blocks written split shape ts)
 serves blocks written split shape [] old grown = refl
 serves blocks written split shape (t ∷ ts) old grown =
     let parts : List Part = first_parts shape in
     let list : List Share = shares_of (first_counts written) split parts t in
-    let front : List Block = map (block_at blocks parts) (touched list) in
-    let back : List Block = read_in blocks (rest written) split (rest shape) ts in
-    let count : length front ≡ reads list = length-map (touched list) (block_at blocks parts) ∙ touched_count list in
+    let times : List ℕ = times_in t.schema (batch_of t) in
+    let front : List OldPart = map (part_read blocks split parts) (late_by 0 times list) in
+    let back : List OldPart = old_read blocks (rest written) split (rest shape) ts in
+    let count : length front ≡ reads list = length-map (late_by 0 times list) (part_read blocks split parts) ∙ late_count 0 times list in
     let low = rises_low (length parts) 0 (touched list) (table_rises (first_counts written) split parts t) in
-    let here = earlier_parts blocks t.schema parts (touched list) (first_pieces blocks shape t old grown.0) low in (
+    let here = earlier_parts blocks split t.schema parts 0 times list (first_pieces blocks shape t old grown.0) low in (
       omega (arith, count, length-append front back),
-      subst (AllByRecursion (IsEarlier t.schema)) (sym (take_at front back (reads list) count)) here,
-      subst (AreBlocksFor (rest written) split (rest shape) ts) (sym (drop_at front back (reads list) count)) (serves blocks (rest written) split (rest shape) ts (old_rest blocks shape old) grown.1),
+      subst (AllByRecursion (IsOldRest t.schema)) (sym (take_at front back (reads list) count)) here,
+      subst (AreOldsFor (rest written) split (rest shape) ts) (sym (drop_at front back (reads list) count)) (serves blocks (rest written) split (rest shape) ts (old_rest blocks shape old) grown.1),
     )
 
 -- ---- blocks that are written
@@ -135,7 +146,7 @@ module _ (law : MergingStands) (next : ℕ) (x : Version) (es : List Entry) (con
       law contents written split x.n (manifest_in next x.shape) db es follows.manifest follows.stands follows.lawful room follows.few
       )
 
-  plan_served : MayFollow next x es contents db → AreBlocksFor written split x.shape (plan_of written split next x es).tables (read_in contents written split x.shape (plan_of written split next x es).tables)
+  plan_served : MayFollow next x es contents db → AreOldsFor written split x.shape (plan_of written split next x es).tables (old_read contents written split x.shape (plan_of written split next x es).tables)
   plan_served follows = serves contents written split x.shape (plan_of written split next x es).tables (all_old contents x.shape db follows.stands) (batches_grown x.shape es)
 
   -- how many blocks the plan writes
@@ -148,11 +159,11 @@ module _ (law : MergingStands) (next : ℕ) (x : Version) (es : List Entry) (con
   plan_room follows = let fits = (followed follows).manifest.next_fits in omega (arith, fits, plan_written)
 
 -- what a plan's merge asks for
-abbrev pub IsServed : Planning → List Block → Type 0
-IsServed plan given = AreBlocksFor plan.written plan.split_rows plan.shape plan.tables given × (plan.next_block + writes_in plan.written plan.split_rows plan.shape plan.tables < 2 ^ 64)
+abbrev pub IsServed : Planning → List OldPart → Type 0
+IsServed plan given = AreOldsFor plan.written plan.split_rows plan.shape plan.tables given × (plan.next_block + writes_in plan.written plan.split_rows plan.shape plan.tables < 2 ^ 64)
 
-pub draft_serves : MergingStands → (d : Drafted) → IsSomeDraft d → IsServed d.plan d.blocks
+pub draft_serves : MergingStands → (d : Drafted) → IsSomeDraft d → IsServed d.plan d.olds
 draft_serves law d (next, x, (es, contents, db, is)) =
-    subst (λ (g : List Block). IsServed d.plan g) (sym is.read)
-    (subst (λ (plan : Planning). IsServed plan (read_in contents is.written is.split x.shape (plan_of is.written is.split next x es).tables)) (sym is.plan)
+    subst (λ (g : List OldPart). IsServed d.plan g) (sym is.read)
+    (subst (λ (plan : Planning). IsServed plan (old_read contents is.written is.split x.shape (plan_of is.written is.split next x es).tables)) (sym is.plan)
     (plan_served law next x es contents db is.written is.split is.follows, plan_room law next x es contents db is.written is.split is.follows))

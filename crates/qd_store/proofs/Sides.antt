@@ -2,7 +2,7 @@
 use Rattle.std.proofs.Common.{◌≡◌, ◌⊎◌, inl, inr, ℕ, ◌+◌, ◌^◌, ◌<◌, ◌≤◌, nat_eq, nat_le, Bool, true, false, ◌||◌, List, [], ◌∷◌, ◌++◌, length, map, take, All, Some, Option, refl, sym, ◌∙◌, ap, subst, arith}
 use Rattle.std.specs.List.{flat_map}
 use Rattle.std.proofs.lemmas.List.{take-append-le}
-use Rattle.std.proofs.lemmas.List.Elements.{All-append, All-head, All-map, All-nil, All-tail}
+use Rattle.std.proofs.lemmas.List.Elements.{All-append, All-contains, All-head, All-map, All-nil, All-tail}
 use Rattle.qd_base.specs.declared.op.Entry.{Entry}
 use Rattle.qd_base.specs.declared.part.Part.{Part}
 use Rattle.qd_base.specs.Database.{Database}
@@ -23,8 +23,12 @@ use Rattle.qd_txnfile.specs.States.{GivesKnown, IsDirty}
 use Rattle.qd_txnfile.specs.Versions.{Version}
 use Rattle.qd_versions.specs.Stores as versions
 use Rattle.qd_versions.specs.Stores.{IsRooted, current_version}
+use Rattle.qd_versions.specs.Kept.{IsNamed}
+use Rattle.qd_versions.proofs.Alike.{listed_at}
+use Rattle.qd_versions.proofs.Blocks.{listed_in}
 use Rattle.qd_versions.proofs.Files.{held_kept}
 use Rattle.qd_versions.proofs.Kept.{given_kept, knows_kept, leaves_and}
+use Rattle.qd_versions.proofs.KeptTails.{one_current, tails_stay}
 use Rattle.qd_volume.specs.Disk.{Disk, Image}
 use Rattle.qd_store.specs.Marks.{IsMade}
 use Rattle.qd_store.specs.Prefixes.{HoldsBlocks, HoldsTables, IsLeft, IsShown}
@@ -112,9 +116,16 @@ versions_longer v h more next disk has = record {
   rooted = has.rooted;
   pending = λ dirty. let p = has.pending dirty in record { left = left_longer h more next disk p.left; blocks = p.blocks };
   live = λ row x at. shown_longer h more x.n x.shape disk (has.live row x at);
+  kept = has.kept;
 }
 
 -- ---- all versions
+
+-- a call that touches no file of the blocks of live versions touches none of a block that the current one names
+named_spared : (v : versions.Store) (touched : ℕ → Bool) → ((row : ℕ) (x : catalog.Version) → version_at v.versions row ≡ Some x → All (Spares touched) (blocks_of x.shape)) → (block file : ℕ) → IsNamed v.versions block → is_file_of block file ≡ true → touched file ≡ false
+named_spared v touched free block file name of =
+    let y = listed_at (version_at v.versions v.versions.current) block name in
+    All-contains (Spares touched) (blocks_of y.0.shape) block (free v.versions.current y.0 y.1) (listed_in block (blocks_of y.0.shape) y.2) file of
 
 -- what an image has of the version that a failed publication may have left
 abbrev pub LeftTables : (h : List Entry) (next : Version) (disk : Disk) (known : Other) → (IsDirty known → IsLeft h next disk) → Image → Type 0
@@ -167,4 +178,5 @@ module _ (touched : ℕ → Bool) (before after : Disk) (moves : Moves (SameBut 
           blocks = p.blocks;
         };
         live = λ row x at. shown_kept touched before after moves h x.n x.shape (free row x at) (has.live row x at);
+        kept = tails_stay v v (one_current v.versions) touched before after moves refl (named_spared v touched free) has.kept;
       }

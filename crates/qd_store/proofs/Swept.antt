@@ -17,6 +17,7 @@ use Rattle.qd_durable.proofs.Moved.{leaves_weaker}
 use Rattle.qd_txnfile.specs.Versions.{GivesVersion, Version, is_version_file}
 use Rattle.qd_versions.specs.Publishing.{GivesBefore}
 use Rattle.qd_versions.proofs.Kept.{leaves_and}
+use Rattle.qd_versions.specs.Kept.{KeepsTails}
 use Rattle.qd_versions.specs.Stores as versions
 use Rattle.qd_versions.specs.Stores.{IsRooted, current_version}
 use Rattle.qd_volume.specs.Disk.{Disk}
@@ -53,7 +54,7 @@ module _ (touched : ℕ → Bool) (old new : Book) (h : List Entry) (next : Vers
       (versions_with touched before after moves v h next is.versions zero live left given c.0 c.1))
 
   module _ (same : new.sequence ≡ old.sequence) (rows_same : SameRows old.versions.versions new.versions.versions) (rooted : IsRooted new.versions next after)
-      (root : (IsDirty new.versions.root.other → IsDirty old.versions.root.other) ⊎ (IsDirty new.versions.root.other → ⊥)) where
+      (root : (IsDirty new.versions.root.other → IsDirty old.versions.root.other) ⊎ (IsDirty new.versions.root.other → ⊥)) (kept : KeepsTails new.versions after) where
     row_same : (row : ℕ) → version_at new.versions.versions row ≡ version_at old.versions.versions row
     row_same row = ap (λ (l : List (Option catalog.Version)). slice_index_or l row None) rows_same.0
 
@@ -78,6 +79,7 @@ module _ (touched : ℕ → Bool) (old new : Book) (h : List Entry) (next : Vers
         rooted = rooted;
         pending = λ dirty. pending_now dirty root;
         live = λ row x at. let was = sym (row_same row) ∙ at in shown_kept touched before after moves h x.n x.shape (live row x was) (is.versions.live row x was);
+        kept = kept;
       };
     }
 
@@ -105,7 +107,7 @@ module _ {E : Type 0} (result : Result Bool E) (old new : Book) (before after : 
       → Stands old new before after
   with_files touched moves elsewhere zero spared = record {
     any_moment = λ h next is. let s = spared h next is in moments touched old new h next before after is law sequence elsewhere zero moves s.0 s.1 (known next is.versions.rooted);
-    behind = λ h next is. let s = spared h next is in let r = root_of next is.versions.rooted in still touched old new h next before after is law sequence elsewhere zero moves s.0 s.1 same rows_same r.0 r.1;
+    behind = λ h next is. let s = spared h next is in let r = root_of next is.versions.rooted in still touched old new h next before after is law sequence elsewhere zero moves s.0 s.1 same rows_same r.0 r.1 (front.tails is.versions.kept);
     pending = λ h next is.
         subst (λ (q : Sequence). PendsAsBefore old.sequence.pending q.pending before after) (sym same)
         (sequence touched old.sequence h before after elsewhere moves is.sequence).2;

@@ -1,34 +1,34 @@
 -- What is read and taken on the way to a draft. No public clause cites this module.
-use Rattle.std.specs.Prelude.{◌≡◌, ℕ, ◌+◌, List, drop, length, map, Some, Result, Ok, Err, slice_get, slice_range}
+use Rattle.std.specs.Prelude.{◌≡◌, ℕ, ◌+◌, List, drop, length, Some, Result, Ok, Err, Vec, slice_index_or, slice_range}
 use Rattle.std.specs.List.{AllZip}
-use Rattle.std.specs.Arc.{arc_value}
-use Rattle.std.specs.declared.sync.Arc.{Arc}
 use Rattle.std.specs.declared.alloc.Global.{Global}
-use Rattle.std.specs.Prelude.{Vec}
 use Rattle.qd_base.specs.declared.op.Entry.{Entry}
 use Rattle.qd_base.specs.declared.part.Part.{Part}
 use Rattle.qd_base.specs.declared.part.WalRef.{WalRef}
+use Rattle.qd_base.specs.declared.schema.Schema.{Schema}
 use Rattle.qd_base.specs.Database.{StoredTable, schemas_of}
 use Rattle.qd_base.specs.Lawful.{LawfulFrom}
-use Rattle.qd_base.specs.Replay.{first}
 use Rattle.qd_block.specs.Blocks.{Block, IsWhole}
 use Rattle.qd_catalog.specs.declared.version.Version.{Version}
 use Rattle.qd_catalog.specs.Versions.{Versions, version_at}
-use Rattle.qd_apply.specs.declared.plans.Touched.{Touched}
+use Rattle.qd_apply.specs.declared.olds.Late.{Late}
+use Rattle.qd_apply.specs.declared.olds.OldPart.{OldPart}
 use Rattle.qd_apply.specs.Arrivals.{arrivals, arrivals_from}
 use Rattle.qd_apply.specs.Drafts.{Drafting}
 use Rattle.qd_apply.specs.Next.{first_parts}
-use Rattle.qd_apply.specs.Plans.{all_touched, block_at, read_in}
-use Rattle.qd_apply.specs.Stands.{StandsFor}
+use Rattle.qd_apply.specs.Olds.{all_late, cut}
+use Rattle.qd_column.specs.Cells.{CellsOf}
+use Rattle.qd_column_files.specs.Damage.{IsSpelledAs}
+use Rattle.qd_column_files.specs.Reading.{IsBlockRead}
 use Rattle.qd_durable.specs.declared.fault.LogFault.{LogFault}
 use Rattle.qd_durable.specs.declared.fault.LogFault.TheVariants as fault
 use Rattle.qd_manifest.specs.declared.shape.TableParts.{TableParts}
-use Rattle.qd_manifest.specs.Spelling.{schemas_in}
+use Rattle.qd_manifest.specs.Spelling.{no_part, schemas_in}
 use Rattle.qd_scan.specs.Sources.{IsBlockOf}
 use Rattle.qd_sequencer.specs.Histories.{AreSpelled}
 use Rattle.qd_sequencer.specs.Reading.{BreaksOff}
 use Rattle.qd_volume.specs.Disk.{Image}
-use Rattle.qd_store.specs.Damage.{IsDraftDamage, IsPartRead}
+use Rattle.qd_store.specs.Damage.{IsDraftDamage, IsPartRead, IsThere, LosesBlock}
 use Rattle.qd_store.specs.Drafts.{between}
 use Rattle.qd_store.specs.Stores.{Book}
 
@@ -74,40 +74,35 @@ AreArrived (Err (fault.Damaged file at)) s upto image = IsDraftDamage s upto ima
 AreArrived (Err fault.Vol) s upto image = Unit {0}
 AreArrived (Err fault.Memory) s upto image = Unit {0}
 
--- ---- blocks that are read
+-- ---- parts that rows are merged into
 
--- what is read of a part's files, as a block that others may hold too
-abbrev pub IsTouchedRead : Result (Arc Block Global) LogFault → List TableParts → Touched → Image → Type 0
-IsTouchedRead (Ok b) shape to image = IsPartRead shape to (Ok (arc_value b)) image
-IsTouchedRead (Err cause) shape to image = IsPartRead shape to (Err cause) image
+-- what is read of the designated times of a part: its block's files spell them, or where they are damaged
+abbrev pub AreTimesRead : Result CellsOf LogFault → Schema → Part → Image → Type 0
+AreTimesRead (Ok times) s p image = IsSpelledAs s p s.time_col image times
+AreTimesRead (Err cause) s p image = IsBlockRead (Err cause) s p image
 
--- the part's block by its number
-abbrev pub block_there : (ℕ → Block) → List TableParts → Touched → Block
-block_there contents shape to = block_at contents (first_parts (drop to.table shape)) to.part
+-- what is read of all of them, or which is lost
+abbrev pub ArePartsRead : Result (Vec OldPart Global) LogFault → ℕ → List Late → List TableParts → Image → Type 0
+ArePartsRead (Ok list) split lates shape image = AllZip (λ late old. IsPartRead split shape late (Ok old) image) lates list.items
+ArePartsRead (Err (fault.Damaged file at)) split lates shape image = LosesBlock split lates shape image file at
+ArePartsRead (Err fault.Vol) split lates shape image = Unit {0}
+ArePartsRead (Err fault.Memory) split lates shape image = Unit {0}
 
--- over blocks by which the version stands for a history, the part's block is read
-abbrev pub IsTouchedFrom : Result (Arc Block Global) LogFault → List TableParts → Touched → List Entry → ℕ → Type 0
-IsTouchedFrom (Ok b) shape to h n = (contents : ℕ → Block) → StandsFor contents shape (first h n) → arc_value b ≡ block_there contents shape to
-IsTouchedFrom (Err (fault.Damaged file at)) shape to h n = ⊥
-IsTouchedFrom (Err fault.Vol) shape to h n = Unit {0}
-IsTouchedFrom (Err fault.Memory) shape to h n = Unit {0}
+-- the number of a part's block, and what a merge reads of the part over blocks by their numbers
+abbrev pub number_there : List TableParts → Late → ℕ
+number_there shape late = (slice_index_or (first_parts (drop late.table shape)) late.part no_part).block
 
--- the block of a part that is there
-pub record IsReadOf (shape : List TableParts) (to : Touched) (b : Block) : Type 0 where
-  pub table : TableParts
-  pub part : Part
-  pub its_table : slice_get shape to.table ≡ Some table
-  pub its_part : slice_get table.parts to.part ≡ Some part
-  pub of : IsBlockOf table.schema part b
-  pub whole : IsWhole b
+abbrev pub old_there : (ℕ → Block) → ℕ → List TableParts → Late → OldPart
+old_there contents split shape late = cut split late.first (contents (number_there shape late))
 
--- those of all parts that a merge of these tables reads
-abbrev pub AreRead : List (List ℕ) → ℕ → List TableParts → List StoredTable → List Block → Type 0
-AreRead written split shape tables blocks = AllZip (IsReadOf shape) (all_touched 0 written split shape tables) blocks
+-- what is read of a part that is there, as of some block that is the part's
+pub record IsReadOf (split : ℕ) (shape : List TableParts) (late : Late) (old : OldPart) : Type 0 where
+  pub there : IsThere shape late
+  pub block : Block
+  pub of : IsBlockOf there.table.schema there.part block
+  pub whole : IsWhole block
+  pub read : old ≡ cut split late.first block
 
--- over blocks by which the version stands for a history, they are the ones that the merge reads
-abbrev pub AreReadFrom : Result (Vec (Arc Block Global) Global) LogFault → List (List ℕ) → ℕ → List TableParts → List StoredTable → List Entry → ℕ → Type 0
-AreReadFrom (Ok list) written split shape tables h n = (contents : ℕ → Block) → StandsFor contents shape (first h n) → map arc_value list.items ≡ read_in contents written split shape tables
-AreReadFrom (Err (fault.Damaged file at)) written split shape tables h n = ⊥
-AreReadFrom (Err fault.Vol) written split shape tables h n = Unit {0}
-AreReadFrom (Err fault.Memory) written split shape tables h n = Unit {0}
+-- the same of all parts that these tables are merged into
+abbrev pub AreRead : List (List ℕ) → ℕ → List TableParts → List StoredTable → List OldPart → Type 0
+AreRead written split shape tables olds = AllZip (IsReadOf split shape) (all_late 0 written split shape tables) olds

@@ -8,10 +8,12 @@ use Rattle.qd_base.specs.Replay.{first, replay}
 use Rattle.qd_block.specs.Blocks.{Block}
 use Rattle.qd_catalog.specs.declared.version.Version.{Version}
 use Rattle.qd_catalog.specs.Versions.{Versions, version_at}
+use Rattle.qd_apply.specs.declared.olds.OldPart.{OldPart}
 use Rattle.qd_apply.specs.Arrivals.{arrivals}
 use Rattle.qd_apply.specs.Drafts.{Planning}
 use Rattle.qd_apply.specs.Next.{grown_after, made_after, manifest_after}
-use Rattle.qd_apply.specs.Plans.{read_in, with_batch}
+use Rattle.qd_apply.specs.Olds.{old_read}
+use Rattle.qd_apply.specs.Plans.{with_batch}
 use Rattle.qd_apply.specs.Stands.{StandsFor}
 use Rattle.qd_durable.specs.declared.fault.LogFault.{LogFault}
 use Rattle.qd_durable.specs.declared.fault.LogFault.TheVariants as fault
@@ -24,10 +26,10 @@ use Rattle.qd_versions.specs.Stores.{manifest_in}
 use Rattle.qd_store.specs.Grown.{growth_of, rows_written, AreShownWhole}
 use Rattle.qd_store.specs.Stores.{Book}
 
--- what contracts see of a draft: its plan, and the blocks of the parts that its merge reads, in order
+-- what contracts see of a draft: its plan, and what its merge reads of the parts that rows are merged into, in order
 pub record Drafted : Type 0 where
   pub plan : Planning
-  pub blocks : List Block
+  pub olds : List OldPart
 
 -- what they see of one that is merged: of how many transactions the version is that was merged into, and the next one; the tables of
 -- the next one, its new blocks, and the rows that go behind those of parts of the version that was merged into
@@ -66,7 +68,7 @@ pub record IsDraft (next : ℕ) (x : Version) (es : List Entry) (contents : ℕ 
   pub written : List (List ℕ)
   pub split : ℕ
   pub plan : d.plan ≡ plan_of written split next x es
-  pub read : d.blocks ≡ read_in contents written split x.shape (plan_of written split next x es).tables
+  pub read : d.olds ≡ old_read contents written split x.shape (plan_of written split next x es).tables
 
 -- the same, merged: the next version's tables, its new blocks at their numbers, and the rows that go behind those of parts
 pub record IsMerged (next : ℕ) (x : Version) (es : List Entry) (contents : ℕ → Block) (db : Database) (m : Merging) : Type 0 where

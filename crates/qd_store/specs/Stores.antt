@@ -9,6 +9,7 @@ use Rattle.qd_manifest.specs.Spelling.{blocks_of}
 use Rattle.qd_sequencer.specs.Sequences.{IsSequence, Sequence}
 use Rattle.qd_txnfile.specs.States.{IsDirty}
 use Rattle.qd_txnfile.specs.Versions.{Version}
+use Rattle.qd_versions.specs.Kept.{KeepsTails}
 use Rattle.qd_versions.specs.Stores as versions
 use Rattle.qd_versions.specs.Stores.{IsRooted}
 use Rattle.qd_volume.specs.Disk.{Disk}
@@ -39,12 +40,13 @@ pub record IsPending (v : versions.Store) (history : List Entry) (next : Version
   pub blocks : (b : ℕ) → Contains (blocks_of left.manifest.shape) b → (lists (version_at v.versions v.versions.current) b ≡ true) ⊎ (v.versions.next_block ≤ b)
 
 -- The versions on a volume: it is made, the root gives the current version, and each live version stands for the history, as does
--- the one that a failed publication may have left.
+-- the one that a failed publication may have left. What rows behind those of its blocks go on with, where that is kept, is known.
 pub record HasVersions (v : versions.Store) (history : List Entry) (next : Version) (disk : Disk) : Type 0 where
   pub made : EachNow disk IsMade
   pub rooted : IsRooted v next disk
   pub pending : IsDirty v.root.other → IsPending v history next disk
   pub live : (row : ℕ) (x : catalog.Version) → version_at v.versions row ≡ Some x → IsShown history x.n x.shape disk
+  pub kept : KeepsTails v disk
 
 -- The invariant of a store over a told volume: the sequencer stands behind the history, and the versions stand for it.
 pub record IsStore (s : Book) (history : List Entry) (next : Version) (disk : Disk) : Type 0 where

@@ -1,52 +1,54 @@
-//! Drafts: transactions read for the next version, and the blocks that their merge reads.
+//! Drafts: transactions read for the next version, and what their merge reads of its parts.
 ghost use Rattle.qd_base.specs.declared.op.Entry.{Entry};
+ghost use Rattle.qd_base.specs.declared.part.Part.{Part};
 ghost use Rattle.qd_catalog.specs.declared.version.Version as shown;
 ghost use Rattle.qd_catalog.specs.Versions.{current_n, version_at};
-ghost use Rattle.qd_apply.specs.Plans.{all_touched};
+ghost use Rattle.qd_apply.specs.Olds.{all_late};
+ghost use Rattle.qd_column.specs.Cells.{CellsOf};
+ghost use Rattle.qd_column_files.specs.Reading.{IsBlockRead, IsFitColumn};
 ghost use Rattle.qd_durable.specs.declared.fault.LogFault.TheVariants as damage;
 ghost use Rattle.qd_durable.specs.Faults.{CountsVol};
+ghost use Rattle.qd_manifest.specs.declared.shape.TableParts.{TableParts};
 ghost use Rattle.qd_seq.specs.Layout.{AreInSegments};
-ghost use Rattle.qd_store.specs.Damage.{IsDraftDamage, IsThere, LosesBlock};
-ghost use Rattle.qd_store.specs.Drafting.{AreArrived, AreRead, AreReadFrom, AreSomeTaken, AreTaken, IsArrived, IsArrivedFrom, IsReadOf, IsTouchedFrom, IsTouchedRead};
+ghost use Rattle.qd_store.specs.Damage.{IsDraftDamage, IsPartRead, IsThere};
+ghost use Rattle.qd_store.specs.Drafting.{AreArrived, ArePartsRead, AreRead, AreSomeTaken, AreTaken, AreTimesRead, IsArrived, IsArrivedFrom, IsReadOf};
 ghost use Rattle.qd_store.specs.Drafts.{IsDraftOver, IsDraftedFrom};
 ghost use Rattle.qd_store.specs.Grown.{rows_written, written_to};
 ghost use Rattle.qd_store.specs.Stores.{IsStore};
 ghost use Rattle.qd_txnfile.specs.Versions.{Version};
+ghost use Rattle.qd_versions.specs.Reading.{IsPartAt};
 ghost use Rattle.qd_volume.specs.Disk.{reads_of};
-ghost use Rattle.std.specs.Arc.{arc_value};
 ghost use Rattle.std.specs.Prelude.{◌≡◌, ◌+◌, ◌^◌, ◌<◌, ◌≤◌, [], ◌∷◌, ℕ, List, Some, Err, length, map, IfOk, IfSome};
 
 use crate::book::Book;
-use qd_apply::{Draft as Arrivals, Plan, Touched, rows_are_few};
+use qd_apply::{Draft as Arrivals, Late, OldPart, Plan, rows_are_few};
 use qd_base::{Memory, Part, WalRef};
-use qd_block::Block;
+use qd_column::Column;
 use qd_column_files::laws::one_block_is_held;
+use qd_column_format::laws::one_column_is_spelled;
 use qd_durable::LogFault;
 use qd_symbols::SymbolMap;
 use qd_volume::Volume;
 use qd_wal::{one_entry_is_read, read_entry, segment_file};
 use std::alloc::Global;
 use std::marker::Model;
-use std::sync::Arc;
 
-/// The transactions behind a version, planned to be merged into it, with the blocks of the parts that the merge reads. Its
-/// merge needs no store.
+/// The transactions behind a version, planned to be merged into it, with what the merge reads of the parts that rows are merged
+/// into: how many of each stay as they lie, and the rows behind. Its merge needs no store.
 #[derive(Drop)]
 pub struct Draft {
     pub(crate) plan: Plan,
-    pub(crate) blocks: Vec<Arc<Block<SymbolMap>>>,
+    pub(crate) olds: Vec<OldPart>,
 }
 
 impl Model for Draft {
-    ghost use Rattle.std.specs.Arc.{arc_value};
-    ghost use Rattle.std.specs.Prelude.{map};
     ghost use Rattle.qd_store.specs.Drafts.{Drafted, IsSomeDraft};
 
     ghost Value = { Drafted };
 
-    ghost view = { λ d. record { plan = d.plan; blocks = map arc_value d.blocks.items } };
+    ghost view = { λ d. record { plan = d.plan; olds = d.olds.items } };
 
-    ghost invariant = { λ d. IsSomeDraft (record { plan = d.plan; blocks = map arc_value d.blocks.items }) };
+    ghost invariant = { λ d. IsSomeDraft (record { plan = d.plan; olds = d.olds.items }) };
 }
 
 impl Book {
@@ -68,12 +70,14 @@ impl Book {
         ensures counted { CountsVol (V.storage volume.old).faults (V.storage volume.new).faults result }
     {
         rows_are_few();
+        one_block_is_held();
+        one_column_is_spelled();
         self.versions.keeps_its_law();
         let arrived = self.arrived(alloc, volume, upto)?;
         let written = self.rows_written(alloc)?;
         let plan = arrived.plan(alloc, written, self.limits.split_rows)?;
-        let blocks = self.blocks_of(alloc, volume, &plan)?;
-        Ok(Draft { plan, blocks })
+        let olds = self.olds_of(alloc, volume, &plan)?;
+        Ok(Draft { plan, olds })
     }
 
     /// Reads the transactions behind the current version, up to a number.
@@ -126,46 +130,97 @@ impl Book {
         Ok(list)
     }
 
-    /// Reads the blocks of the parts that a plan's merge reads, in order.
-    fn blocks_of<V: Volume>(
+    /// Reads the parts that a plan's rows are merged into, in order: what of each stays as it lies, and the rows behind.
+    fn olds_of<V: Volume>(
         &self,
         alloc: Global,
         volume: &mut V,
         plan: &Plan,
-    ) -> Result<Vec<Arc<Block<SymbolMap>>>, LogFault>
+    ) -> Result<Vec<OldPart>, LogFault>
         requires of { (x : shown.Version) × (version_at self.now.versions.versions self.now.versions.versions.current ≡ Some x) × (plan.now.shape ≡ x.shape) }
-        ensures read { IfOk result (λ list. AreRead plan.now.written plan.now.split_rows plan.now.shape plan.now.tables (map arc_value list.items)) }
-        ensures told { IfSome (V.storage volume.old).disk (λ disk. (h : List Entry) (next : Version) → IsStore self.now h next disk → (x : shown.Version) → version_at self.now.versions.versions self.now.versions.versions.current ≡ Some x → AreReadFrom result plan.now.written plan.now.split_rows plan.now.shape plan.now.tables h x.n) }
-        ensures damaged { IfSome (V.storage volume.old).disk (λ disk. (file at : ℕ) → result ≡ Err (damage.Damaged file at) → LosesBlock (all_touched 0 plan.now.written plan.now.split_rows plan.now.shape plan.now.tables) plan.now.shape (reads_of disk) file at) }
+        ensures read { IfOk result (λ list. AreRead plan.now.written plan.now.split_rows plan.now.shape plan.now.tables list.items) }
+        ensures files { IfSome (V.storage volume.old).disk (λ disk. ArePartsRead result plan.now.split_rows (all_late 0 plan.now.written plan.now.split_rows plan.now.shape plan.now.tables) plan.now.shape (reads_of disk)) }
         ensures stays { (V.storage volume.new).disk ≡ (V.storage volume.old).disk }
         ensures counted { CountsVol (V.storage volume.old).faults (V.storage volume.new).faults result }
     {
-        let mut blocks = Vec::new(alloc);
-        for to in plan.touched() {
-            let block = self.block_at(alloc, volume, *to)?;
-            blocks.push(block)?;
+        let mut olds = Vec::new(alloc);
+        for late in plan.late() {
+            let old = self.old_at(alloc, volume, plan, *late)?;
+            olds.push(old)?;
         }
-        Ok(blocks)
+        Ok(olds)
     }
 
-    /// Reads the block of a part of the current version.
-    fn block_at<V: Volume>(
+    /// Reads a part of the current version that a plan's rows are merged into: its designated times, by which it is known how
+    /// many of its rows stay as they lie, and the rows behind.
+    fn old_at<V: Volume>(
         &self,
         alloc: Global,
         volume: &mut V,
-        to: Touched,
-    ) -> Result<Arc<Block<SymbolMap>>, LogFault>
-        requires there { (x : shown.Version) × (version_at self.now.versions.versions self.now.versions.versions.current ≡ Some x) × IsThere x.shape to }
-        ensures read { (x : shown.Version) → version_at self.now.versions.versions self.now.versions.versions.current ≡ Some x → IfOk result (λ b. IsReadOf x.shape to (arc_value b)) }
-        ensures told { IfSome (V.storage volume.old).disk (λ disk. (h : List Entry) (next : Version) → IsStore self.now h next disk → (x : shown.Version) → version_at self.now.versions.versions self.now.versions.versions.current ≡ Some x → IsTouchedFrom result x.shape to h x.n) }
-        ensures files { (x : shown.Version) → version_at self.now.versions.versions self.now.versions.versions.current ≡ Some x → IfSome (V.storage volume.old).disk (λ disk. IsTouchedRead result x.shape to (reads_of disk)) }
+        plan: &Plan,
+        late: Late,
+    ) -> Result<OldPart, LogFault>
+        requires there { (x : shown.Version) × (version_at self.now.versions.versions self.now.versions.versions.current ≡ Some x) × IsThere x.shape late }
+        ensures read { (x : shown.Version) → version_at self.now.versions.versions self.now.versions.versions.current ≡ Some x → IfOk result (λ old. IsReadOf plan.now.split_rows x.shape late old) }
+        ensures files { (x : shown.Version) → version_at self.now.versions.versions self.now.versions.versions.current ≡ Some x → IfSome (V.storage volume.old).disk (λ disk. IsPartRead plan.now.split_rows x.shape late result (reads_of disk)) }
         ensures stays { (V.storage volume.new).disk ≡ (V.storage volume.old).disk }
         ensures counted { CountsVol (V.storage volume.old).faults (V.storage volume.new).faults result }
     {
-        one_block_is_held();
+        self.versions.keeps_its_law();
         let row = self.versions.current();
-        let block = self.read_part(alloc, volume, row, to.table, to.part)?;
-        Ok(Arc::new(alloc, block)?)
+        let (table, part) = (late.table, late.part);
+        let column = self.times_at(alloc, volume, row, table, part)?;
+        let stay = plan.stay(late, column.times());
+        let skip = stay.rows(column.len() as u64);
+        let rest = self
+            .versions
+            .read_rest(alloc, volume, row, table, part, &column, skip)?;
+        Ok(OldPart { stay, rest })
+    }
+
+    /// Reads the designated times of a part of a live version. Where they are damaged, the whole block is read, so that the
+    /// answer is the first damage of that.
+    fn times_at<V: Volume>(
+        &self,
+        alloc: Global,
+        volume: &mut V,
+        row: u8,
+        table: usize,
+        i: usize,
+    ) -> Result<Column<SymbolMap>, LogFault>
+        requires there { (t : TableParts) × (p : Part) × IsPartAt self.now.versions.versions row table i t p }
+        ensures fit { (t : TableParts) (p : Part) → IsPartAt self.now.versions.versions row table i t p → IfOk result (λ times. IsFitColumn t.schema p t.schema.time_col times) }
+        ensures files { (t : TableParts) (p : Part) → IsPartAt self.now.versions.versions row table i t p → IfSome (V.storage volume.old).disk (λ disk. AreTimesRead result t.schema p (reads_of disk)) }
+        ensures stays { (V.storage volume.new).disk ≡ (V.storage volume.old).disk }
+        ensures counted { CountsVol (V.storage volume.old).faults (V.storage volume.new).faults result }
+    {
+        match self.versions.read_times(alloc, volume, row, table, i) {
+            Ok(times) => Ok(times),
+            Err(LogFault::Damaged { file: _, at: _ }) => {
+                Err(self.damage_of(alloc, volume, row, table, i))
+            }
+            Err(cause) => Err(cause),
+        }
+    }
+
+    /// Where the files of the block of a part of a live version are damaged; want of memory where they aren't.
+    fn damage_of<V: Volume>(
+        &self,
+        alloc: Global,
+        volume: &mut V,
+        row: u8,
+        table: usize,
+        i: usize,
+    ) -> LogFault
+        requires there { (t : TableParts) × (p : Part) × IsPartAt self.now.versions.versions row table i t p }
+        ensures files { (t : TableParts) (p : Part) → IsPartAt self.now.versions.versions row table i t p → IfSome (V.storage volume.old).disk (λ disk. IsBlockRead (Err result) t.schema p (reads_of disk)) }
+        ensures stays { (V.storage volume.new).disk ≡ (V.storage volume.old).disk }
+        ensures counted { CountsVol {T = CellsOf} (V.storage volume.old).faults (V.storage volume.new).faults (Err result) }
+    {
+        match self.versions.read_part(alloc, volume, row, table, i) {
+            Ok(_) => LogFault::Memory,
+            Err(cause) => cause,
+        }
     }
 }
 

@@ -78,15 +78,16 @@ impl Draft {
     /// Merges: makes the tables of the next version, its new blocks, and the rows that go behind those of parts. It needs no store, so
     /// that others may use the store meanwhile.
     ///
-    /// It costs time and memory linear in the rows of the parts that are touched and in the lists of parts. Want of memory is the
-    /// only error; the draft is gone then, and the store can give it again.
+    /// It costs time and memory linear in the rows that are merged, in those of parts behind the first of them, or of all rows of a
+    /// part where few stand before that, and in the lists of parts. Want of memory is the only error; the draft is gone then, and
+    /// the store can give it again.
     pub fn merge(self, alloc: Global) -> Result<Merged, Memory>
         ensures grows { IfOk result (λ m. All (IsGrowth self.plan.shape self.plan.written) (map growth_of m.grown)) }
         ensures merged { (next : ℕ) (x : Version) (es : List Entry) (contents : ℕ → Rows) (db : Database) → IsDraft next x es contents db self → IfOk result (λ m. IsMerged next x es contents db m) }
     {
         merging_stands();
-        let Draft { plan, blocks } = self;
-        let merged = plan.merge(alloc, blocks.as_slice())?;
+        let Draft { plan, olds } = self;
+        let merged = plan.merge(alloc, olds.as_slice())?;
         let blocks = numbered(alloc, merged.first_block, merged.blocks.as_slice())?;
         let grown = behind(alloc, merged.grown.as_slice())?;
         Ok(Merged {

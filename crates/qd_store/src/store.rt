@@ -220,14 +220,17 @@ impl<V: Volume> Store<V> {
         self.book.end_writer(writer);
     }
 
-    /// Drafts the transactions behind the current version, up to a number: reads them and plans their merge, and reads the blocks of
-    /// the parts that it touches, no others. It costs two calls of the volume for each transaction and each column of a touched part,
-    /// and time and memory linear in what it reads, n log n where rows are late, and in the lists of parts.
+    /// Drafts the transactions behind the current version, up to a number: reads them and plans their merge, and reads of the parts that
+    /// rows are merged into, no others, the designated times, and the other columns from the first row on that is written anew: of
+    /// the rows before all late ones nothing else is read where so many stay as they lie as the limits ask. It costs two calls of
+    /// the volume for each transaction and each column of such a part, and up to three more for one of texts, and time and memory
+    /// linear in what it reads, n log n where rows are late, and in the lists of parts.
     ///
     /// The store and what its volume holds stay as they are. [`LogFault::Damaged`] says what breaks first: the first of the transactions
-    /// that isn't spelled, or not lawful behind those before it; or the first block of those that are read whose files break their layout
-    /// or aren't the part's. It comes only where that file is damaged at that byte, and never where `IsStore` holds. Behind
-    /// [`LogFault::Vol`] and [`LogFault::Memory`] the call may be made again.
+    /// that isn't spelled, or not lawful behind those before it; or the first block of those that are read whose files were found to
+    /// break their layout, or not to be the part's. It comes only where that file is damaged at that byte, and never where `IsStore`
+    /// holds; damage in front of the rows that are read may go unseen. Behind [`LogFault::Vol`] and [`LogFault::Memory`] the call may
+    /// be made again.
     pub fn draft(&mut self, alloc: Global, upto: u64) -> Result<Draft, LogFault>
         requires more { (n : ℕ) → current_n self.old.store.versions.versions ≡ Some n → n < upto }
         requires few { upto ≤ length self.old.store.sequence.refs }

@@ -79,7 +79,7 @@ returns-clause-told g c =
     (log_opened _ _ _ c.in_ok-log.log (ready _ _ c.in_ok-sync.field-0 _ _ _ c.in_ok-is_marked.ensures.stays c.in_ok-is_marked.field-0 c.if-not-branch.false c.in_ok-is_marked.ensures.told c.in_ok-sync.ensures.told) c.in_ok-log.ensures.told)
     c.refs.result.now c.refs.ensures.list c.in_ok-versions.ensures.told)
     c.in_ok-sequencer.ensures.stays c.damaged_gives_none.ensures c.damaged_gives_no_store.ensures
-    (subst (λ (l : List WalRef). v.root.n ≤ length l) c.refs.ensures.list c.in_ok-versions.ensures.shown) s refl c.in_ok-sequencer.ensures.list.0 c.in_ok-sequencer.ensures.told
+    (subst (λ (l : List WalRef). v.root.n ≤ length l) c.refs.ensures.list c.in_ok-versions.ensures.shown) c.in_ok-versions.ensures.none s refl c.in_ok-sequencer.ensures.list.0 c.in_ok-sequencer.ensures.told
 
 pub returns-clause-alone : goal.returns-clause-alone
 returns-clause-alone g c =

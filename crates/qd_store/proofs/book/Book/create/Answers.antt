@@ -19,7 +19,7 @@ pub returns-in_err-write_mark-clause-told : goal.returns-in_err-write_mark-claus
 returns-in_err-write_mark-clause-told g c =
     let p = err_from_is_err_and c.from_residual-in_err-write_mark.result c.from_residual-in_err-write_mark.ensures.1 in
     let s : Book = record { sequence = c.in_ok-sequencer.sequencer; versions = c.in_ok-versions.versions; limits = c.args.limits } in
-    rw p.1 (not_marked_told s c.other_files_leave_the_sequence.ensures (sound_of c.in_ok-versions.versions c.keeps_its_law.ensures.law c.in_ok-versions.ensures.opened) c.in_ok-versions.ensures.clean c.in_ok-versions.ensures.opened
+    rw p.1 (not_marked_told s c.other_files_leave_the_sequence.ensures (sound_of c.in_ok-versions.versions c.keeps_its_law.ensures.law c.in_ok-versions.ensures.opened) c.in_ok-versions.ensures.clean c.in_ok-versions.ensures.opened c.in_ok-versions.ensures.none
     c.in_err-write_mark.field-0.0 p.0 _ _ _ _ c.in_ok-sequencer.ensures.told c.in_ok-versions.ensures.told c.in_err-write_mark.ensures.told)
 
 pub invariant_of-result : goal.invariant_of-result
@@ -31,7 +31,7 @@ returns-clause-empty g c = (c.in_ok-sequencer.ensures.empty.0, none_shown c.in_o
 pub returns-clause-told : goal.returns-clause-told
 returns-clause-told g c =
     let s : Book = record { sequence = c.in_ok-sequencer.sequencer; versions = c.in_ok-versions.versions; limits = c.args.limits } in
-    is_marked_told s c.other_files_leave_the_sequence.ensures (sound_of c.in_ok-versions.versions c.keeps_its_law.ensures.law c.in_ok-versions.ensures.opened) c.in_ok-versions.ensures.clean c.in_ok-versions.ensures.opened
+    is_marked_told s c.other_files_leave_the_sequence.ensures (sound_of c.in_ok-versions.versions c.keeps_its_law.ensures.law c.in_ok-versions.ensures.opened) c.in_ok-versions.ensures.clean c.in_ok-versions.ensures.opened c.in_ok-versions.ensures.none
     c.in_ok-write_mark.field-0 _ _ _ _ c.in_ok-sequencer.ensures.told c.in_ok-versions.ensures.told c.in_ok-write_mark.ensures.told
 
 pub returns-clause-alone : goal.returns-clause-alone

@@ -1,4 +1,4 @@
-use Rattle.std.proofs.Common.{◌≡◌, ◌≤◌, ◌^◌, ℕ, List, Err, map, refl, ap, ◌∙◌, subst, arith}
+use Rattle.std.proofs.Common.{◌≡◌, ◌≤◌, ◌^◌, ℕ, List, Err, map, ap, ◌∙◌, subst, arith}
 use Rattle.std.specs.Prelude.{Vec}
 use Rattle.std.specs.declared.alloc.Global.{Global}
 use Rattle.std.proofs.lemmas.Result.{err_from_is_err_and}
@@ -20,21 +20,21 @@ returns-in_err-arrived-clause-damaged g c =
     let p = err_from_is_err_and c.from_residual.result c.from_residual.ensures.1 in
     arrives_damaged c.from_residual.result c.in_err-arrived.field-0.0 (subst (λ (f : LogFault). c.from_residual.result ≡ Err f) p.2 p.1) c.args.self.now c.args.upto _ c.in_err-arrived.ensures.read
 
-pub returns-in_err-blocks-clause-damaged : goal.returns-in_err-blocks-clause-damaged
-returns-in_err-blocks-clause-damaged g c =
-    let p = err_from_is_err_and c.from_residual-in_err-blocks.result c.from_residual-in_err-blocks.ensures.1 in
-    reads_damaged c.from_residual-in_err-blocks.result c.in_err-blocks.field-0.0 (subst (λ (f : LogFault). c.from_residual-in_err-blocks.result ≡ Err f) p.2 p.1) c.args.self.now c.args.upto
-    _ refl (map items_of c.in_ok-written.written.items) c.in_ok-arrived.arrived c.in_ok-plan.plan (c.in_ok-plan.ensures.plan ∙ ap (λ (s : Book). planning c.in_ok-arrived.arrived (map items_of c.in_ok-written.written.items) s.limits.split_rows) c.self.view_is) c.in_ok-written.ensures.written
-    _ _ c.in_ok-arrived.ensures.stays c.in_ok-arrived.ensures.read c.in_err-blocks.ensures.damaged
+pub returns-in_err-olds-clause-damaged : goal.returns-in_err-olds-clause-damaged
+returns-in_err-olds-clause-damaged g c =
+    let p = err_from_is_err_and c.from_residual-in_err-olds.result c.from_residual-in_err-olds.ensures.1 in
+    reads_damaged c.from_residual-in_err-olds.result c.in_err-olds.field-0.0 (subst (λ (f : LogFault). c.from_residual-in_err-olds.result ≡ Err f) p.2 p.1) c.args.self.now c.args.upto
+    (map items_of c.in_ok-written.written.items) c.in_ok-arrived.arrived c.in_ok-plan.plan (c.in_ok-plan.ensures.plan ∙ ap (λ (s : Book). planning c.in_ok-arrived.arrived (map items_of c.in_ok-written.written.items) s.limits.split_rows) c.self.view_is) c.in_ok-written.ensures.written
+    _ _ c.in_ok-arrived.ensures.stays c.in_ok-arrived.ensures.read c.in_err-olds.ensures.files
 
-pub returns-in_err-blocks-clause-told : goal.returns-in_err-blocks-clause-told
-returns-in_err-blocks-clause-told g c =
-    let p = err_from_is_err_and c.from_residual-in_err-blocks.result c.from_residual-in_err-blocks.ensures.1 in
+pub returns-in_err-olds-clause-told : goal.returns-in_err-olds-clause-told
+returns-in_err-olds-clause-told g c =
+    let p = err_from_is_err_and c.from_residual-in_err-olds.result c.from_residual-in_err-olds.ensures.1 in
     let s : Book = c.args.self.now in
     let law : versions.IsStore s.versions = subst (λ (s : Book). versions.IsStore s.versions) c.self.view_is c.keeps_its_law.ensures.law in
     let book : IsBook s = subst IsBook c.self.view_is c.self.invariant in
     let few : c.args.upto ≤ 2 ^ 30 = omega (arith, c.requires.few, book.few) in
-    rw (p.1, p.2) (undrafted_told s law c.rows_are_few.ensures.law c.args.upto few c.requires.more (map items_of c.in_ok-written.written.items) c.self.inside.limits.split_rows c.in_ok-arrived.arrived c.in_ok-plan.plan c.in_ok-plan.ensures.plan c.in_err-blocks.field-0.0 _ _ c.in_ok-arrived.ensures.stays c.in_ok-arrived.ensures.told c.in_err-blocks.ensures.told)
+    rw (p.1, p.2) (undrafted_told c.one_block_is_held.ensures c.one_column_is_spelled.ensures s law c.rows_are_few.ensures.law c.args.upto few c.requires.more (map items_of c.in_ok-written.written.items) c.self.inside.limits.split_rows c.in_ok-arrived.arrived c.in_ok-plan.plan c.in_ok-plan.ensures.plan c.in_err-olds.field-0.0 _ _ c.in_ok-arrived.ensures.stays c.in_ok-arrived.ensures.told c.in_err-olds.ensures.files)
 
 pub returns-clause-over : goal.returns-clause-over
 returns-clause-over g c =
@@ -42,7 +42,7 @@ returns-clause-over g c =
     let law : versions.IsStore s.versions = subst (λ (s : Book). versions.IsStore s.versions) c.self.view_is c.keeps_its_law.ensures.law in
     let book : IsBook s = subst IsBook c.self.view_is c.self.invariant in
     let few : c.args.upto ≤ 2 ^ 30 = omega (arith, c.requires.few, book.few) in
-    drafted_over s.versions law (map items_of c.in_ok-written.written.items) c.self.inside.limits.split_rows c.args.upto c.in_ok-arrived.arrived c.in_ok-arrived.ensures.arrived c.in_ok-plan.plan c.in_ok-plan.ensures.plan few c.requires.more _ c.in_ok-written.ensures.written c.in_ok-blocks.ensures.read
+    drafted_over s.versions law (map items_of c.in_ok-written.written.items) c.self.inside.limits.split_rows c.args.upto c.in_ok-arrived.arrived c.in_ok-arrived.ensures.arrived c.in_ok-plan.plan c.in_ok-plan.ensures.plan few c.requires.more _ c.in_ok-written.ensures.written c.in_ok-olds.ensures.read
 
 pub invariant_of-result : goal.invariant_of-result
 invariant_of-result g c =
@@ -50,7 +50,7 @@ invariant_of-result g c =
     let law : versions.IsStore s.versions = subst (λ (s : Book). versions.IsStore s.versions) c.self.view_is c.keeps_its_law.ensures.law in
     let book : IsBook s = subst IsBook c.self.view_is c.self.invariant in
     let few : c.args.upto ≤ 2 ^ 30 = omega (arith, c.requires.few, book.few) in
-    let over = drafted_over s.versions law (map items_of c.in_ok-written.written.items) c.self.inside.limits.split_rows c.args.upto c.in_ok-arrived.arrived c.in_ok-arrived.ensures.arrived c.in_ok-plan.plan c.in_ok-plan.ensures.plan few c.requires.more _ c.in_ok-written.ensures.written c.in_ok-blocks.ensures.read in
+    let over = drafted_over s.versions law (map items_of c.in_ok-written.written.items) c.self.inside.limits.split_rows c.args.upto c.in_ok-arrived.arrived c.in_ok-arrived.ensures.arrived c.in_ok-plan.plan c.in_ok-plan.ensures.plan few c.requires.more _ c.in_ok-written.ensures.written c.in_ok-olds.ensures.read in
     (s.versions.versions.next_block, over.0, over.2)
 
 pub returns-clause-told : goal.returns-clause-told
@@ -59,4 +59,4 @@ returns-clause-told g c =
     let law : versions.IsStore s.versions = subst (λ (s : Book). versions.IsStore s.versions) c.self.view_is c.keeps_its_law.ensures.law in
     let book : IsBook s = subst IsBook c.self.view_is c.self.invariant in
     let few : c.args.upto ≤ 2 ^ 30 = omega (arith, c.requires.few, book.few) in
-    drafted_told s law c.rows_are_few.ensures.law c.args.upto few c.requires.more (map items_of c.in_ok-written.written.items) c.self.inside.limits.split_rows c.in_ok-arrived.arrived c.in_ok-plan.plan c.in_ok-plan.ensures.plan c.in_ok-blocks.blocks _ _ c.in_ok-arrived.ensures.stays c.in_ok-arrived.ensures.told c.in_ok-blocks.ensures.told
+    drafted_told c.one_block_is_held.ensures c.one_column_is_spelled.ensures s law c.rows_are_few.ensures.law c.args.upto few c.requires.more (map items_of c.in_ok-written.written.items) c.self.inside.limits.split_rows c.in_ok-arrived.arrived c.in_ok-plan.plan c.in_ok-plan.ensures.plan c.in_ok-olds.olds _ _ c.in_ok-arrived.ensures.stays c.in_ok-arrived.ensures.told c.in_ok-olds.ensures.files

@@ -15,4 +15,4 @@ pub returns-clause-holds : goal.returns-clause-holds
 returns-clause-holds c =
     let inside : Book = record { sequence = c.self.inside.sequencer; versions = c.self.inside.versions; limits = c.self.inside.limits } in
     let new : Book = record { sequence = c.self.inside.sequencer; versions = c.retire.new.self; limits = c.self.inside.limits } in
-    retired_holds c.args.self.now inside new c.args.row (sym c.self.view_is) refl c.retire.ensures.retired (subst (λ (s : Book). c.args.row ≢ s.versions.versions.current) (sym c.self.view_is) c.requires.older) c.retire.ensures.root
+    retired_holds c.args.self.now inside new c.args.row (sym c.self.view_is) refl c.retire.ensures.retired (subst (λ (s : Book). c.args.row ≢ s.versions.versions.current) (sym c.self.view_is) c.requires.older) c.retire.ensures.root c.retire.ensures.tails

@@ -5,7 +5,7 @@ use Rattle.qd_durable.specs.declared.fault.LogFault.{LogFault}
 use Rattle.qd_durable.specs.declared.fault.LogFault.TheVariants as log
 use Rattle.qd_manifest.specs.declared.shape.TableParts.{TableParts}
 use Rattle.qd_manifest.specs.Spelling.{schemas_in}
-use Rattle.qd_store.proofs.BlocksRead.{same_cause}
+use Rattle.qd_store.proofs.OldsRead.{same_cause}
 use Rattle.qd_store.proofs.MergedVersion.{may_over}
 use Rattle.qd_store_backend.specs.Backs.{IsGrowthDamaged, IsRoundDamaged, LeavesNoOther, Parts}
 use Rattle.qd_store_backend.specs.Rounds.{StaysTold}

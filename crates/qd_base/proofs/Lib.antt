@@ -1,4 +1,6 @@
 pub mod Lists
+pub mod Taken
+pub mod KeyPlaces
 pub mod Order
 pub mod Sorted
 pub mod Keys

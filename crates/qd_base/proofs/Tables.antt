@@ -12,8 +12,8 @@ use Rattle.qd_base.specs.declared.op.Op.{Op}
 use Rattle.qd_base.specs.declared.op.Op.TheVariants as op
 use Rattle.qd_base.specs.declared.op.Entry.{Entry}
 use Rattle.qd_base.specs.Rows.{time_in}
-use Rattle.qd_base.specs.Schemas.{same_name, at_name, with_column, schemas_step, schemas_from, schema_of, table_at, column_at, Fits}
-use Rattle.qd_base.specs.Database.{Database, StoredTable, missing, widened, filled, step, schemas_of}
+use Rattle.qd_base.specs.Schemas.{same_name, at_name, with_column, with_keys, schemas_step, schemas_from, schema_of, table_at, column_at, AreKeys, Fits}
+use Rattle.qd_base.specs.Database.{Database, StoredTable, missing, widened, filled, rekeyed, step, schemas_of}
 use Rattle.qd_base.specs.Replay.{commit, replay, after}
 use Rattle.qd_base.specs.Laws.{IsInOrder}
 use Rattle.qd_base.proofs.Lists.{each-append}
@@ -86,6 +86,7 @@ pub schemas_of-step : (db : Database) (o : Op) → schemas_of (step db o) ≡ sc
 schemas_of-step db (op.Create schema) = map-append (λ (t : StoredTable). t.schema) db (record { schema = schema; rows = [] } ∷ [])
 schemas_of-step db (op.AddColumn table col) = map-at_name (λ (t : StoredTable). t.schema.name) (λ (s : Schema). s.name) (widened col) (with_column col) (λ (t : StoredTable). t.schema) table (λ t. refl) (λ t. refl) db
 schemas_of-step db (op.Insert table rows) = map-kept (λ (t : StoredTable). t.schema.name) (filled rows) (λ (t : StoredTable). t.schema) table (λ t. refl) db
+schemas_of-step db (op.SetKeys table keys) = map-at_name (λ (t : StoredTable). t.schema.name) (λ (s : Schema). s.name) (rekeyed keys) (with_keys keys) (λ (t : StoredTable). t.schema) table (λ t. refl) (λ t. refl) db
 
 pub schemas_of-commit : (db : Database) (ops : List Op) → schemas_of (fold step db ops) ≡ fold schemas_step (schemas_of db) ops
 schemas_of-commit db [] = refl
@@ -111,6 +112,7 @@ in_order-step : (db : Database) (o : Op) → AllByRecursion InOrder db → AllBy
 in_order-step db (op.Create schema) h = each-append InOrder db (record { schema = schema; rows = [] } ∷ []) h (tt, tt)
 in_order-step db (op.AddColumn table col) h = each-at_name (λ (t : StoredTable). t.schema.name) (widened col) table InOrder (λ t g. in_order-longer t.schema.time_col (missing col.kind) (missing-time col.kind) t.rows g) db h
 in_order-step db (op.Insert table rows) h = each-at_name (λ (t : StoredTable). t.schema.name) (filled rows) table InOrder (λ t g. in_order-fold t.schema.time_col t.schema.keys t.rows rows g) db h
+in_order-step db (op.SetKeys table keys) h = each-at_name (λ (t : StoredTable). t.schema.name) (rekeyed keys) table InOrder (λ t g. g) db h
 
 in_order-commit : (db : Database) (ops : List Op) → AllByRecursion InOrder db → AllByRecursion InOrder (fold step db ops)
 in_order-commit db [] h = h
@@ -166,15 +168,22 @@ module _ {X : Type 0} (p : X → Bool) where
   pub not_found : (Q : X → Type 0) (xs : List X) → position p xs ≡ None → IsSomeAnd (find p xs) Q → ⊥
   not_found Q xs e h = let some : IsSome (position p xs) = position-found Q xs h in true≢false (sym some ∙ ap is_some e)
 
+-- the schema at a name's position is the one of the name
+schema_there : (schemas items : List Schema) (table : List ℕ) (i : ℕ) (s : Schema) → items ≡ schemas → Some i ≡ table_at schemas table → s ≡ get_or items i s → schema_of schemas table ≡ Some s
+schema_there schemas items table i s view at is = find-position (λ t. same_name t.name table) schemas i s (sym at) ∙ ap Some (ap (λ l. get_or l i s) (sym view) ∙ sym is)
+
+-- a test of the table at a name's position, and of a name that has none
+pub tested_at : (Q : Schema → Type 0) (schemas items : List Schema) (table : List ℕ) (i : ℕ) (s : Schema) (b : Bool) → items ≡ schemas → Some i ≡ table_at schemas table → s ≡ get_or items i s → IsTrue b ↔ Q s → IsTrue b ↔ IsSomeAnd (schema_of schemas table) Q
+tested_at Q schemas items table i s b view at is test = rw (schema_there schemas items table i s view at is) test
+
+pub tested_none : (Q : Schema → Type 0) (schemas : List Schema) (table : List ℕ) → None ≡ table_at schemas table → IsTrue false ↔ IsSomeAnd (schema_of schemas table) Q
+tested_none Q schemas table e = (λ h. absurd (true≢false (sym h)), λ h. absurd (not_found (λ t. same_name t.name table) Q schemas (sym e) h))
+
 -- whether the table at a name's position lacks a column
 pub lacks_at : (schemas items : List Schema) (table column : List ℕ) (i : ℕ) (s : Schema) (o : Option ℕ) (b : Bool) → items ≡ schemas → Some i ≡ table_at schemas table → s ≡ get_or items i s → o ≡ column_at s.cols column → is_some o ≡ not b → IsTrue b ↔ IsSomeAnd (schema_of schemas table) (λ t. IsNone (column_at t.cols column))
 lacks_at schemas items table column i s o b view at is col none =
-    let f : schema_of schemas table ≡ Some s = find-position (λ t. same_name t.name table) schemas i s (sym at) ∙ ap Some (ap (λ l. get_or l i s) (sym view) ∙ sym is) in
     let e : is_some (column_at s.cols column) ≡ not b = ap is_some (sym col) ∙ none in
-    rw f (λ t. e ∙ ap not t, λ h. not-false b (sym e ∙ h))
-
-pub lacks_table : (schemas : List Schema) (table column : List ℕ) → None ≡ table_at schemas table → IsTrue false ↔ IsSomeAnd (schema_of schemas table) (λ t. IsNone (column_at t.cols column))
-lacks_table schemas table column e = (λ h. absurd (true≢false (sym h)), λ h. absurd (not_found (λ t. same_name t.name table) (λ t. IsNone (column_at t.cols column)) schemas (sym e) h))
+    tested_at (λ t. IsNone (column_at t.cols column)) schemas items table i s b view at is (λ t. e ∙ ap not t, λ h. not-false b (sym e ∙ h))
 
 -- the table of an AddColumn that fits is there
 pub added_to : (schemas : List Schema) (o : Op) (table text : List ℕ) (col : Col) → o ≡ op.AddColumn table col → text ≡ table → Fits schemas o → IsSome (table_at schemas text)
@@ -183,15 +192,27 @@ added_to schemas o table text col is same fits =
     let named : IsSome (table_at schemas table) = position-found (λ s. same_name s.name table) (λ s. IsNone (column_at s.cols col.name)) schemas h in
     rw same named
 
+-- the table of a SetKeys that fits is there
+pub keyed_in : (schemas : List Schema) (o : Op) (table text keys : List ℕ) → o ≡ op.SetKeys table keys → text ≡ table → Fits schemas o → IsSome (table_at schemas text)
+keyed_in schemas o table text keys is same fits =
+    let h : Fits schemas (op.SetKeys table keys) = rw is at fits in
+    let named : IsSome (table_at schemas table) = position-found (λ s. same_name s.name table) (λ s. AreKeys s.cols s.time_col keys) schemas h in
+    rw same named
+
 -- the table of a name's position is there
 pub table_within : (schemas : List Schema) (table : List ℕ) (i : ℕ) → Some i ≡ table_at schemas table → i < length schemas
 table_within [] table i at = absurd (true≢false (ap is_some at))
 table_within (s ∷ ss) table i at = (position-Some (λ t. same_name t.name table) (s ∷ ss) i s (sym at)).0
 
+-- a change of the table at a name's position
+changed_at : (change : Schema → Schema) (schemas new : List Schema) (table : List ℕ) (i : ℕ) → Some i ≡ table_at schemas table → ((d : Schema) → new ≡ set schemas i (change (get_or schemas i d))) → new ≡ at_name (λ (t : Schema). t.name) change table schemas
+changed_at change [] new table i at h = absurd (true≢false (ap is_some at))
+changed_at change (s ∷ ss) new table i at h = h s ∙ sym (at_name-position (λ (t : Schema). t.name) change table (s ∷ ss) i s (sym at))
+
 -- a column added to the table at a name's position
 pub column_added : (schemas new : List Schema) (table : List ℕ) (col added : Col) (i : ℕ) → Some i ≡ table_at schemas table → added ≡ col → ((d : Schema) → new ≡ set schemas i (with_column added (get_or schemas i d))) → new ≡ at_name (λ (t : Schema). t.name) (with_column col) table schemas
-column_added [] new table col added i at same h = absurd (true≢false (ap is_some at))
-column_added (s ∷ ss) new table col added i at same h =
-    h s
-    ∙ ap (λ c. set (s ∷ ss) i (with_column c (get_or (s ∷ ss) i s))) same
-    ∙ sym (at_name-position (λ (t : Schema). t.name) (with_column col) table (s ∷ ss) i s (sym at))
+column_added schemas new table col added i at same h = changed_at (with_column col) schemas new table i at (λ d. h d ∙ ap (λ c. set schemas i (with_column c (get_or schemas i d))) same)
+
+-- keys set at the table at a name's position
+pub keys_set : (schemas new : List Schema) (table keys given : List ℕ) (i : ℕ) → Some i ≡ table_at schemas table → given ≡ keys → ((d : Schema) → new ≡ set schemas i (with_keys given (get_or schemas i d))) → new ≡ at_name (λ (t : Schema). t.name) (with_keys keys) table schemas
+keys_set schemas new table keys given i at same h = changed_at (with_keys keys) schemas new table i at (λ d. h d ∙ ap (λ k. set schemas i (with_keys k (get_or schemas i d))) same)

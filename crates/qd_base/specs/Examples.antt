@@ -20,6 +20,9 @@ insert table rows = record { ops = op.Insert table rows ∷ [] }
 abbrev pub add : List ℕ → Col → Entry
 add table col = record { ops = op.AddColumn table col ∷ [] }
 
+abbrev pub set_keys : List ℕ → List ℕ → Entry
+set_keys table keys = record { ops = op.SetKeys table keys ∷ [] }
+
 -- a table of readings, `v` and the designated `ts`, without keys
 abbrev pub readings : Schema
 readings =
@@ -70,3 +73,21 @@ pub record WorkedExamples : Type 0 where
       ∷ add (codes "readings") (record { name = codes "note"; kind = kind.Varchar })
       ∷ add (codes "readings") (record { name = codes "ok"; kind = kind.Bool }) ∷ [])
       ≡ ((cell.Long (pos 1) ∷ cell.Time 10000000 ∷ cell.Null ∷ cell.Null ∷ cell.Bool false ∷ []) ∷ []) ∷ []
+  -- keys that are set later: rows that are there stay, and each later row takes the place of those with its keys
+  pub keys_set :
+      rows_after
+      (create readings ∷ insert (codes "readings") (reading 1 10 ∷ reading 2 10 ∷ []) ∷ set_keys (codes "Readings") (1 ∷ [])
+      ∷ insert (codes "readings") (reading 3 20 ∷ reading 4 20 ∷ []) ∷ [])
+      ≡ (reading 1 10 ∷ reading 2 10 ∷ reading 4 20 ∷ []) ∷ []
+  pub keys_met :
+      rows_after
+      (create readings ∷ insert (codes "readings") (reading 1 10 ∷ reading 2 10 ∷ []) ∷ set_keys (codes "readings") (1 ∷ [])
+      ∷ insert (codes "readings") (reading 5 10 ∷ []) ∷ [])
+      ≡ (reading 5 10 ∷ []) ∷ []
+  -- keys that are taken away: later rows take no place, and the other table keeps its keys
+  pub keys_dropped :
+      rows_after
+      (create prices ∷ create readings ∷ insert (codes "prices") (price 1 (codes "a") 1 ∷ []) ∷ set_keys (codes "readings") (1 ∷ [])
+      ∷ insert (codes "prices") (price 1 (codes "a") 2 ∷ []) ∷ set_keys (codes "prices") []
+      ∷ insert (codes "prices") (price 1 (codes "a") 3 ∷ []) ∷ [])
+      ≡ (price 1 (codes "a") 2 ∷ price 1 (codes "a") 3 ∷ []) ∷ [] ∷ []

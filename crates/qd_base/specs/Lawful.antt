@@ -1,5 +1,5 @@
 -- Which histories are lawful.
-use Rattle.std.specs.Prelude.{◌≡◌, ℕ, ◌<◌, ◌≤◌, ◌<ℤ◌, ◌≤ℤ◌, List, [], ◌∷◌, ◌⊎◌, length, All, Contains, fold, sum_by, nat_eq, IfSome, IsSomeAnd, slice_get}
+use Rattle.std.specs.Prelude.{◌≡◌, ℕ, ◌<◌, ◌≤◌, ◌<ℤ◌, ◌≤ℤ◌, List, [], ◌∷◌, ◌⊎◌, length, All, fold, sum_by, IfSome, IsSomeAnd, slice_get}
 use Rattle.std.specs.List.{AllZip, IsDistinct}
 use Rattle.qd_base.specs.declared.cell.Cell.{Cell}
 use Rattle.qd_base.specs.declared.cell.Cell.TheVariants as cell
@@ -13,7 +13,7 @@ use Rattle.qd_base.specs.declared.op.Entry.{Entry}
 use Rattle.qd_base.specs.declared.limits.TheConstants.{MAX_BATCH_CELLS, MAX_COLUMNS, MAX_LONG, MAX_TABLES, MAX_TEXT_BYTES, MAX_TIME, NULL_LONG}
 use Rattle.qd_base.specs.Names.{IsColumnName, IsTableName}
 use Rattle.qd_base.specs.Rows.{Row, cell_at}
-use Rattle.qd_base.specs.Schemas.{same_name, schema_of, schemas_step, Fits}
+use Rattle.qd_base.specs.Schemas.{same_name, schema_of, schemas_step, AreKeys, Fits, SetsNoKeys}
 
 -- a text that can be stored: bytes, and not too many
 pub record IsText (text : List ℕ) : Type 0 where
@@ -52,13 +52,14 @@ pub record IsSchema (s : Schema) : Type 0 where
   -- the designated column is there, and a TIMESTAMP
   pub designated : IsSomeAnd (slice_get s.cols s.time_col) (λ c. c.kind ≡ kind.Time)
   -- no keys, or distinct columns with the designated one among them
-  pub keys : (s.keys ≡ []) ⊎ (All (λ k. k < length s.cols) s.keys × IsDistinct nat_eq s.keys × Contains s.keys s.time_col)
+  pub keys : AreKeys s.cols s.time_col s.keys
 
 -- a change is of good form over the schemas before it
 abbrev pub IsSound : List Schema → Op → Type 0
 IsSound schemas (op.Create schema) = (length schemas < MAX_TABLES) × IsSchema schema
 IsSound schemas (op.AddColumn table col) = IsColumnName col.name × IfSome (schema_of schemas table) (λ s. length s.cols < MAX_COLUMNS)
 IsSound schemas (op.Insert table rows) = IfSome (schema_of schemas table) (λ s. All (IsRowOf s) rows)
+IsSound schemas (op.SetKeys table keys) = Unit {0}
 
 -- each change fits where it stands, and is of good form there
 abbrev pub AreLawful : List Schema → List Op → Type 0
@@ -70,14 +71,19 @@ abbrev pub cells_in : Op → ℕ
 cells_in (op.Create schema) = 0
 cells_in (op.AddColumn table col) = 0
 cells_in (op.Insert table rows) = sum_by length rows
+cells_in (op.SetKeys table keys) = 0
 
 abbrev pub cells_of : Entry → ℕ
 cells_of entry = sum_by cells_in entry.ops
 
+-- changes of one transaction: one that sets keys has no other beside it
+abbrev pub SetsKeysAlone : List Op → Type 0
+SetsKeysAlone ops = (length ops ≤ 1) ⊎ SetsNoKeys ops
+
 -- each transaction is lawful over the schemas that the ones before it leave
 abbrev pub LawfulFrom : List Schema → List Entry → Type 0
 LawfulFrom schemas [] = Unit {0}
-LawfulFrom schemas (e ∷ es) = AreLawful schemas e.ops × (cells_of e ≤ MAX_BATCH_CELLS) × LawfulFrom (fold schemas_step schemas e.ops) es
+LawfulFrom schemas (e ∷ es) = AreLawful schemas e.ops × (cells_of e ≤ MAX_BATCH_CELLS) × SetsKeysAlone e.ops × LawfulFrom (fold schemas_step schemas e.ops) es
 
 -- a lawful history
 abbrev pub Lawful : List Entry → Type 0

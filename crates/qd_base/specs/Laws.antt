@@ -6,7 +6,7 @@ use Rattle.qd_base.specs.declared.op.Entry.{Entry}
 use Rattle.qd_base.specs.declared.op.Op.{Op}
 use Rattle.qd_base.specs.declared.limits.TheConstants.{LAST_OFFSET, MAX_BATCH_CELLS, MAX_COLUMNS, MAX_LONG, MAX_NAME_BYTES, MAX_NESTING, MAX_NUMBER, MAX_QUERY_BYTES, MAX_RESULT_BYTES, MAX_SAMPLED_ROWS, MAX_STRIDE, MAX_SUFFIX_COUNT, MAX_TABLES, MAX_TEXT_BYTES, MAX_TIME, MAX_TXNS, MAX_WRITE_BYTES, NULL_LONG, NULL_TIME}
 use Rattle.qd_base.specs.Rows.{Row, cell_eq, time_of, same_on, without_equals, put}
-use Rattle.qd_base.specs.Schemas.{schemas_step, schemas_from}
+use Rattle.qd_base.specs.Schemas.{schemas_step, schemas_from, KeysStay}
 use Rattle.qd_base.specs.Database.{Database, StoredTable, step, schemas_of}
 use Rattle.qd_base.specs.Replay.{replay, after, first}
 use Rattle.qd_base.specs.Lawful.{Lawful, AreSchemas, IsRowOf}
@@ -31,10 +31,10 @@ pub record EqualTimesKeepOrder : Type 0 where
   pub with_keys : (col t : ℕ) (keys : List ℕ) (rows : List Row) (row : Row) → at_time col t (put col keys rows row) ≡ at_time col t (without_equals keys rows row) ++ at_time col t (row ∷ [])
 
 -- With keys, no two rows that were put into an empty table are equal on all of them, and no two of a table that a
--- lawful history leaves.
+-- lawful history leaves, where none of its transactions set that table's keys.
 pub record KeysAreUnique : Type 0 where
   pub rows : (col k : ℕ) (ks : List ℕ) (new : List Row) → IsDistinct (same_on (k ∷ ks)) (fold (put col (k ∷ ks)) [] new)
-  pub tables : (history : List Entry) → Lawful history → AllByRecursion (λ (t : StoredTable). (t.schema.keys ≡ []) ⊎ IsDistinct (same_on t.schema.keys) t.rows) (after history)
+  pub tables : (history : List Entry) → Lawful history → AllByRecursion (λ (t : StoredTable). KeysStay history t.schema.name → (t.schema.keys ≡ []) ⊎ IsDistinct (same_on t.schema.keys) t.rows) (after history)
 
 -- With keys, the row that was put is there, and it is the only one with its keys; every other row that was there and
 -- differs from it on a key is still there.

@@ -53,7 +53,8 @@ pub fn cells_are_compared()
     ensures law { CellsAreCompared }
 {}
 
-/// The definitions give what is wanted at some short histories: late rows, equal times, keys, added columns.
+/// The definitions give what is wanted at some short histories: late rows, equal times, keys, added columns, keys that are
+/// set later.
 pub fn worked_examples()
     ensures law { WorkedExamples }
 {}

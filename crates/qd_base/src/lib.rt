@@ -7,6 +7,7 @@
 
 mod cell;
 mod code;
+mod dedup;
 mod dictionary;
 mod front;
 mod laws;

@@ -1,6 +1,9 @@
 //! What a transaction does.
+ghost use Rattle.std.specs.Prelude.{◌≡◌};
+ghost use Rattle.qd_base.specs.Schemas.{sets_keys};
+
 use crate::cell::RowList;
-use crate::schema::{Col, Schema};
+use crate::schema::{Col, KeyList, Schema};
 use crate::seq::{Duplicate, Memory, Seq};
 use crate::txt::Txt;
 
@@ -26,6 +29,22 @@ pub enum Op {
         /// Rows with one cell for each column.
         rows: RowList,
     },
+    /// Sets the deduplication keys of a table, for rows that come after. Rows that are there stay as they are.
+    SetKeys {
+        /// The name of the table.
+        table: Txt,
+        /// The new keys, the designated column among them. Empty: all rows that come after are kept.
+        keys: KeyList,
+    },
+}
+
+impl Op {
+    /// Says whether the change sets keys, in constant time.
+    pub fn sets_keys(&self) -> bool
+        ensures keys { result ≡ sets_keys self.now }
+    {
+        matches!(self, Op::SetKeys { .. })
+    }
 }
 
 impl Duplicate for Op {
@@ -41,6 +60,10 @@ impl Duplicate for Op {
             Op::Insert { table, rows } => Op::Insert {
                 table: table.copy()?,
                 rows: rows.copy()?,
+            },
+            Op::SetKeys { table, keys } => Op::SetKeys {
+                table: table.copy()?,
+                keys: keys.copy()?,
             },
         })
     }

@@ -3,6 +3,7 @@ ghost use Rattle.std.specs.Prelude.{◌≡◌};
 ghost use Rattle.qd_base.specs.Database as database;
 
 use crate::cell::Cell;
+use crate::dedup::are_keys;
 use crate::named::{Named, NamedList};
 use crate::seq::{Duplicate, Memory, Seq};
 use crate::txt::Txt;
@@ -95,7 +96,8 @@ pub struct Schema {
 }
 
 impl Schema {
-    ghost use Rattle.qd_base.specs.Schemas.{column_at};
+    ghost use Rattle.std.specs.Prelude.{IsTrue, ◌↔◌};
+    ghost use Rattle.qd_base.specs.Schemas.{column_at, AreKeys};
 
     /// Gives the position of the column of a name, where there is one. ASCII case is ignored. It costs time logarithmic
     /// in the number of columns, and takes no memory.
@@ -103,6 +105,14 @@ impl Schema {
         ensures position { result ≡ column_at self.now.cols name.now }
     {
         self.cols.find(name)
+    }
+
+    /// Says whether the table may have these deduplication keys: none, or distinct columns with the designated one among
+    /// them. Each key is compared with those before it, behind no more of them than there are columns; no memory is taken.
+    pub fn takes_keys(&self, keys: &[u32]) -> bool
+        ensures keys { IsTrue result ↔ AreKeys self.now.cols self.now.time_col keys.now }
+    {
+        are_keys(&self.cols, self.time_col, keys)
     }
 }
 

@@ -3,7 +3,7 @@ ghost use Rattle.std.specs.Prelude.{◌≡◌, ◌<◌, ◌==◌, [], length, So
 
 use crate::named::NamedList;
 use crate::op::Op;
-use crate::schema::{Col, Schema};
+use crate::schema::{Col, KeyList, Schema};
 use crate::seq::{Duplicate, Memory};
 use std::alloc::Global;
 use std::marker::Model;
@@ -25,7 +25,7 @@ impl Model for Schemas {
 
 impl Schemas {
     ghost use Rattle.qd_base.specs.declared.schema.Schema.{Schema};
-    ghost use Rattle.qd_base.specs.Schemas.{table_at, column_at, schema_of, schemas_step, at_name, with_column, Fits};
+    ghost use Rattle.qd_base.specs.Schemas.{table_at, column_at, schema_of, schemas_step, at_name, with_column, with_keys, AreKeys, Fits};
 
     /// Makes the empty list.
     pub fn new(alloc: Global) -> Schemas
@@ -67,8 +67,8 @@ impl Schemas {
     }
 
     /// Says whether an operation fits: whether it makes a table of a new name, adds a column of a new name to a table
-    /// that is there, or inserts into a table that is there. It costs time logarithmic in the number of tables, and of the
-    /// table's columns.
+    /// that is there, inserts into a table that is there, or sets keys that a table that is there may have. It costs time
+    /// logarithmic in the number of tables, and of the table's columns; each key is compared with those before it.
     pub fn fits(&self, op: &Op) -> bool
         ensures fits { IsTrue result ↔ Fits self.now op.now }
     {
@@ -76,6 +76,7 @@ impl Schemas {
             Op::Create { schema } => self.find(schema.name.bytes()).is_none(),
             Op::AddColumn { table, col } => self.lacks_column(table.bytes(), col.name.bytes()),
             Op::Insert { table, .. } => self.find(table.bytes()).is_some(),
+            Op::SetKeys { table, keys } => self.takes_keys(table.bytes(), keys.as_slice()),
         }
     }
 
@@ -86,6 +87,16 @@ impl Schemas {
     {
         match self.find(table) {
             Some(i) => self.list.get(i).find_column(column).is_none(),
+            None => false,
+        }
+    }
+
+    /// Whether the table is there, and may have these keys.
+    fn takes_keys(&self, table: &[u8], keys: &[u32]) -> bool
+        ensures takes { IsTrue result ↔ IsSomeAnd (schema_of self.now table.now) (λ s. AreKeys s.cols s.time_col keys.now) }
+    {
+        match self.find(table) {
+            Some(i) => self.list.get(i).takes_keys(keys),
             None => false,
         }
     }
@@ -104,6 +115,7 @@ impl Schemas {
             }
             Op::AddColumn { table, col } => self.add_column(table.bytes(), col),
             Op::Insert { .. } => Ok(()),
+            Op::SetKeys { table, keys } => self.set_keys(table.bytes(), keys),
         }
     }
 
@@ -126,6 +138,28 @@ impl Schemas {
             Some(i) => self.widen(i, col),
             None => Ok(()),
         }
+    }
+
+    fn set_keys(&mut self, table: &[u8], keys: &KeyList) -> Result<(), Memory>
+        requires { IsSome (table_at self.old table.now) }
+        ensures ok { OnOk result (self.new ≡ at_name (λ s. s.name) (with_keys keys.now) table.now self.old) }
+        ensures err { OnErr result (self.new ≡ self.old) }
+    {
+        let keys = keys.copy()?;
+        if let Some(i) = self.find(table) {
+            self.rekey(i, keys);
+        }
+        Ok(())
+    }
+
+    /// Puts keys in place of those of the table at a position.
+    fn rekey(&mut self, i: usize, keys: KeyList)
+        requires { i < length self.old }
+        ensures keys { (d : Schema) → self.new ≡ slice_set self.old i (with_keys keys (slice_index_or self.old i d)) }
+    {
+        let list = &mut self.list;
+        let schema = &mut list.items[i];
+        schema.keys = keys;
     }
 
     /// Adds a column behind the others of the table at a position.

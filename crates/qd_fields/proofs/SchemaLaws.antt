@@ -10,8 +10,8 @@ use Rattle.qd_base.specs.declared.schema.ColType.TheVariants as kind
 use Rattle.qd_base.specs.declared.schema.PartUnit.{PartUnit}
 use Rattle.qd_base.specs.declared.schema.PartUnit.TheVariants as units
 use Rattle.qd_base.specs.declared.schema.Schema.{Schema}
-use Rattle.qd_fields.specs.Spelling.{u16_bytes, name_bytes, code_of_kind, code_of_unit, column_bytes, schema_bytes, FitsColumn, FitsSchema}
-use Rattle.qd_fields.specs.Layout.{Read, ◌>>=◌, coded, items, each, number_at, byte_at, name_at, listed, kind_of_code, unit_of_code, column_at, schema_at}
+use Rattle.qd_fields.specs.Spelling.{u16_bytes, name_bytes, keys_bytes, code_of_kind, code_of_unit, column_bytes, schema_bytes, FitsColumn, FitsKeys, FitsSchema}
+use Rattle.qd_fields.specs.Layout.{Read, ◌>>=◌, coded, items, each, number_at, byte_at, name_at, listed, kind_of_code, unit_of_code, column_at, keys_at, schema_at}
 use Rattle.qd_fields.proofs.Steps.{AreBytes, bind_ok, bind_again, ok_is, coded_ok, coded_again, Takes, Takes-then, wide16, number_takes, number_again, byte_takes, name_takes, name_again, find_passes, items_take, items_again, All-amid}
 
 -- ---- codes
@@ -74,6 +74,18 @@ listed_again {A} f spell all rest few step =
     let behind = flat_map spell all ++ rest in
     let one : number_at w16 (u16_bytes (length all) ++ behind) ≡ Ok (length all, behind) = number_again w16 (2 ^ 16) wide16 (length all) behind few in
     bind_again (number_at w16 (u16_bytes (length all) ++ behind)) (λ n. items (each f) n.0 [] n.1) (length all, behind) (all, rest) one (items_again (each f) spell all step rest)
+
+-- ---- keys
+
+pub keys_takes : (bytes : List ℕ) (x : List ℕ × List ℕ) → AreBytes bytes → keys_at bytes ≡ Ok x → FitsKeys x.0 × Takes bytes (keys_bytes x.0) x.1
+keys_takes bytes x known e =
+    let t = listed_takes (number_at w16) u16_bytes (λ k. k < 2 ^ 16) (λ l y fit h. let n = number_takes w16 (2 ^ 16) wide16 l y.0 y.1 fit h in (n.1, n.0)) bytes x known e in
+    (record { few = t.1; each = t.0 }, t.2)
+
+pub keys_again : (keys rest : List ℕ) → FitsKeys keys → keys_at (keys_bytes keys ++ rest) ≡ Ok (keys, rest)
+keys_again keys rest fits =
+    ap keys_at (append_assoc (u16_bytes (length keys)) (flat_map u16_bytes keys) rest)
+    ∙ listed_again (number_at w16) u16_bytes keys rest fits.few (λ before k after more e. number_again w16 (2 ^ 16) wide16 k more (All-amid (λ j. j < 2 ^ 16) keys before k after e fits.each))
 
 -- ---- schemas
 

@@ -80,6 +80,10 @@ column_at bytes = do
 abbrev pub listed : {A : Type 0} → (List ℕ → Read A) → List ℕ → Read (List A)
 listed f bytes = number_at w16 bytes >>= λ n. items (each f) n.0 [] n.1
 
+-- keys behind their number
+abbrev pub keys_at : List ℕ → Read (List ℕ)
+keys_at bytes = listed (number_at w16) bytes
+
 -- a schema, of whatever names, columns and keys
 unfoldable pub schema_at : List ℕ → Read Schema
 schema_at bytes = do

@@ -48,6 +48,10 @@ column_bytes c = code_of_kind c.kind ∷ name_bytes c.name
 unfoldable pub schema_bytes : Schema → List ℕ
 schema_bytes s = name_bytes s.name ++ (u16_bytes (length s.cols) ++ (flat_map column_bytes s.cols ++ (u16_bytes s.time_col ++ (code_of_unit s.unit ∷ (u16_bytes (length s.keys) ++ flat_map u16_bytes s.keys)))))
 
+-- keys behind their number
+abbrev pub keys_bytes : List ℕ → List ℕ
+keys_bytes keys = u16_bytes (length keys) ++ flat_map u16_bytes keys
+
 -- What is short enough for its fields.
 abbrev pub FitsName : List ℕ → Type 0
 FitsName name = length name < 2 ^ 8
@@ -62,3 +66,7 @@ pub record FitsSchema (s : Schema) : Type 0 where
   pub time : s.time_col < 2 ^ 16
   pub keys : length s.keys < 2 ^ 16
   pub each_key : All (λ k. k < 2 ^ 16) s.keys
+
+pub record FitsKeys (keys : List ℕ) : Type 0 where
+  pub few : length keys < 2 ^ 16
+  pub each : All (λ k. k < 2 ^ 16) keys

@@ -2,8 +2,8 @@
 ghost use Rattle.std.specs.Prelude.{◌≡◌, ◌^◌, ◌<◌, ◌++◌, [], length, All, OnOk};
 ghost use Rattle.std.specs.List.{flat_map};
 ghost use Rattle.std.specs.Int.{w16};
-ghost use Rattle.qd_fields.specs.Spelling.{u16_bytes, column_bytes, schema_bytes, FitsColumn, FitsSchema};
-ghost use Rattle.qd_fields.specs.Layout.{items, each, listed, number_at, column_at, schema_at};
+ghost use Rattle.qd_fields.specs.Spelling.{u16_bytes, column_bytes, keys_bytes, schema_bytes, FitsColumn, FitsKeys, FitsSchema};
+ghost use Rattle.qd_fields.specs.Layout.{items, each, listed, number_at, column_at, keys_at, schema_at};
 ghost use Rattle.qd_fields.specs.Reading.{Gives};
 
 use crate::codes::{kind_at, push_kind, push_unit, unit_at};
@@ -94,9 +94,11 @@ fn columns(alloc: Global, count: u16, bytes: &[u8]) -> Result<(ColList, &[u8]), 
     Ok((cols, rest))
 }
 
-/// The keys behind their number.
-fn keys_at(alloc: Global, bytes: &[u8]) -> Result<(KeyList, &[u8]), Stop>
-    ensures read { Gives (λ x. (x.0, x.1.now)) result (listed (number_at w16) bytes.now) }
+/// Reads keys behind their number, of whatever columns. Damage is where bytes are missing.
+///
+/// It costs time and memory linear in the bytes. No memory is reserved for what the bytes don't hold.
+pub fn keys_at(alloc: Global, bytes: &[u8]) -> Result<(KeyList, &[u8]), Stop>
+    ensures read { Gives (λ x. (x.0, x.1.now)) result (keys_at bytes.now) }
 {
     let (count, rest) = u16_at(bytes)?;
     keys(alloc, count, rest)
@@ -129,11 +131,10 @@ fn push_columns(bytes: &mut Vec<u8>, cols: &[Col]) -> Result<(), Memory>
     Ok(())
 }
 
-/// Adds the number of keys, and the keys.
-fn push_keys(bytes: &mut Vec<u8>, keys: &[u32]) -> Result<(), Memory>
-    requires few { length keys.now < 2 ^ 16 }
-    requires fit { All (λ k. k < 2 ^ 16) keys.now }
-    ensures bytes { OnOk result (bytes.new.items ≡ bytes.old.items ++ (u16_bytes (length keys.now) ++ flat_map u16_bytes keys.now)) }
+/// Adds the number of keys, and the keys, where they are few enough and small enough for their fields.
+pub fn push_keys(bytes: &mut Vec<u8>, keys: &[u32]) -> Result<(), Memory>
+    requires fits { FitsKeys keys.now }
+    ensures bytes { OnOk result (bytes.new.items ≡ bytes.old.items ++ keys_bytes keys.now) }
 {
     push_u16(bytes, keys.len() as u16)?;
     for key in keys {

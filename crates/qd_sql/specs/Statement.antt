@@ -11,17 +11,18 @@ use Rattle.qd_base.specs.declared.limits.TheConstants.{MAX_NUMBER, MAX_STRIDE}
 use Rattle.qd_sql_ast.specs.declared.tree.Stmt.{Stmt}
 use Rattle.qd_sql_ast.specs.declared.tree.Stmt.TheVariants as is
 use Rattle.qd_sql_lexer.specs.Tokens.{Lexeme, tokens}
-use Rattle.qd_sql_ast.specs.Steps.{Read, ◌>>=◌, if_taken, is_word, same_kind, number_of, stride_count, end, sign, word}
-use Rattle.qd_sql_ast.specs.Writes.{create, insert, show}
+use Rattle.qd_sql_ast.specs.Steps.{Read, ◌>>=◌, if_taken, is_word, same_kind, number_of, stride_count, end, sign, two_words, word}
+use Rattle.qd_sql_ast.specs.Writes.{alter, create, insert, show}
 use Rattle.qd_sql.specs.Queries.{query}
 
--- query | "CREATE" create | "INSERT" insert | "SHOW" show
+-- query | "CREATE" create | "INSERT" insert | "SHOW" show | "ALTER" "TABLE" alter
 unfoldable pub statement : List Lexeme → Read Stmt
 statement ts =
     if_taken (word (codes "CREATE") ts) (λ x. create x.1 >>= λ s. Ok (is.Create s.0, s.1))
     (if_taken (word (codes "INSERT") ts) (λ x. insert x.1 >>= λ s. Ok (is.Insert s.0, s.1))
     (if_taken (word (codes "SHOW") ts) (λ x. show x.1 >>= λ s. Ok (is.Show s.0.text s.0.at, s.1))
-    (query ts >>= λ s. Ok (is.Query s.0, s.1))))
+    (if_taken (two_words (codes "ALTER") (codes "TABLE") ts) (λ x. alter x.1 >>= λ s. Ok (is.Alter s.0, s.1))
+    (query ts >>= λ s. Ok (is.Query s.0, s.1)))))
 
 -- [";"] and nothing behind it
 unfoldable pub ended : List Lexeme → Read (Unit {0})
@@ -34,17 +35,21 @@ whole_text ts = do
   done ← ended found.1
   Ok (found.0, done.1)
 
--- ALTER DELETE DROP EXPLAIN REFRESH TRUNCATE UPDATE VACUUM WITH
+-- DELETE DROP EXPLAIN REFRESH TRUNCATE UPDATE VACUUM WITH
 unfoldable pub is_unbuilt_word : Lexeme → Bool
 is_unbuilt_word t =
-    is_word (codes "ALTER") t || is_word (codes "DELETE") t || is_word (codes "DROP") t || is_word (codes "EXPLAIN") t || is_word (codes "REFRESH") t
-    || is_word (codes "TRUNCATE") t || is_word (codes "UPDATE") t || is_word (codes "VACUUM") t || is_word (codes "WITH") t
+    is_word (codes "DELETE") t || is_word (codes "DROP") t || is_word (codes "EXPLAIN") t || is_word (codes "REFRESH") t || is_word (codes "TRUNCATE") t
+    || is_word (codes "UPDATE") t || is_word (codes "VACUUM") t || is_word (codes "WITH") t
 
--- such a word comes first, or CREATE before a token that isn't TABLE
+-- CREATE ALTER
+unfoldable pub changes_tables : Lexeme → Bool
+changes_tables t = is_word (codes "CREATE") t || is_word (codes "ALTER") t
+
+-- a word of the first comes first, or one of the others before a token that isn't TABLE
 unfoldable pub is_unbuilt : List Lexeme → Bool
 is_unbuilt [] = false
 is_unbuilt (t ∷ []) = is_unbuilt_word t
-is_unbuilt (t ∷ u ∷ ts) = is_unbuilt_word t || (is_word (codes "CREATE") t && not (is_word (codes "TABLE") u))
+is_unbuilt (t ∷ u ∷ ts) = is_unbuilt_word t || (changes_tables t && not (is_word (codes "TABLE") u))
 
 abbrev pub is_far_count : ℕ → Bool
 is_far_count count = count == 0 || nat_lt MAX_STRIDE count

@@ -8,9 +8,10 @@ mod stmt;
 
 pub use laws::{refusals_have_causes, statements_stand, texts_are_answered};
 pub use qd_sql_ast::{
-    AddOp, AddTerm, AggOf, AlignTo, AndNeg, Boxed, Check, Cmp, Column, ColumnDef, Conj, Create,
-    Dedup, Expr, FillWith, Fills, Filter, Insert, Item, Items, Join, JoinOf, Latest, Limit, Lit,
-    Magnitude, MulOp, MulSigned, Name, Neg, Number, OrConj, OrderKey, Plus, Prime, Query, Sampled,
-    Selected, Shown, Signed, Source, Stmt, StrideCount, StrideOf, Term, Test, Text, Tuple,
+    AddOp, AddTerm, AggOf, AlignTo, Alter, AndNeg, Boxed, Change, Check, Cmp, Column, ColumnDef,
+    Conj, Create, Dedup, Expr, FillWith, Fills, Filter, Insert, Item, Items, Join, JoinOf, Latest,
+    Limit, Lit, Magnitude, MulOp, MulSigned, Name, Neg, Number, OrConj, OrderKey, Plus, Prime,
+    Query, Sampled, Selected, Shown, Signed, Source, Stmt, StrideCount, StrideOf, Term, Test, Text,
+    Tuple,
 };
 pub use stmt::{SqlFault, parse_stmt};

@@ -7,7 +7,8 @@ ghost use Rattle.qd_sql_ast.specs.Steps.{Reads, lexemes, seen};
 use crate::query::query;
 use qd_base::{Code, MAX_NUMBER, MAX_STRIDE, Memory};
 use qd_sql_ast::{
-    Cursor, Halt, Stmt, Stop, create, insert, is_word, number_of, same_kind, show, stride_count,
+    Cursor, Halt, Stmt, Stop, alter, create, insert, is_word, number_of, same_kind, show,
+    stride_count,
 };
 use qd_sql_lexer::{Kind, Token, tokens};
 use std::alloc::Global;
@@ -42,8 +43,8 @@ impl From<Memory> for SqlFault {
 
 /// Reads the one statement that a text of SQL is, of QuestDB's SQL as far as this project builds it.
 ///
-/// Refused are, in this order: with `NotBuilt` a text that begins with ALTER, DELETE, DROP, EXPLAIN, REFRESH, TRUNCATE,
-/// UPDATE, VACUUM or WITH, or with CREATE before something else than TABLE; with `SqlSyntax` a text that is no statement;
+/// Refused are, in this order: with `NotBuilt` a text that begins with DELETE, DROP, EXPLAIN, REFRESH, TRUNCATE, UPDATE,
+/// VACUUM or WITH, or with CREATE or ALTER before something else than TABLE; with `SqlSyntax` a text that is no statement;
 /// with `NumberRange` a number above 9223372036854775807, or a stride whose count is not from 1 to 1,000,000.
 ///
 /// Where brackets of expressions nest deeper than `MAX_NESTING`, it is `TooDeep` at the first that does, whatever stands
@@ -129,7 +130,7 @@ fn ended(tokens: &mut Cursor<'_, '_>) -> Result<(), Stop>
     }
 }
 
-/// query | create | insert | "SHOW" ..
+/// query | create | insert | alter | "SHOW" ..
 #[tactic(auto, unfolding(crate::specs::Statement::statement))]
 fn statement(alloc: Global, tokens: &mut Cursor<'_, '_>) -> Result<Stmt, Stop>
     ensures { Reads (spec.statement tokens.old) result tokens.new }
@@ -141,6 +142,8 @@ fn statement(alloc: Global, tokens: &mut Cursor<'_, '_>) -> Result<Stmt, Stop>
     } else if tokens.word(b"SHOW").is_some() {
         let table = show(alloc, tokens)?;
         Ok(Stmt::Show(table.text, table.at))
+    } else if tokens.two_words(b"ALTER", b"TABLE").is_some() {
+        Ok(Stmt::Alter(alter(alloc, tokens)?))
     } else {
         Ok(Stmt::Query(query(alloc, tokens)?))
     }
@@ -155,9 +158,17 @@ fn is_unbuilt(list: &[Token<'_>]) -> bool
         [] => false,
         [first] => is_unbuilt_word(first),
         [first, second, ..] => {
-            is_unbuilt_word(first) || (is_word(first, b"CREATE") && !is_word(second, b"TABLE"))
+            is_unbuilt_word(first) || (changes_tables(first) && !is_word(second, b"TABLE"))
         }
     }
+}
+
+/// Whether a word is CREATE or ALTER, of which the statements on tables are built.
+#[tactic(auto, unfolding(crate::specs::Statement::changes_tables))]
+fn changes_tables(token: &Token<'_>) -> bool
+    ensures { result ≡ spec.changes_tables (seen token.now) }
+{
+    is_word(token, b"CREATE") || is_word(token, b"ALTER")
 }
 
 /// Whether a statement that begins with this word is not built.
@@ -165,8 +176,7 @@ fn is_unbuilt(list: &[Token<'_>]) -> bool
 fn is_unbuilt_word(token: &Token<'_>) -> bool
     ensures { result ≡ spec.is_unbuilt_word (seen token.now) }
 {
-    is_word(token, b"ALTER")
-        || is_word(token, b"DELETE")
+    is_word(token, b"DELETE")
         || is_word(token, b"DROP")
         || is_word(token, b"EXPLAIN")
         || is_word(token, b"REFRESH")

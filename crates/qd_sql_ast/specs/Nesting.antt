@@ -165,6 +165,7 @@ abbrev pub expressions : Stmt → List Expr
 expressions (is.Query q) = expressions_selected q.selected ++ expressions_tested q.filter
 expressions (is.Create c) = []
 expressions (is.Insert i) = []
+expressions (is.Alter a) = []
 expressions (is.Show name place) = []
 
 -- how deep brackets nest in any of them

@@ -96,6 +96,12 @@ call w [] = None
 call w (t ∷ []) = None
 call w (t ∷ u ∷ ts) = if is_word w t && same_kind u.kind kind.Open then Some (t.at, ts) else None
 
+-- a word and another one behind it, and what is behind both
+unfoldable pub two_words : List ℕ → List ℕ → List Lexeme → Option (ℕ × List Lexeme)
+two_words v w [] = None
+two_words v w (t ∷ []) = None
+two_words v w (t ∷ u ∷ ts) = if is_word v t && is_word w u then Some (t.at, ts) else None
+
 abbrev pub wanted : List Lexeme → Option (ℕ × List Lexeme) → Read ℕ
 wanted ts None = Err (stuck ts)
 wanted ts (Some x) = Ok x

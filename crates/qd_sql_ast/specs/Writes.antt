@@ -8,6 +8,9 @@ use Rattle.qd_sql_lexer.specs.declared.token.Kind.TheVariants as sign_kind
 use Rattle.qd_sql_ast.specs.declared.tree.Name.{Name}
 use Rattle.qd_sql_ast.specs.declared.tree.Lit.{Lit}
 use Rattle.qd_sql_ast.specs.declared.tree.Lit.TheVariants as literal
+use Rattle.qd_sql_ast.specs.declared.tree.Alter.{Alter}
+use Rattle.qd_sql_ast.specs.declared.tree.Change.{Change}
+use Rattle.qd_sql_ast.specs.declared.tree.Change.TheVariants as changes
 use Rattle.qd_sql_ast.specs.declared.tree.ColumnDef.{ColumnDef}
 use Rattle.qd_sql_ast.specs.declared.tree.Create.{Create}
 use Rattle.qd_sql_ast.specs.declared.tree.Dedup.{Dedup}
@@ -72,17 +75,17 @@ unit ts =
     (Err (stuck ts)))))
 
 -- "UPSERT" "KEYS" "(" name {"," name} ")"
-abbrev pub keys : List Lexeme → Read (Option Dedup)
+unfoldable pub keys : List Lexeme → Read Dedup
 keys ts = do
   upsert ← want_word (codes "UPSERT") ts
   word ← want_word (codes "KEYS") upsert.1
   open_bracket ← want sign_kind.Open word.1
   found ← names_to_bracket open_bracket.1
-  Ok (Some (record { at = word.0; keys = found.0 }), found.1)
+  Ok (record { at = word.0; keys = found.0 }, found.1)
 
 -- ["DEDUP" keys]
 unfoldable pub dedup : List Lexeme → Read (Option Dedup)
-dedup ts = if_taken (word (codes "DEDUP") ts) (λ x. keys x.1) (Ok (None, ts))
+dedup ts = if_taken (word (codes "DEDUP") ts) (λ x. keys x.1 >>= λ found. Ok (Some found.0, found.1)) (Ok (None, ts))
 
 -- "(" column {"," column} ")" "TIMESTAMP" "(" name ")"
 unfoldable pub table_columns : List Lexeme → Read (List ColumnDef × Name)
@@ -143,6 +146,30 @@ insert ts = do
   values ← want_word (codes "VALUES") named.1
   rows ← tuples values.1
   Ok (record { table = table.0; columns = named.0; tuples = rows.0 }, rows.1)
+
+-- "COLUMN" column
+unfoldable pub added : List Lexeme → Read Change
+added ts = do
+  word ← want_word (codes "COLUMN") ts
+  found ← column word.1
+  Ok (changes.AddColumn found.0, found.1)
+
+-- "ENABLE" keys | "DISABLE"
+unfoldable pub dedup_change : List Lexeme → Read Change
+dedup_change ts =
+    if_taken (word (codes "ENABLE") ts) (λ x. keys x.1 >>= λ found. Ok (changes.EnableDedup found.0, found.1))
+    (want_word (codes "DISABLE") ts >>= λ x. Ok (changes.DisableDedup, x.1))
+
+-- "ADD" added | "DEDUP" dedup_change
+unfoldable pub change : List Lexeme → Read Change
+change ts = if_taken (word (codes "ADD") ts) (λ x. added x.1) (want_word (codes "DEDUP") ts >>= λ x. dedup_change x.1)
+
+-- name change
+unfoldable pub alter : List Lexeme → Read Alter
+alter ts = do
+  table ← name ts
+  found ← change table.1
+  Ok (record { table = table.0; change = found.0 }, found.1)
 
 -- "PARTITIONS" "FROM" name
 unfoldable pub show : List Lexeme → Read Name

@@ -143,6 +143,20 @@ impl<'t, 'a> Cursor<'t, 'a> {
         }
     }
 
+    /// Takes two words, one behind the other, where both come next, and gives the first one's offset.
+    #[tactic(auto, unfolding(crate::specs::Steps::two_words))]
+    pub fn two_words(&mut self, one: &[u8], other: &[u8]) -> Option<u64>
+        ensures { Takes result (spec.two_words one.now other.now self.old) self.old self.new }
+    {
+        match self.left {
+            [first, second, rest @ ..] if is_word(first, one) && is_word(second, other) => {
+                self.left = rest;
+                Some(first.at)
+            }
+            _ => None,
+        }
+    }
+
     /// Whether a name comes next.
     #[tactic(auto, unfolding(crate::specs::Steps::sees_name))]
     pub fn sees_name(&self) -> bool

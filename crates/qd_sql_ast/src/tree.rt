@@ -57,7 +57,7 @@ pub struct ColumnDef {
     pub kind: ColType,
 }
 
-/// `DEDUP UPSERT KEYS (name, ..)`
+/// `UPSERT KEYS (name, ..)`, behind DEDUP.
 #[derive(Drop)]
 pub struct Dedup {
     /// The offset of KEYS.
@@ -81,6 +81,26 @@ pub struct Create {
     pub wal: Option<u64>,
     /// The deduplication keys.
     pub dedup: Option<Dedup>,
+}
+
+/// What ALTER TABLE changes of a table.
+#[derive(Drop)]
+pub enum Change {
+    /// `ADD COLUMN name kind`
+    AddColumn(ColumnDef),
+    /// `DEDUP ENABLE UPSERT KEYS (name, ..)`
+    EnableDedup(Dedup),
+    /// `DEDUP DISABLE`
+    DisableDedup,
+}
+
+/// `ALTER TABLE name change`
+#[derive(Drop)]
+pub struct Alter {
+    /// The table.
+    pub table: Name,
+    /// What is changed of it.
+    pub change: Change,
 }
 
 /// A row of INSERT: `(lit, ..)`.
@@ -505,4 +525,6 @@ pub enum Stmt {
     Create(Create),
     /// INSERT INTO.
     Insert(Insert),
+    /// ALTER TABLE.
+    Alter(Alter),
 }

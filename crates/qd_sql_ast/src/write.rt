@@ -6,7 +6,7 @@ ghost use Rattle.qd_sql_ast.specs.Steps.{Reads};
 use crate::lists::list;
 use crate::step::Cursor;
 use crate::stop::Stop;
-use crate::tree::{ColumnDef, Create, Dedup, Insert, Lit, Name, Tuple};
+use crate::tree::{Alter, Change, ColumnDef, Create, Dedup, Insert, Lit, Name, Tuple};
 use qd_base::{ColType, PartUnit, Seq};
 use qd_sql_lexer::Kind;
 use std::alloc::Global;
@@ -119,7 +119,19 @@ fn unit(tokens: &mut Cursor<'_, '_>) -> Result<PartUnit, Stop>
     }
 }
 
-/// Reads the deduplication keys, where they stand.
+/// Reads the deduplication keys, behind DEDUP.
+#[tactic(auto, unfolding(crate::specs::Writes::keys))]
+fn keys(alloc: Global, tokens: &mut Cursor<'_, '_>) -> Result<Dedup, Stop>
+    ensures { Reads (spec.keys tokens.old) result tokens.new }
+{
+    tokens.want_word(b"UPSERT")?;
+    let at = tokens.want_word(b"KEYS")?;
+    tokens.want(Kind::Open)?;
+    let keys = names_to_bracket(alloc, tokens)?;
+    Ok(Dedup { at, keys })
+}
+
+/// Reads the deduplication keys of CREATE, where they stand.
 #[tactic(auto, unfolding(crate::specs::Writes::dedup))]
 fn dedup(alloc: Global, tokens: &mut Cursor<'_, '_>) -> Result<Option<Dedup>, Stop>
     ensures { Reads (spec.dedup tokens.old) result tokens.new }
@@ -127,11 +139,7 @@ fn dedup(alloc: Global, tokens: &mut Cursor<'_, '_>) -> Result<Option<Dedup>, St
     if tokens.word(b"DEDUP").is_none() {
         return Ok(None);
     }
-    tokens.want_word(b"UPSERT")?;
-    let at = tokens.want_word(b"KEYS")?;
-    tokens.want(Kind::Open)?;
-    let keys = names_to_bracket(alloc, tokens)?;
-    Ok(Some(Dedup { at, keys }))
+    Ok(Some(keys(alloc, tokens)?))
 }
 
 /// Reads the columns of CREATE in brackets, and the name of the designated one.
@@ -208,6 +216,53 @@ pub fn insert(alloc: Global, tokens: &mut Cursor<'_, '_>) -> Result<Insert, Stop
         table,
         columns,
         tuples,
+    })
+}
+
+/// Reads what ALTER adds, behind ADD.
+#[tactic(auto, unfolding(crate::specs::Writes::added))]
+fn added(alloc: Global, tokens: &mut Cursor<'_, '_>) -> Result<Change, Stop>
+    ensures { Reads (spec.added tokens.old) result tokens.new }
+{
+    tokens.want_word(b"COLUMN")?;
+    Ok(Change::AddColumn(column(alloc, tokens)?))
+}
+
+/// Reads how ALTER changes deduplication, behind DEDUP.
+#[tactic(auto, unfolding(crate::specs::Writes::dedup_change))]
+fn dedup_change(alloc: Global, tokens: &mut Cursor<'_, '_>) -> Result<Change, Stop>
+    ensures { Reads (spec.dedup_change tokens.old) result tokens.new }
+{
+    if tokens.word(b"ENABLE").is_some() {
+        Ok(Change::EnableDedup(keys(alloc, tokens)?))
+    } else {
+        tokens.want_word(b"DISABLE")?;
+        Ok(Change::DisableDedup)
+    }
+}
+
+/// Reads what ALTER changes.
+#[tactic(auto, unfolding(crate::specs::Writes::change))]
+fn change(alloc: Global, tokens: &mut Cursor<'_, '_>) -> Result<Change, Stop>
+    ensures { Reads (spec.change tokens.old) result tokens.new }
+{
+    if tokens.word(b"ADD").is_some() {
+        added(alloc, tokens)
+    } else {
+        tokens.want_word(b"DEDUP")?;
+        dedup_change(alloc, tokens)
+    }
+}
+
+/// Reads an ALTER statement, behind its first two words. It takes memory for its names.
+#[tactic(auto, unfolding(crate::specs::Writes::alter))]
+pub fn alter(alloc: Global, tokens: &mut Cursor<'_, '_>) -> Result<Alter, Stop>
+    ensures { Reads (spec.alter tokens.old) result tokens.new }
+{
+    let table = tokens.name(alloc)?;
+    Ok(Alter {
+        table,
+        change: change(alloc, tokens)?,
     })
 }
 

@@ -9,7 +9,7 @@ pub mod Regroup
 pub mod WriteExact
 pub mod ExprExact
 pub mod Depth
-pub mod Calling
+pub mod Pairing
 pub mod Seconds
 pub mod QueryExact
 pub mod ShownExact

@@ -66,7 +66,7 @@ a_named n = form to_named from_named (or (words (codes "AS")) (λ at. mapped (λ
 abbrev AliasForm : Rule (Option Name)
 AliasForm = Or (Then (Token (WordQ (codes "AS"))) (λ at. Image (λ n. Some n) (Token NameQ))) (Or (Image (λ n. Some n) (Token NameQ)) (Just None))
 
-abbrev Alias : Option Name → List Lexeme → Type 0
+abbrev pub Alias : Option Name → List Lexeme → Type 0
 Alias = Optional (λ n. Perhaps (Word (codes "AS")) ⋅ IsName n)
 
 to_alias : (d : Bool) (c : Option Name) (ts : List Lexeme) → AliasForm d c ts → Alias c ts
@@ -90,7 +90,7 @@ sees_no_name = refl
 abbrev pub alias_last : List Sort
 alias_last = Sort.name ∷ Sort.word (codes "AS") ∷ []
 
-an_alias : (n : ℕ) → Live n alias (λ d. Alias) (Sort.word (codes "AS") ∷ Sort.name ∷ []) true alias_last
+pub an_alias : (n : ℕ) → Live n alias (λ d. Alias) (Sort.word (codes "AS") ∷ Sort.name ∷ []) true alias_last
 unfolding alias compared
 an_alias n =
     form to_alias from_alias

@@ -345,12 +345,14 @@ module _ (d : ℕ) where
   stmt_low (is.Query q) ts h = query_low q ts h
   stmt_low (is.Create c) ts h = omega arith
   stmt_low (is.Insert i) ts h = omega arith
+  stmt_low (is.Alter a) ts h = omega arith
   stmt_low (is.Show name place) ts h = omega arith
 
   low_stmt : (s : Stmt) (ts : List Lexeme) → IsStmt NestsAnyhow s ts → brackets_in s ≤ d → IsStmt Within s ts
   low_stmt (is.Query q) ts h low = low_query q ts h low
   low_stmt (is.Create c) ts h low = h
   low_stmt (is.Insert i) ts h low = h
+  low_stmt (is.Alter a) ts h low = h
   low_stmt (is.Show name place) ts h low = h
 
 pub shallow_low : (ts : List Lexeme) (s : Stmt) → ReadsShallowSql ts s → ReadsSql ts s × (brackets_in s ≤ MAX_NESTING)

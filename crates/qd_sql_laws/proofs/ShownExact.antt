@@ -25,7 +25,7 @@ use Rattle.qd_sql_laws.proofs.Living.{Live, Image, mapped, form, same, tidy, jus
 use Rattle.qd_sql_laws.proofs.ExprExact.{expr_first, expr_last}
 use Rattle.qd_sql_laws.proofs.Depth.{a_whole}
 use Rattle.qd_sql_laws.proofs.Seconds.{second_deep, lone_nests}
-use Rattle.qd_sql_laws.proofs.Calling.{open_bracket, Call, or_call}
+use Rattle.qd_sql_laws.proofs.Pairing.{open_bracket, Call, or_call}
 use Rattle.qd_sql_laws.proofs.QueryExact.{Inner, a_named}
 
 -- ["*"] ")", behind count and its bracket

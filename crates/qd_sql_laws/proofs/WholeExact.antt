@@ -14,21 +14,23 @@ use Rattle.qd_sql_ast.specs.declared.tree.Selected.{Selected}
 use Rattle.qd_sql_ast.specs.declared.tree.Source.{Source}
 use Rattle.qd_sql_ast.specs.declared.tree.Stmt.{Stmt}
 use Rattle.qd_sql_ast.specs.declared.tree.Stmt.TheVariants as is
-use Rattle.qd_sql_ast.specs.Steps.{Read, ◌>>=◌, if_taken, same_kind, end, stuck, sign}
+use Rattle.qd_sql_ast.specs.Steps.{Read, ◌>>=◌, if_taken, same_kind, is_name, is_word, end, stuck, sign, two_words}
+use Rattle.qd_sql_ast.specs.Writes.{alter}
 use Rattle.qd_sql.specs.Queries.{rows_of, shape_of, query}
 use Rattle.qd_sql.specs.Statement.{statement, ended, whole_text}
 use Rattle.qd_sql_laws.specs.Parts.{◌⋅◌, Perhaps, Optional, Sign}
 use Rattle.qd_sql_laws.specs.QueryRules.{IsSource, IsJoin, IsFilter, IsLatest, IsSample, IsOrder, IsLimit, IsQuery}
 use Rattle.qd_sql_laws.specs.Grammar.{IsStmt, IsSqlText, ReadsShallowSql, ReadsSql}
-use Rattle.qd_sql_laws.proofs.Sorts.{AllGood, join_good, sign_good, Sort, Has, clash, apart, compared, in_lists, or_left}
-use Rattle.qd_sql_laws.proofs.Judging.{Clear, first_of, Rule, Judges, alike}
+use Rattle.qd_sql_laws.proofs.Sorts.{AllGood, join_good, sign_good, Sort, Has, clash, apart, compared, in_lists, or_left, word_is_name}
+use Rattle.qd_sql_laws.proofs.Judging.{Clear, first_of, heads, tails, Rule, Judges, alike}
 use Rattle.qd_sql_laws.proofs.Combining.{Then, Or, Token, Follows}
 use Rattle.qd_sql_laws.proofs.Tokens.{WordQ, words}
+use Rattle.qd_sql_laws.proofs.Pairing.{Pair, double_words, or_pair}
 use Rattle.qd_sql_laws.proofs.Repeating.{comma}
 use Rattle.qd_sql_laws.proofs.Living.{Live, Image, mapped, form, tidy, seq, or}
 use Rattle.qd_sql_laws.proofs.Regroup.{out_of, into}
-use Rattle.qd_sql_laws.proofs.WriteExact.{CreateRest, a_create, InsertRest, an_insert, ShowRest, a_show}
-use Rattle.qd_sql_laws.proofs.QueryExact.{Inner, a_source, joins_last, a_join, where_last, a_filter, latest_last, a_latest, sample_last, a_sample, order_last, an_order, limit_last, a_limit}
+use Rattle.qd_sql_laws.proofs.WriteExact.{CreateRest, a_create, InsertRest, an_insert, AlterRest, an_alter, ShowRest, a_show}
+use Rattle.qd_sql_laws.proofs.QueryExact.{Inner, Alias, an_alias, a_source, join_first, joins_last, a_join, where_last, a_filter, latest_last, a_latest, sample_last, a_sample, order_last, an_order, limit_last, a_limit}
 use Rattle.qd_sql_laws.proofs.ShownExact.{SelectedPart, a_selected}
 
 -- ["SELECT" items "FROM"] source [join] ["WHERE" expr]
@@ -98,38 +100,120 @@ query_exact n =
 a_query : (n : ℕ) → Live n query (λ d. IsQuery (Inner d)) (Sort.word (codes "SELECT") ∷ Sort.name ∷ []) false query_last
 a_query n = form (λ d c ts h. to_query (Inner d) c ts h) (λ d c ts h. from_query (Inner d) c ts h) (query_exact n)
 
+-- no query begins with the words ALTER TABLE
+alter_word : List ℕ
+alter_word = codes "ALTER"
+
+table_word : List ℕ
+table_word = codes "TABLE"
+
+behind : {A B : List Lexeme → Type 0} (u : Lexeme) → ((ts : List Lexeme) → A (u ∷ ts) → ⊥) → ((ts : List Lexeme) → B (u ∷ ts) → ⊥) → (ts : List Lexeme) → (A ⋅ B) (u ∷ ts) → ⊥
+behind {A} {B} u one two ts ([], r, p, a, b) = two ts (subst (λ z. B z) (sym p) b)
+behind {A} {B} u one two ts (x ∷ o, r, p, a, b) = one o (subst (λ z. A (z ∷ o)) (heads u x ts (o ++ r) p) a)
+
+not_of : (w : List ℕ) (ss : List Sort) (t : Lexeme) → clash (Sort.word w ∷ []) ss ≡ false → is_word w t ≡ true → Has ss t → ⊥
+not_of w ss t unlike is h = apart (Sort.word w ∷ []) ss unlike t (or_left (is_word w t) false is) h
+
+abbrev Joined : Bool → Query → List Lexeme → Type 0
+Joined d c = Optional (IsFilter (Inner d)) c.filter ⋅ ShapePart (c.latest, c.sampled, c.order, c.limit)
+
+abbrev Sourced : Bool → Query → List Lexeme → Type 0
+Sourced d c = Optional IsJoin c.join ⋅ Joined d c
+
+table_behind : (d : Bool) (c : Query) (u : Lexeme) → is_word table_word u ≡ true → (ts : List Lexeme) → (Alias c.source.alias ⋅ Sourced d c) (u ∷ ts) → ⊥
+unfolding table_word compared
+table_behind d c u is ts h =
+    behind {A = Alias c.source.alias} {B = Sourced d c} u (λ us a. not_of table_word (Sort.word (codes "AS") ∷ Sort.name ∷ []) u refl is ((an_alias 0).exactly.starts d c.source.alias u us a))
+    (behind {A = Optional IsJoin c.join} {B = Joined d c} u (λ us a. not_of table_word join_first u refl is ((a_join 0).exactly.starts d c.join u us a))
+    (behind {A = Optional (IsFilter (Inner d)) c.filter} {B = ShapePart (c.latest, c.sampled, c.order, c.limit)} u
+    (λ us a. not_of table_word (Sort.word (codes "WHERE") ∷ []) u refl is ((a_filter 0).exactly.starts d c.filter u us a))
+    (λ us a. not_of table_word shape_first u refl is ((the_shape 0).exactly.starts d (c.latest, c.sampled, c.order, c.limit) u us a)))) ts h
+
+sourced : (d : Bool) (c : Query) (t u : Lexeme) (ts us : List Lexeme) → is_word table_word u ≡ true → us ≡ t ∷ (u ∷ ts) → (IsSource c.source ⋅ Sourced d c) us → ⊥
+sourced d c t u ts us is q (o, r, p, (one, named, e, (v, f, s), a), b) =
+    let whole : t ∷ (u ∷ ts) ≡ v ∷ (named ++ r) = sym q ∙ p ∙ ap (λ z. z ++ r) (e ∙ ap (λ z. z ++ named) f) in
+    table_behind d c u is ts (named, r, tails t v (u ∷ ts) (named ++ r) whole, a, b)
+
+two_query : (d : Bool) (c : Query) (t u : Lexeme) (ts : List Lexeme) → is_word alter_word t ≡ true → is_word table_word u ≡ true → IsQuery (Inner d) c (t ∷ (u ∷ ts)) → ⊥
+unfolding alter_word compared
+two_query d c t u ts is table ([], r, p, a, b) = sourced d c t u ts r table (sym p) b
+two_query d c t u ts is table (x ∷ o, r, p, a, b) =
+    not_of alter_word (Sort.word (codes "SELECT") ∷ []) t refl is
+    (subst (λ z. Has (Sort.word (codes "SELECT") ∷ []) z) (heads t x (u ∷ ts) (o ++ r) p) ((a_selected 0).exactly.starts d c.selected x o a))
+
+-- and a name alone is one
+lone_query : Lexeme → Query
+lone_query t = record {
+  selected = None;
+  source = record { table = record { at = t.at; text = t.content }; alias = None };
+  join = None;
+  filter = None;
+  latest = None;
+  sampled = None;
+  order = None;
+  limit = None;
+}
+
+lone_reads : (t : Lexeme) → is_name t ≡ true → IsQuery (Inner false) (lone_query t) (t ∷ [])
+unfolding lone_query
+lone_reads t is =
+    ([], t ∷ [], refl, refl, (t ∷ [], [], refl, (t ∷ [], [], refl, (t, refl, (is, refl)), refl), ([], [], refl, refl, ([], [], refl, refl, ([], [], refl, refl, ([], [], refl, refl, ([], [], refl, refl, refl)))))))
+
+abbrev QueryRule : Rule Stmt
+QueryRule = Image is.Query (λ d. IsQuery (Inner d))
+
+abbrev AlterRule : Rule Stmt
+AlterRule = Pair alter_word (Sort.word table_word) (λ at. Image is.Alter (λ d. AlterRest))
+
+alter_free : (t : Lexeme) → is_word alter_word t ≡ true → (c : Stmt) × QueryRule false c (t ∷ [])
+unfolding alter_word compared
+alter_free t same = (is.Query (lone_query t), (lone_query t, refl, lone_reads t (word_is_name alter_word t refl same)))
+
+an_alter_or_query : (n : ℕ) → Live n (λ ts. if_taken (two_words alter_word table_word ts) (λ x. alter x.1 >>= λ s. Ok (is.Alter s.0, s.1)) (query ts >>= λ s. Ok (is.Query s.0, s.1))) (Or AlterRule QueryRule)
+    (Sort.word alter_word ∷ (Sort.word (codes "SELECT") ∷ Sort.name ∷ [])) false (query_last ++ (Sort.word table_word ∷ []))
+an_alter_or_query n =
+    or_pair (double_words alter_word table_word) (λ at. mapped is.Alter (an_alter n)) (mapped is.Query (a_query n))
+    (λ d c t u ts is table (x, q, h). two_query d x t u ts is table h) alter_free
+
 -- a statement
 abbrev StmtForm : Rule Stmt
 StmtForm =
     Or (Then (Token (WordQ (codes "CREATE"))) (λ at. Image is.Create (λ d. CreateRest)))
     (Or (Then (Token (WordQ (codes "INSERT"))) (λ at. Image is.Insert (λ d. InsertRest)))
     (Or (Then (Token (WordQ (codes "SHOW"))) (λ at. Image (λ x. is.Show x.text x.at) (λ d. ShowRest)))
-    (Image is.Query (λ d. IsQuery (Inner d)))))
+    (Or AlterRule QueryRule)))
 
 to_stmt : (d : Bool) (c : Stmt) (ts : List Lexeme) → StmtForm d c ts → IsStmt (Inner d) c ts
+unfolding alter_word table_word
 to_stmt d c ts (inl (at, o, r, p, (t, e, s), (x, q, h))) = subst (λ z. IsStmt (Inner d) z ts) (sym q) (o, r, p, (t, e, s.0), h)
 to_stmt d c ts (inr (inl (at, o, r, p, (t, e, s), (x, q, h)))) = subst (λ z. IsStmt (Inner d) z ts) (sym q) (o, r, p, (t, e, s.0), h)
 to_stmt d c ts (inr (inr (inl (at, o, r, p, (t, e, s), (x, q, h))))) = subst (λ z. IsStmt (Inner d) z ts) (sym q) (o, r, p, (t, e, s.0), h)
-to_stmt d c ts (inr (inr (inr (x, q, h)))) = subst (λ z. IsStmt (Inner d) z ts) (sym q) h
+to_stmt d c ts (inr (inr (inr (inl (at, o, r, p, (t, e, s), (b, o₂, r₂, p₂, (t₂, e₂, s₂), (x, q, h))))))) =
+    subst (λ z. IsStmt (Inner d) z ts) (sym q) (o, r, p, (t, e, s.0), (o₂, r₂, p₂, (t₂, e₂, s₂.0), h))
+to_stmt d c ts (inr (inr (inr (inr (x, q, h))))) = subst (λ z. IsStmt (Inner d) z ts) (sym q) h
 
 from_stmt : (d : Bool) (c : Stmt) (ts : List Lexeme) → IsStmt (Inner d) c ts → StmtForm d c ts
-from_stmt d (is.Query x) ts h = inr (inr (inr (x, refl, h)))
+unfolding alter_word table_word
+from_stmt d (is.Query x) ts h = inr (inr (inr (inr (x, refl, h))))
+from_stmt d (is.Alter x) ts (o, r, p, (t, e, s), (o₂, r₂, p₂, (t₂, e₂, s₂), h)) =
+    inr (inr (inr (inl (t.at, o, r, p, (t, e, (s, refl)), (t₂.at, o₂, r₂, p₂, (t₂, e₂, (s₂, refl)), (x, refl, h))))))
 from_stmt d (is.Create x) ts (o, r, p, (t, e, s), h) = inl (t.at, o, r, p, (t, e, (s, refl)), (x, refl, h))
 from_stmt d (is.Insert x) ts (o, r, p, (t, e, s), h) = inr (inl (t.at, o, r, p, (t, e, (s, refl)), (x, refl, h)))
 from_stmt d (is.Show text at) ts (o, r, p, (t, e, s), h) = inr (inr (inl (t.at, o, r, p, (t, e, (s, refl)), (record { at = at; text = text }, refl, h))))
 
 abbrev stmt_first : List Sort
-stmt_first = Sort.word (codes "CREATE") ∷ Sort.word (codes "INSERT") ∷ Sort.word (codes "SHOW") ∷ Sort.word (codes "SELECT") ∷ Sort.name ∷ []
+stmt_first =
+    Sort.word (codes "CREATE") ∷ Sort.word (codes "INSERT") ∷ Sort.word (codes "SHOW") ∷ Sort.word (codes "ALTER") ∷ Sort.word (codes "SELECT") ∷ Sort.name ∷ []
 
 abbrev stmt_last : List Sort
-stmt_last = Sort.word (codes "DEDUP") ∷ Sort.word (codes "WAL") ∷ comma ++ query_last
+stmt_last = Sort.word (codes "DEDUP") ∷ Sort.word (codes "WAL") ∷ Sort.word (codes "TABLE") ∷ comma ++ query_last
 
 a_stmt : (n : ℕ) → Live n statement (λ d. IsStmt (Inner d)) stmt_first false stmt_last
-unfolding statement compared in_lists
+unfolding statement alter_word table_word compared in_lists
 a_stmt n =
     tidy refl refl (form to_stmt from_stmt
     (or (words (codes "CREATE")) (λ at. mapped is.Create (a_create n)) (or (words (codes "INSERT")) (λ at. mapped is.Insert (an_insert n))
-    (or (words (codes "SHOW")) (λ at. mapped (λ x. is.Show x.text x.at) (a_show n)) (mapped is.Query (a_query n)) refl) refl) refl))
+    (or (words (codes "SHOW")) (λ at. mapped (λ x. is.Show x.text x.at) (a_show n)) (an_alter_or_query n) refl) refl) refl))
 
 -- what may stand behind a statement
 abbrev Done : Stmt → Rule Stmt

@@ -10,15 +10,18 @@ use Rattle.qd_sql_lexer.specs.Tokens.{Lexeme}
 use Rattle.qd_sql_ast.specs.declared.tree.Name.{Name}
 use Rattle.qd_sql_ast.specs.declared.tree.Lit.{Lit}
 use Rattle.qd_sql_ast.specs.declared.tree.Lit.TheVariants as literal
+use Rattle.qd_sql_ast.specs.declared.tree.Alter.{Alter}
+use Rattle.qd_sql_ast.specs.declared.tree.Change.{Change}
+use Rattle.qd_sql_ast.specs.declared.tree.Change.TheVariants as changes
 use Rattle.qd_sql_ast.specs.declared.tree.ColumnDef.{ColumnDef}
 use Rattle.qd_sql_ast.specs.declared.tree.Create.{Create}
 use Rattle.qd_sql_ast.specs.declared.tree.Dedup.{Dedup}
 use Rattle.qd_sql_ast.specs.declared.tree.Insert.{Insert}
 use Rattle.qd_sql_ast.specs.declared.tree.Tuple.{Tuple}
 use Rattle.qd_sql_ast.specs.Steps.{Read, ◌>>=◌, if_taken, same_kind, sees, may, word}
-use Rattle.qd_sql_ast.specs.Writes.{lit, names, lits, names_to_bracket, kind as kind_of, column, columns, unit, keys, dedup, table_columns, create, listed, tuple, tuples, insert, show}
+use Rattle.qd_sql_ast.specs.Writes.{lit, names, lits, names_to_bracket, kind as kind_of, column, columns, unit, keys, dedup, table_columns, create, listed, tuple, tuples, insert, added, dedup_change, change, alter, show}
 use Rattle.qd_sql_laws.specs.Parts.{◌⋅◌, Optional, Commas, Sign, Word, WordAt, IsName}
-use Rattle.qd_sql_laws.specs.WriteRules.{Names, IsKind, IsColumnDef, IsUnit, IsDedup, IsLit, IsTuple}
+use Rattle.qd_sql_laws.specs.WriteRules.{Names, IsKind, IsColumnDef, IsUnit, IsDedup, IsLit, IsTuple, IsChange}
 use Rattle.qd_sql_laws.proofs.Sorts.{Sort, is_in, compared}
 use Rattle.qd_sql_laws.proofs.Judging.{Rule}
 use Rattle.qd_sql_laws.proofs.Combining.{Then, Or, Just, Token}
@@ -186,34 +189,34 @@ a_unit n =
     (last_word n (codes "YEAR") part.Year) refl) refl) refl)
 
 -- "UPSERT" "KEYS" "(" name {"," name} ")", behind DEDUP
-dedup_of : ℕ → List Name → Option Dedup
-dedup_of at ns = Some (record { at = at; keys = ns })
+dedup_of : ℕ → List Name → Dedup
+dedup_of at ns = record { at = at; keys = ns }
 
-dedup_rest : (n : ℕ) → Live n keys (Then (Token (WordQ (codes "UPSERT"))) (λ u. Then (Token (WordQ (codes "KEYS"))) (λ at. Then (Token (SignQ kind.Open)) (λ o. Image (dedup_of at) NamesRest))))
-    (Sort.word (codes "UPSERT") ∷ []) false []
-unfolding dedup_of compared
-dedup_rest n =
-    seq (a_word n (codes "UPSERT")) (λ u. seq (a_word n (codes "KEYS")) (λ at. seq (a_sign n kind.Open refl) (λ o. mapped (dedup_of at) (names_rest n)) refl) refl) refl
+abbrev KeysRest : Dedup → List Lexeme → Type 0
+KeysRest d = Word (codes "UPSERT") ⋅ WordAt (codes "KEYS") d.at ⋅ Names d.keys
+
+the_keys : (n : ℕ) → Live n keys (λ d. KeysRest) (Sort.word (codes "UPSERT") ∷ []) false []
+unfolding keys dedup_of compared
+the_keys n =
+    form (λ d c ts (v1, o1, r1, p1, (t1, e1, s1), (v2, o2, r2, p2, x2, (v3, o3, r3, p3, (t3, e3, s3), (v4, q, x4)))). subst (λ z. KeysRest z ts) (sym q) (o1, r1, p1, (t1, e1, s1.0), (o2, r2, p2, x2, (o3, r3, p3, (t3, e3, s3.0), x4))))
+    (λ d c ts (o1, r1, p1, (t1, e1, s1), (o2, r2, p2, x2, (o3, r3, p3, (t3, e3, s3), x4))). (t1.at, o1, r1, p1, (t1, e1, (s1, refl)), (c.at, o2, r2, p2, x2, (t3.at, o3, r3, p3, (t3, e3, (s3, refl)), (c.keys, refl, x4)))))
+    (seq (a_word n (codes "UPSERT")) (λ u. seq (a_word n (codes "KEYS")) (λ at. seq (a_sign n kind.Open refl) (λ o. mapped (dedup_of at) (names_rest n)) refl) refl) refl)
 
 -- ["DEDUP" keys]
 abbrev DedupForm : Rule (Option Dedup)
-DedupForm =
-    Or (Then (Token (WordQ (codes "DEDUP"))) (λ x. Then (Token (WordQ (codes "UPSERT"))) (λ u. Then (Token (WordQ (codes "KEYS"))) (λ at.
-    Then (Token (SignQ kind.Open)) (λ o. Image (dedup_of at) NamesRest))))) (Just None)
+DedupForm = Or (Then (Token (WordQ (codes "DEDUP"))) (λ x. Image (λ k. Some k) (λ d. KeysRest))) (Just None)
 
 to_dedup : (d : Bool) (c : Option Dedup) (ts : List Lexeme) → DedupForm d c ts → Optional IsDedup c ts
-unfolding dedup_of
-to_dedup d c ts (inl (v1, o1, r1, p1, (t1, e1, s1), (v2, o2, r2, p2, (t2, e2, s2), (v3, o3, r3, p3, x3, (v4, o4, r4, p4, (t4, e4, s4), (v5, q, x5)))))) = subst (λ z. Optional IsDedup z ts) (sym q) (o1, r1, p1, (t1, e1, s1.0), (o2, r2, p2, (t2, e2, s2.0), (o3, r3, p3, x3, (o4, r4, p4, (t4, e4, s4.0), x5))))
+to_dedup d c ts (inl (v1, o1, r1, p1, (t1, e1, s1), (k, q, x))) = subst (λ z. Optional IsDedup z ts) (sym q) (o1, r1, p1, (t1, e1, s1.0), x)
 to_dedup d c ts (inr (q, r)) = subst (λ z. Optional IsDedup z ts) (sym q) r
 
 from_dedup : (d : Bool) (c : Option Dedup) (ts : List Lexeme) → Optional IsDedup c ts → DedupForm d c ts
-unfolding dedup_of
 from_dedup d None ts r = inr (refl, r)
-from_dedup d (Some c) ts (o1, r1, p1, (t1, e1, s1), (o2, r2, p2, (t2, e2, s2), (o3, r3, p3, x3, (o4, r4, p4, (t4, e4, s4), x5)))) = inl (t1.at, o1, r1, p1, (t1, e1, (s1, refl)), (t2.at, o2, r2, p2, (t2, e2, (s2, refl)), (c.at, o3, r3, p3, x3, (t4.at, o4, r4, p4, (t4, e4, (s4, refl)), (c.keys, refl, x5)))))
+from_dedup d (Some c) ts (o1, r1, p1, (t1, e1, s1), x) = inl (t1.at, o1, r1, p1, (t1, e1, (s1, refl)), (c, refl, x))
 
 a_dedup : (n : ℕ) → Live n dedup (λ d. Optional IsDedup) (Sort.word (codes "DEDUP") ∷ []) true (Sort.word (codes "DEDUP") ∷ [])
 unfolding dedup compared
-a_dedup n = form to_dedup from_dedup (or (words (codes "DEDUP")) (λ x. dedup_rest n) (just n None) refl)
+a_dedup n = form to_dedup from_dedup (or (words (codes "DEDUP")) (λ x. mapped (λ k. Some k) (the_keys n)) (just n None) refl)
 
 -- "(" column {"," column} ")" "TIMESTAMP" "(" name ")"
 abbrev TableColumns : List ColumnDef × Name → List Lexeme → Type 0
@@ -363,6 +366,88 @@ an_insert n =
     form (λ d c ts (v1, o1, r1, p1, (t1, e1, s1), (v2, o2, r2, p2, x2, (v3, o3, r3, p3, x3, (v4, o4, r4, p4, (t4, e4, s4), (v5, q, x5))))). subst (λ z. InsertRest z ts) (sym q) (o1, r1, p1, (t1, e1, s1.0), (o2, r2, p2, x2, (o3, r3, p3, x3, (o4, r4, p4, (t4, e4, s4.0), x5)))))
     (λ d c ts (o1, r1, p1, (t1, e1, s1), (o2, r2, p2, x2, (o3, r3, p3, x3, (o4, r4, p4, (t4, e4, s4), x5)))). (t1.at, o1, r1, p1, (t1, e1, (s1, refl)), (c.table, o2, r2, p2, x2, (c.columns, o3, r3, p3, x3, (t4.at, o4, r4, p4, (t4, e4, (s4, refl)), (c.tuples, refl, x5))))))
     (seq (a_word n (codes "INTO")) (λ a. seq (a_name n) (λ table. seq (a_listed n) (λ named. seq (a_word n (codes "VALUES")) (λ b. mapped (inserts table named) (the_tuples n)) refl) refl) refl) refl)
+
+-- "COLUMN" name kind, behind ADD
+abbrev AddedRest : Change → List Lexeme → Type 0
+AddedRest (changes.AddColumn c) ts = (Word (codes "COLUMN") ⋅ IsColumnDef c) ts
+AddedRest (changes.EnableDedup k) ts = ⊥
+AddedRest changes.DisableDedup ts = ⊥
+
+from_added : (d : Bool) (c : Change) (ts : List Lexeme) → AddedRest c ts → Then (Token (WordQ (codes "COLUMN"))) (λ a. Image changes.AddColumn (λ e. IsColumnDef)) d c ts
+from_added d (changes.AddColumn c) ts (o1, r1, p1, (t1, e1, s1), x) = (t1.at, o1, r1, p1, (t1, e1, (s1, refl)), (c, refl, x))
+from_added d (changes.EnableDedup k) ts x = absurd x
+from_added d changes.DisableDedup ts x = absurd x
+
+an_added : (n : ℕ) → Live n added (λ d. AddedRest) (Sort.word (codes "COLUMN") ∷ []) false []
+unfolding added compared
+an_added n =
+    form (λ d c ts (v1, o1, r1, p1, (t1, e1, s1), (k, q, x)). subst (λ z. AddedRest z ts) (sym q) (o1, r1, p1, (t1, e1, s1.0), x)) from_added
+    (seq (a_word n (codes "COLUMN")) (λ a. mapped changes.AddColumn (a_column_def n)) refl)
+
+-- "ENABLE" keys | "DISABLE", behind DEDUP
+abbrev DedupRest : Change → List Lexeme → Type 0
+DedupRest (changes.AddColumn c) ts = ⊥
+DedupRest (changes.EnableDedup k) ts = (Word (codes "ENABLE") ⋅ KeysRest k) ts
+DedupRest changes.DisableDedup ts = Word (codes "DISABLE") ts
+
+abbrev DedupChange : Rule Change
+DedupChange = Or (Then (Token (WordQ (codes "ENABLE"))) (λ a. Image changes.EnableDedup (λ d. KeysRest))) (Image (λ at. changes.DisableDedup) (Token (WordQ (codes "DISABLE"))))
+
+to_dedup_change : (d : Bool) (c : Change) (ts : List Lexeme) → DedupChange d c ts → DedupRest c ts
+to_dedup_change d c ts (inl (v1, o1, r1, p1, (t1, e1, s1), (k, q, x))) = subst (λ z. DedupRest z ts) (sym q) (o1, r1, p1, (t1, e1, s1.0), x)
+to_dedup_change d c ts (inr (at, q, (t1, e1, s1))) = subst (λ z. DedupRest z ts) (sym q) (t1, e1, s1.0)
+
+from_dedup_change : (d : Bool) (c : Change) (ts : List Lexeme) → DedupRest c ts → DedupChange d c ts
+from_dedup_change d (changes.AddColumn c) ts x = absurd x
+from_dedup_change d (changes.EnableDedup k) ts (o1, r1, p1, (t1, e1, s1), x) = inl (t1.at, o1, r1, p1, (t1, e1, (s1, refl)), (k, refl, x))
+from_dedup_change d changes.DisableDedup ts (t1, e1, s1) = inr (t1.at, refl, (t1, e1, (s1, refl)))
+
+a_dedup_change : (n : ℕ) → Live n dedup_change (λ d. DedupRest) (Sort.word (codes "ENABLE") ∷ Sort.word (codes "DISABLE") ∷ []) false []
+unfolding dedup_change compared
+a_dedup_change n =
+    form to_dedup_change from_dedup_change
+    (or (words (codes "ENABLE")) (λ a. mapped changes.EnableDedup (the_keys n)) (mapped (λ at. changes.DisableDedup) (a_word n (codes "DISABLE"))) refl)
+
+-- "ADD" added | "DEDUP" dedup_change
+abbrev ChangeForm : Rule Change
+ChangeForm = Or (Then (Token (WordQ (codes "ADD"))) (λ a. λ d. AddedRest)) (Then (Token (WordQ (codes "DEDUP"))) (λ a. λ d. DedupRest))
+
+change_added : (c : Change) (ts one rest : List Lexeme) → ts ≡ one ++ rest → Word (codes "ADD") one → AddedRest c rest → IsChange c ts
+change_added (changes.AddColumn c) ts one rest p x y = (one, rest, p, x, y)
+change_added (changes.EnableDedup k) ts one rest p x y = absurd y
+change_added changes.DisableDedup ts one rest p x y = absurd y
+
+change_dedup : (c : Change) (ts one rest : List Lexeme) → ts ≡ one ++ rest → Word (codes "DEDUP") one → DedupRest c rest → IsChange c ts
+change_dedup (changes.AddColumn c) ts one rest p x y = absurd y
+change_dedup (changes.EnableDedup k) ts one rest p x y = (one, rest, p, x, y)
+change_dedup changes.DisableDedup ts one rest p x y = (one, rest, p, x, y)
+
+to_change : (d : Bool) (c : Change) (ts : List Lexeme) → ChangeForm d c ts → IsChange c ts
+to_change d c ts (inl (v1, o1, r1, p1, (t1, e1, s1), x)) = change_added c ts o1 r1 p1 (t1, e1, s1.0) x
+to_change d c ts (inr (v1, o1, r1, p1, (t1, e1, s1), x)) = change_dedup c ts o1 r1 p1 (t1, e1, s1.0) x
+
+from_change : (d : Bool) (c : Change) (ts : List Lexeme) → IsChange c ts → ChangeForm d c ts
+from_change d (changes.AddColumn c) ts (o1, r1, p1, (t1, e1, s1), x) = inl (t1.at, o1, r1, p1, (t1, e1, (s1, refl)), x)
+from_change d (changes.EnableDedup k) ts (o1, r1, p1, (t1, e1, s1), x) = inr (t1.at, o1, r1, p1, (t1, e1, (s1, refl)), x)
+from_change d changes.DisableDedup ts (o1, r1, p1, (t1, e1, s1), x) = inr (t1.at, o1, r1, p1, (t1, e1, (s1, refl)), x)
+
+a_change : (n : ℕ) → Live n change (λ d. IsChange) (Sort.word (codes "ADD") ∷ Sort.word (codes "DEDUP") ∷ []) false []
+unfolding change compared
+a_change n = form to_change from_change (or (words (codes "ADD")) (λ a. an_added n) (seq (a_word n (codes "DEDUP")) (λ a. a_dedup_change n) refl) refl)
+
+-- name change
+alters : Name → Change → Alter
+alters table found = record { table = table; change = found }
+
+abbrev pub AlterRest : Alter → List Lexeme → Type 0
+AlterRest a = IsName a.table ⋅ IsChange a.change
+
+pub an_alter : (n : ℕ) → Live n alter (λ d. AlterRest) (Sort.name ∷ []) false []
+unfolding alter alters compared
+an_alter n =
+    form (λ d c ts (v1, o1, r1, p1, x1, (v2, q, x2)). subst (λ z. AlterRest z ts) (sym q) (o1, r1, p1, x1, x2))
+    (λ d c ts (o1, r1, p1, x1, x2). (c.table, o1, r1, p1, x1, (c.change, refl, x2)))
+    (seq (a_name n) (λ table. mapped (alters table) (a_change n)) refl)
 
 -- "PARTITIONS" "FROM" name
 abbrev pub ShowRest : Name → List Lexeme → Type 0

@@ -7,7 +7,7 @@ use Rattle.qd_sql_ast.specs.declared.tree.Stmt.TheVariants as is
 use Rattle.qd_base.specs.declared.limits.TheConstants.{MAX_NESTING}
 use Rattle.qd_sql_lexer.specs.Tokens.{Lexeme}
 use Rattle.qd_sql_laws.specs.Parts.{◌⋅◌, Perhaps, Sign}
-use Rattle.qd_sql_laws.specs.WriteRules.{IsCreate, IsInsert, IsShow}
+use Rattle.qd_sql_laws.specs.WriteRules.{IsAlter, IsCreate, IsInsert, IsShow}
 use Rattle.qd_sql_laws.specs.ExprRules.{IsExpr}
 use Rattle.qd_sql_laws.specs.QueryRules.{IsQuery}
 
@@ -20,11 +20,12 @@ Nests (suc depth) e ts = IsExpr (Nests depth) e ts
 abbrev pub NestsAnyhow : Expr → List Lexeme → Type 0
 NestsAnyhow e ts = (depth : ℕ) × Nests depth e ts
 
--- statement = query | create | insert | "SHOW" "PARTITIONS" "FROM" name
+-- statement = query | create | insert | alter | "SHOW" "PARTITIONS" "FROM" name
 abbrev pub IsStmt : (Expr → List Lexeme → Type 0) → Stmt → List Lexeme → Type 0
 IsStmt Inner (is.Query q) = IsQuery Inner q
 IsStmt Inner (is.Create c) = IsCreate c
 IsStmt Inner (is.Insert i) = IsInsert i
+IsStmt Inner (is.Alter a) = IsAlter a
 IsStmt Inner (is.Show text at) = IsShow (record { at = at; text = text })
 
 -- text = statement [";"]

@@ -8,6 +8,9 @@ use Rattle.qd_sql_lexer.specs.declared.token.Kind.TheVariants as kind
 use Rattle.qd_sql_ast.specs.declared.tree.Name.{Name}
 use Rattle.qd_sql_ast.specs.declared.tree.Lit.{Lit}
 use Rattle.qd_sql_ast.specs.declared.tree.Lit.TheVariants as literal
+use Rattle.qd_sql_ast.specs.declared.tree.Alter.{Alter}
+use Rattle.qd_sql_ast.specs.declared.tree.Change.{Change}
+use Rattle.qd_sql_ast.specs.declared.tree.Change.TheVariants as changes
 use Rattle.qd_sql_ast.specs.declared.tree.ColumnDef.{ColumnDef}
 use Rattle.qd_sql_ast.specs.declared.tree.Create.{Create}
 use Rattle.qd_sql_ast.specs.declared.tree.Dedup.{Dedup}
@@ -69,6 +72,17 @@ IsTuple t = SignAt kind.Open t.at ⋅ Commas IsLit t.lits ⋅ Sign kind.Close
 abbrev pub IsInsert : Insert → List Lexeme → Type 0
 IsInsert i =
     Word (codes "INSERT") ⋅ Word (codes "INTO") ⋅ IsName i.table ⋅ Optional Names i.columns ⋅ Word (codes "VALUES") ⋅ Commas IsTuple i.tuples
+
+-- "ADD" "COLUMN" name kind | "DEDUP" "ENABLE" "UPSERT" "KEYS" "(" name {"," name} ")" | "DEDUP" "DISABLE"
+abbrev pub IsChange : Change → List Lexeme → Type 0
+IsChange (changes.AddColumn c) = Word (codes "ADD") ⋅ Word (codes "COLUMN") ⋅ IsColumnDef c
+IsChange (changes.EnableDedup d) = Word (codes "DEDUP") ⋅ Word (codes "ENABLE") ⋅ Word (codes "UPSERT") ⋅ WordAt (codes "KEYS") d.at ⋅ Names d.keys
+IsChange changes.DisableDedup = Word (codes "DEDUP") ⋅ Word (codes "DISABLE")
+
+-- alter = "ALTER" "TABLE" name ( "ADD" "COLUMN" name kind
+--       | "DEDUP" "ENABLE" "UPSERT" "KEYS" "(" name {"," name} ")" | "DEDUP" "DISABLE" )
+abbrev pub IsAlter : Alter → List Lexeme → Type 0
+IsAlter a = Word (codes "ALTER") ⋅ Word (codes "TABLE") ⋅ IsName a.table ⋅ IsChange a.change
 
 -- "SHOW" "PARTITIONS" "FROM" name
 abbrev pub IsShow : Name → List Lexeme → Type 0

@@ -11,7 +11,7 @@ use Rattle.qd_base.specs.declared.schema.Col.{Col}
 use Rattle.qd_base.specs.declared.schema.Schema.{Schema}
 use Rattle.qd_base.specs.Dictionary.{id_for, with_text}
 use Rattle.qd_base.specs.Rows.{Row}
-use Rattle.qd_fields.specs.Spelling.{u16_bytes, u32_bytes, name_bytes, text_bytes, column_bytes, schema_bytes}
+use Rattle.qd_fields.specs.Spelling.{u16_bytes, u32_bytes, name_bytes, text_bytes, column_bytes, keys_bytes, schema_bytes}
 use Rattle.qd_fields.proofs.Steps.{flat_map-push}
 use Rattle.qd_wal_entry.specs.Spelling.{text_of, texts_of_row, texts_of_op, with_texts, dictionary_of, width_of, cell_bytes, rows_bytes, op_bytes, entry_bytes, IsEntry, SpellsEntry}
 use Rattle.qd_wal_entry.specs.Writing.{Draft, Adds, FewWith}
@@ -90,6 +90,10 @@ adds_create old new s e body = record { texts = e; bytes = λ more. body }
 pub adds_column : (old new : Draft) (table : List ℕ) (c : Col) → new.texts ≡ old.texts → new.body ≡ old.body ++ (2 ∷ (name_bytes table ++ column_bytes c)) → Adds texts_of_op op_bytes old new (op.AddColumn table c)
 unfolding op_bytes
 adds_column old new table c e body = record { texts = e; bytes = λ more. body }
+
+pub adds_keys : (old new : Draft) (table keys : List ℕ) → new.texts ≡ old.texts → new.body ≡ old.body ++ (4 ∷ (name_bytes table ++ keys_bytes keys)) → Adds texts_of_op op_bytes old new (op.SetKeys table keys)
+unfolding op_bytes
+adds_keys old new table keys e body = record { texts = e; bytes = λ more. body }
 
 -- what stands in front of rows, and the rows
 pub adds_insert : (old mid new : Draft) (table : List ℕ) (rows : List Row) → mid.texts ≡ old.texts → mid.body ≡ old.body ++ (3 ∷ (name_bytes table ++ (u16_bytes (width_of rows) ++ u32_bytes (length rows)))) → Adds (flat_map texts_of_row) rows_bytes mid new rows → Adds texts_of_op op_bytes old new (op.Insert table rows)

@@ -150,6 +150,7 @@ cell_short (cell.Time t) fits = All-nil (λ (s : List ℕ). length s ≤ 65535)
 op_short : (o : Op) → FitsOp o → AreShort (texts_of_op o)
 op_short (op.Create s) fits = All-nil (λ (s : List ℕ). length s ≤ 65535)
 op_short (op.AddColumn table c) fits = All-nil (λ (s : List ℕ). length s ≤ 65535)
+op_short (op.SetKeys table keys) fits = All-nil (λ (s : List ℕ). length s ≤ 65535)
 op_short (op.Insert table rows) fits = all_short texts_of_row (FitsRow (width_of rows)) (λ row h. all_short text_of FitsCell cell_short row h.cells) rows fits.1.each
 
 texts_are : (ops : List Op) → All FitsOp ops → AreTexts (dictionary_of ops)

@@ -9,17 +9,17 @@ use Rattle.qd_base.specs.declared.op.Op.TheVariants as op
 use Rattle.qd_base.specs.declared.schema.Col.{Col}
 use Rattle.qd_base.specs.declared.schema.Schema.{Schema}
 use Rattle.qd_base.specs.Rows.{Row}
-use Rattle.qd_fields.specs.Spelling.{u16_bytes, u32_bytes, name_bytes, column_bytes, schema_bytes, FitsSchema}
-use Rattle.qd_fields.specs.Layout.{◌>>=◌, kept, coded, each, byte_at, number_at, name_at, column_at, schema_at}
+use Rattle.qd_fields.specs.Spelling.{u16_bytes, u32_bytes, name_bytes, column_bytes, keys_bytes, schema_bytes, FitsKeys, FitsSchema}
+use Rattle.qd_fields.specs.Layout.{◌>>=◌, kept, coded, each, byte_at, number_at, name_at, column_at, keys_at, schema_at}
 use Rattle.qd_fields.proofs.Steps.{bind_ok, bind_again, ok_is, kept_ok, kept_again, coded_ok, coded_again, Takes-then, wide16, wide32, number_takes, number_again, byte_takes, name_takes, name_again, find_passes}
-use Rattle.qd_fields.proofs.SchemaLaws.{column_takes, column_again, schema_takes, schema_again}
+use Rattle.qd_fields.proofs.SchemaLaws.{column_takes, column_again, keys_takes, keys_again, schema_takes, schema_again}
 use Rattle.qd_wal_entry.specs.declared.pieces.OpTag.{OpTag}
 use Rattle.qd_wal_entry.specs.declared.pieces.OpTag.TheVariants as kind
 use Rattle.qd_wal_entry.specs.declared.pieces.OpHead.{OpHead}
 use Rattle.qd_wal_entry.specs.declared.pieces.OpHead.TheVariants as head
 use Rattle.qd_wal_entry.specs.Spelling.{texts_of_row, texts_of_op, with_texts, width_of, row_bytes, rows_bytes, op_bytes, FitsRow, FitsRows, FitsOp}
 use Rattle.qd_wal_entry.specs.Cursor.{Cursor, moved}
-use Rattle.qd_wal_entry.specs.Layout.{ReadOn, row_at, rows_at, code_of_op, op_of_code, may_be_rows, create_at, add_at, insert_at, head_behind, head_at, op_behind, op_at}
+use Rattle.qd_wal_entry.specs.Layout.{ReadOn, row_at, rows_at, code_of_op, op_of_code, may_be_rows, create_at, add_at, insert_at, set_keys_at, head_behind, head_at, op_behind, op_at}
 use Rattle.qd_wal_entry.proofs.DictionaryLemmas.{Texts}
 use Rattle.qd_wal_entry.proofs.Places.{IsPlace, Moves, place_after, moves_past, moves_then, GivesSpelled, items_spelled, standing, TakesSpelled, items_taken}
 use Rattle.qd_wal_entry.proofs.Cells.{row_spelled, row_taken}
@@ -103,13 +103,26 @@ insert_behind at rest h x place e d =
     let fits : FitsRows columns.0 rows = record { each = s.1; few = omega (arith, s.2, t2.1); narrow = t1.1; some = λ none. s.2 ∙ rule.0 none; none = λ none. rule.1 (sym s.2 ∙ none) } in
     subst (Behind at kind.Insert rest) (ok_is (op.Insert table.0 rows, r.0.1) x r.2) (tail, text, subst (λ (l : List ℕ). Moves (moved at rest) r.0.1 (flat_map texts_of_row rows) l) grouped both, (t0.1, subst (λ (w : ℕ). FitsRows w rows) (sym width) fits))
 
+keys_behind : (at : Cursor) (rest : List ℕ) (h : OpHead × Cursor) (x : Op × Cursor) → IsPlace (moved at rest) → set_keys_at at rest ≡ Ok h → op_behind h.0 h.1 ≡ Ok x → Behind at kind.SetKeys rest x
+unfolding set_keys_at op_bytes
+keys_behind at rest h x place e d =
+    let a = bind_ok (name_at rest) (λ table. keys_at table.1 >>= λ keys. Ok (head.SetKeys table.0 keys.0, moved at keys.1)) h e in
+    let b = bind_ok (keys_at a.0.1) (λ keys. Ok (head.SetKeys a.0.0 keys.0, moved at keys.1)) h a.2 in
+    let t0 = name_takes rest a.0.0 a.0.1 place.rest_fits a.1 in
+    let t1 = keys_takes a.0.1 b.0 t0.0.rest_fits b.1 in
+    let both = Takes-then rest (name_bytes a.0.0) a.0.1 (keys_bytes b.0.0) b.0.1 t0.0 t1.1 in
+    let text = name_bytes a.0.0 ++ keys_bytes b.0.0 in
+    let made : op_behind (head.SetKeys a.0.0 b.0.0) (moved at b.0.1) ≡ Ok x = subst (λ (p : OpHead × Cursor). op_behind p.0 p.1 ≡ Ok x) (sym (ok_is (head.SetKeys a.0.0 b.0.0, moved at b.0.1) h b.2)) d in
+    subst (Behind at kind.SetKeys rest) (ok_is (op.SetKeys a.0.0 b.0.0, moved at b.0.1) x made) (text, refl, moves_past (moved at rest) text b.0.1 place both, (t0.1, t1.0))
+
 behind : (at : Cursor) (t : OpTag) (rest : List ℕ) (h : OpHead × Cursor) (x : Op × Cursor) → IsPlace (moved at rest) → head_behind at t rest ≡ Ok h → op_behind h.0 h.1 ≡ Ok x → Behind at t rest x
 behind at kind.Create rest h x place e d = create_behind at rest h x place e d
 behind at kind.AddColumn rest h x place e d = add_behind at rest h x place e d
 behind at kind.Insert rest h x place e d = insert_behind at rest h x place e d
+behind at kind.SetKeys rest h x place e d = keys_behind at rest h x place e d
 
 op_code : (code : ℕ) (t : OpTag) → op_of_code code ≡ Some t → code_of_op t ≡ code
-op_code code t e = eqb-true (code_of_op t) code (find_passes (λ j. eqb (code_of_op j) code) (kind.Create ∷ kind.AddColumn ∷ kind.Insert ∷ []) t e)
+op_code code t e = eqb-true (code_of_op t) code (find_passes (λ j. eqb (code_of_op j) code) (kind.Create ∷ kind.AddColumn ∷ kind.Insert ∷ kind.SetKeys ∷ []) t e)
 
 pub op_spelled : GivesSpelled op_at texts_of_op op_bytes FitsOp
 unfolding op_at head_at
@@ -129,6 +142,7 @@ code_op : (t : OpTag) → op_of_code (code_of_op t) ≡ Some t
 code_op kind.Create = refl
 code_op kind.AddColumn = refl
 code_op kind.Insert = refl
+code_op kind.SetKeys = refl
 
 -- a change is read where what stands behind its code is
 op_from : (all used : Texts) (t : OpTag) (tail : List ℕ) (h : OpHead × Cursor) (x : Op × Cursor) → head_behind (standing all used (code_of_op t ∷ tail)) t tail ≡ Ok h → op_behind h.0 h.1 ≡ Ok x → op_at (standing all used (code_of_op t ∷ tail)) ≡ Ok x
@@ -159,6 +173,19 @@ add_taken all used table c rest =
     ap (λ (l : List ℕ). op_at (standing all used (2 ∷ l))) (append_assoc (name_bytes table) (column_bytes c) rest)
     ∙ op_from all used kind.AddColumn tail (head.AddColumn table c, standing all used rest) (op.AddColumn table c, standing all used rest) one refl
 
+keys_taken : (all used : Texts) (table keys : List ℕ) (rest : List ℕ) → FitsKeys keys → op_at (standing all used (4 ∷ ((name_bytes table ++ keys_bytes keys) ++ rest))) ≡ Ok (op.SetKeys table keys, standing all used rest)
+unfolding set_keys_at
+keys_taken all used table keys rest fits =
+    let behind = keys_bytes keys ++ rest in
+    let tail = name_bytes table ++ behind in
+    let at = standing all used (4 ∷ tail) in
+    let made : OpHead × Cursor = (head.SetKeys table keys, standing all used rest) in
+    let one : set_keys_at at tail ≡ Ok made =
+    bind_again (name_at tail) (λ t. keys_at t.1 >>= λ ks. Ok (head.SetKeys t.0 ks.0, moved at ks.1)) (table, behind) made (name_again table behind)
+    (bind_again (keys_at behind) (λ ks. Ok (head.SetKeys table ks.0, moved at ks.1)) (keys, rest) made (keys_again keys rest fits) refl) in
+    ap (λ (l : List ℕ). op_at (standing all used (4 ∷ l))) (append_assoc (name_bytes table) (keys_bytes keys) rest)
+    ∙ op_from all used kind.SetKeys tail made (op.SetKeys table keys, standing all used rest) one refl
+
 insert_taken : (all used later : Texts) (table : List ℕ) (rows : List Row) (rest : List ℕ) → FitsRows (width_of rows) rows → all ≡ with_texts [] (used ++ (flat_map texts_of_row rows ++ later)) → length all < 2 ^ 32 → op_at (standing all used (3 ∷ ((name_bytes table ++ (u16_bytes (width_of rows) ++ (u32_bytes (length rows) ++ rows_bytes all rows))) ++ rest))) ≡ Ok (op.Insert table rows, standing all (used ++ flat_map texts_of_row rows) rest)
 unfolding insert_at rows_at
 insert_taken all used later table rows rest fits is few =
@@ -188,3 +215,4 @@ unfolding op_bytes
 op_taken all used later (op.Create s) rest fits is few = create_taken all used s rest fits ∙ unmoved all used rest (op.Create s)
 op_taken all used later (op.AddColumn table c) rest fits is few = add_taken all used table c rest ∙ unmoved all used rest (op.AddColumn table c)
 op_taken all used later (op.Insert table rows) rest fits is few = insert_taken all used later table rows rest fits.1 is few
+op_taken all used later (op.SetKeys table keys) rest fits is few = keys_taken all used table keys rest fits.1 ∙ unmoved all used rest (op.SetKeys table keys)

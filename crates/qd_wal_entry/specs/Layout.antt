@@ -11,7 +11,7 @@ use Rattle.qd_base.specs.declared.op.Op.{Op}
 use Rattle.qd_base.specs.declared.op.Op.TheVariants as op
 use Rattle.qd_base.specs.Dictionary.{id_in}
 use Rattle.qd_base.specs.Rows.{Row}
-use Rattle.qd_fields.specs.Layout.{Read, ◌>>=◌, kept, coded, items, each, byte_at, number_at, name_at, text_at, column_at, schema_at}
+use Rattle.qd_fields.specs.Layout.{Read, ◌>>=◌, kept, coded, items, each, byte_at, number_at, name_at, text_at, column_at, keys_at, schema_at}
 use Rattle.qd_wal_entry.specs.declared.pieces.CellTag.{CellTag}
 use Rattle.qd_wal_entry.specs.declared.pieces.CellTag.TheVariants as tag
 use Rattle.qd_wal_entry.specs.declared.pieces.OpTag.{OpTag}
@@ -92,9 +92,10 @@ abbrev pub code_of_op : OpTag → ℕ
 code_of_op kind.Create = 1
 code_of_op kind.AddColumn = 2
 code_of_op kind.Insert = 3
+code_of_op kind.SetKeys = 4
 
 abbrev pub op_of_code : ℕ → Option OpTag
-op_of_code code = find (λ t. code_of_op t == code) (kind.Create ∷ kind.AddColumn ∷ kind.Insert ∷ [])
+op_of_code code = find (λ t. code_of_op t == code) (kind.Create ∷ kind.AddColumn ∷ kind.Insert ∷ kind.SetKeys ∷ [])
 
 -- so many rows of so many columns: none of both, or some
 abbrev pub may_be_rows : ℕ → ℕ → Bool
@@ -117,10 +118,17 @@ insert_at at bytes = do
   rows ← kept (may_be_rows columns.0) columns.1 (number_at w32 columns.1)
   Ok (head.Insert table.0 columns.0 rows.0, moved at rows.1)
 
+unfoldable pub set_keys_at : Cursor → List ℕ → ReadOn OpHead
+set_keys_at at bytes = do
+  table ← name_at bytes
+  keys ← keys_at table.1
+  Ok (head.SetKeys table.0 keys.0, moved at keys.1)
+
 abbrev pub head_behind : Cursor → OpTag → List ℕ → ReadOn OpHead
 head_behind at kind.Create rest = create_at at rest
 head_behind at kind.AddColumn rest = add_at at rest
 head_behind at kind.Insert rest = insert_at at rest
+head_behind at kind.SetKeys rest = set_keys_at at rest
 
 unfoldable pub head_at : Cursor → ReadOn OpHead
 head_at at = coded op_of_code at.rest (byte_at at.rest) >>= λ t. head_behind at t.0 t.1
@@ -130,6 +138,7 @@ abbrev pub op_behind : OpHead → Cursor → ReadOn Op
 op_behind (head.Create schema) at = Ok (op.Create schema, at)
 op_behind (head.AddColumn table col) at = Ok (op.AddColumn table col, at)
 op_behind (head.Insert table columns rows) at = rows_at columns rows at >>= λ r. Ok (op.Insert table r.0, r.1)
+op_behind (head.SetKeys table keys) at = Ok (op.SetKeys table keys, at)
 
 unfoldable pub op_at : Cursor → ReadOn Op
 op_at at = head_at at >>= λ h. op_behind h.0 h.1

@@ -4,7 +4,7 @@
 -- Number of texts (4), the texts, number of changes (4), and the changes. The texts are those of all cells, each of them
 -- once, in order of first use; each is its length (2) and its bytes. A change: 1 and the schema of a new table; or 2, name of
 -- the table and the new column; or 3, name of the table, number of columns (2), number of rows (4), and the cells row by
--- row. A cell: 0 for NULL; 1 and a number in two's complement (8); 2 for false; 3 for true; 4 and the position of its text
+-- row; or 4, name of the table, number of its new keys (2), and the keys (2 each). A cell: 0 for NULL; 1 and a number in two's complement (8); 2 for false; 3 for true; 4 and the position of its text
 -- among the texts (4); 5 and microseconds (8). A row has a cell at least, and no rows have no columns.
 use Rattle.std.specs.Prelude.{◌≡◌, ℕ, ◌^◌, ◌<◌, ◌≤◌, true, false, List, [], ◌∷◌, ◌++◌, length, fold, All, FitsSigned}
 use Rattle.std.specs.List.{flat_map}
@@ -17,7 +17,7 @@ use Rattle.qd_base.specs.declared.op.Op.{Op}
 use Rattle.qd_base.specs.declared.op.Op.TheVariants as op
 use Rattle.qd_base.specs.Dictionary.{id_for, with_text}
 use Rattle.qd_base.specs.Rows.{Row}
-use Rattle.qd_fields.specs.Spelling.{u16_bytes, u32_bytes, u64_bytes, name_bytes, text_bytes, column_bytes, schema_bytes, FitsName, FitsColumn, FitsSchema}
+use Rattle.qd_fields.specs.Spelling.{u16_bytes, u32_bytes, u64_bytes, name_bytes, text_bytes, column_bytes, keys_bytes, schema_bytes, FitsName, FitsColumn, FitsKeys, FitsSchema}
 
 -- ---- the texts
 
@@ -36,6 +36,7 @@ abbrev pub texts_of_op : Op → List (List ℕ)
 texts_of_op (op.Create schema) = []
 texts_of_op (op.AddColumn table col) = []
 texts_of_op (op.Insert table rows) = flat_map texts_of_row rows
+texts_of_op (op.SetKeys table keys) = []
 
 -- each text once, in order of first use, behind those that are there
 abbrev pub with_texts : List (List ℕ) → List (List ℕ) → List (List ℕ)
@@ -75,6 +76,7 @@ abbrev pub FitsOp : Op → Type 0
 FitsOp (op.Create schema) = FitsSchema schema
 FitsOp (op.AddColumn table col) = FitsName table × FitsColumn col
 FitsOp (op.Insert table rows) = FitsName table × FitsRows (width_of rows) rows
+FitsOp (op.SetKeys table keys) = FitsName table × FitsKeys keys
 
 pub record IsEntry (e : Entry) : Type 0 where
   pub each : All FitsOp e.ops
@@ -102,6 +104,7 @@ unfoldable pub op_bytes : List (List ℕ) → Op → List ℕ
 op_bytes texts (op.Create schema) = 1 ∷ schema_bytes schema
 op_bytes texts (op.AddColumn table col) = 2 ∷ (name_bytes table ++ column_bytes col)
 op_bytes texts (op.Insert table rows) = 3 ∷ (name_bytes table ++ (u16_bytes (width_of rows) ++ (u32_bytes (length rows) ++ rows_bytes texts rows)))
+op_bytes texts (op.SetKeys table keys) = 4 ∷ (name_bytes table ++ keys_bytes keys)
 
 unfoldable pub entry_bytes : Entry → List ℕ
 entry_bytes e =

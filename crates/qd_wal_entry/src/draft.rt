@@ -6,13 +6,13 @@ ghost use Rattle.qd_base.specs.declared.limits.TheConstants.{MAX_TEXT_BYTES};
 ghost use Rattle.qd_base.specs.declared.cell.Cell.TheVariants as cell;
 ghost use Rattle.qd_base.specs.declared.op.Op.TheVariants as op;
 ghost use Rattle.qd_base.specs.Dictionary.{id_for, with_text};
-ghost use Rattle.qd_fields.specs.Spelling.{u32_bytes, u16_bytes, u64_bytes, name_bytes, text_bytes, column_bytes, schema_bytes, FitsName, FitsColumn, FitsSchema};
+ghost use Rattle.qd_fields.specs.Spelling.{u32_bytes, u16_bytes, u64_bytes, name_bytes, text_bytes, column_bytes, keys_bytes, schema_bytes, FitsName, FitsColumn, FitsKeys, FitsSchema};
 ghost use Rattle.qd_wal_entry.specs.Spelling.{text_of, texts_of_row, texts_of_op, with_texts, width_of, cell_bytes, row_bytes, rows_bytes, op_bytes, FitsCell, FitsRow, FitsRows, FitsOp};
 ghost use Rattle.qd_wal_entry.specs.Writing.{Adds, AreShort, FewWith};
 
 use crate::recent::Recent;
 use qd_base::{Cell, Col, Memory, Op, Row, Schema, Txt};
-use qd_fields::{push_column, push_name, push_schema, push_text, push_u16, push_u32};
+use qd_fields::{push_column, push_keys, push_name, push_schema, push_text, push_u16, push_u32};
 use qd_symbols::SymbolMap;
 use std::alloc::Global;
 use std::marker::Model;
@@ -109,6 +109,7 @@ impl EntryDraft {
             Op::Create { schema } => self.push_create(schema),
             Op::AddColumn { table, col } => self.push_add_column(table, col),
             Op::Insert { table, rows } => self.push_insert(table, rows.as_slice()),
+            Op::SetKeys { table, keys } => self.push_set_keys(table, keys.as_slice()),
         }
     }
 
@@ -132,6 +133,18 @@ impl EntryDraft {
         self.body.push(2)?;
         push_name(&mut self.body, table.bytes())?;
         push_column(&mut self.body, col)
+    }
+
+    /// Adds that the keys of a table are set.
+    fn push_set_keys(&mut self, table: &Txt, keys: &[u32]) -> Result<(), Memory>
+        requires table { FitsName table.now }
+        requires keys { FitsKeys keys.now }
+        ensures texts { OnOk result (self.new.texts ≡ self.old.texts) }
+        ensures body { OnOk result (self.new.body ≡ self.old.body ++ (4 ∷ (name_bytes table.now ++ keys_bytes keys.now))) }
+    {
+        self.body.push(4)?;
+        push_name(&mut self.body, table.bytes())?;
+        push_keys(&mut self.body, keys)
     }
 
     /// Adds that rows are inserted.

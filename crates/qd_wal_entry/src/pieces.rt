@@ -4,7 +4,7 @@ ghost use Rattle.qd_fields.specs.Layout.{byte_at, coded};
 ghost use Rattle.qd_fields.specs.Reading.{Gives};
 ghost use Rattle.qd_wal_entry.specs.Layout.{cell_of_code, op_of_code};
 
-use qd_base::{Col, Schema, Txt};
+use qd_base::{Col, KeyList, Schema, Txt};
 use qd_fields::{Stop, byte_at, damage};
 
 /// A cell as it stands in an entry: its text is a position among the entry's texts.
@@ -46,6 +46,13 @@ pub enum OpHead {
         /// The number of rows.
         rows: u32,
     },
+    /// Sets the deduplication keys of a table.
+    SetKeys {
+        /// The name of the table.
+        table: Txt,
+        /// The new keys.
+        keys: KeyList,
+    },
 }
 
 /// What a cell is.
@@ -65,6 +72,7 @@ pub(crate) enum OpTag {
     Create,
     AddColumn,
     Insert,
+    SetKeys,
 }
 
 /// What the cell at the front is.
@@ -110,6 +118,7 @@ fn op_tag_of(code: u8) -> Option<OpTag>
         1 => Some(OpTag::Create),
         2 => Some(OpTag::AddColumn),
         3 => Some(OpTag::Insert),
+        4 => Some(OpTag::SetKeys),
         _ => None,
     }
 }

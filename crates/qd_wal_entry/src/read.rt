@@ -74,6 +74,7 @@ fn next_op(alloc: Global, reader: &mut EntryReader) -> Result<Op, Stop>
             let rows = next_rows(alloc, reader, columns, rows)?;
             Ok(Op::Insert { table, rows })
         }
+        OpHead::SetKeys { table, keys } => Ok(Op::SetKeys { table, keys }),
     }
 }
 

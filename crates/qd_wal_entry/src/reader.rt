@@ -3,13 +3,13 @@ ghost use Rattle.std.specs.Prelude.{◌≡◌, ◌<◌, length, Some, slice_get,
 ghost use Rattle.qd_fields.specs.Reading.{Gives};
 ghost use Rattle.qd_wal_entry.specs.declared.pieces.CellTag.TheVariants as tag;
 ghost use Rattle.qd_wal_entry.specs.Cursor.{moved};
-ghost use Rattle.qd_wal_entry.specs.Layout.{stored_at, cell_behind, cell_of, may_be_rows, create_at, add_at, insert_at, head_at, open_at, closed};
+ghost use Rattle.qd_wal_entry.specs.Layout.{stored_at, cell_behind, cell_of, may_be_rows, create_at, add_at, insert_at, set_keys_at, head_at, open_at, closed};
 ghost use Rattle.qd_wal_entry.specs.Reading.{Reads, IsAmong};
 
 use crate::pieces::{CellTag, EntryCell, OpHead, OpTag, cell_tag_at, op_tag_at};
 use crate::texts::{texts_at, unused};
 use qd_base::{Cell, Memory, Txt};
-use qd_fields::{Stop, column_at, damage, name_at, schema_at, u16_at, u32_at, u64_at};
+use qd_fields::{Stop, column_at, damage, keys_at, name_at, schema_at, u16_at, u32_at, u64_at};
 use qd_symbols::SymbolMap;
 use std::alloc::Global;
 use std::marker::Model;
@@ -63,6 +63,7 @@ impl<'a> EntryReader<'a> {
             OpTag::Create => self.create(alloc, rest),
             OpTag::AddColumn => self.add_column(alloc, rest),
             OpTag::Insert => self.insert(alloc, rest),
+            OpTag::SetKeys => self.set_keys(alloc, rest),
         }
     }
 
@@ -203,6 +204,18 @@ impl<'a> EntryReader<'a> {
             columns,
             rows,
         })
+    }
+
+    /// The table and its new keys.
+    #[tactic(auto, unfolding(crate::specs::Layout::set_keys_at))]
+    fn set_keys(&mut self, alloc: Global, bytes: &'a [u8]) -> Result<OpHead, Stop>
+        ensures read { Reads result self.new (set_keys_at self.old bytes.now) }
+    {
+        let (table, rest) = name_at(bytes)?;
+        let table = Txt::from_bytes(alloc, table)?;
+        let (keys, rest) = keys_at(alloc, rest)?;
+        self.rest = rest;
+        Ok(OpHead::SetKeys { table, keys })
     }
 }
 

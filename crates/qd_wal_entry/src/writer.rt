@@ -3,13 +3,13 @@ ghost use Rattle.std.specs.Prelude.{◌≡◌, ◌+◌, ◌≤◌, ◌<◌, ◌�
 ghost use Rattle.qd_base.specs.declared.limits.TheConstants.{MAX_TEXT_BYTES};
 ghost use Rattle.qd_base.specs.declared.cell.Cell.TheVariants as cell;
 ghost use Rattle.qd_base.specs.declared.op.Op.TheVariants as op;
-ghost use Rattle.qd_fields.specs.Spelling.{FitsName, FitsColumn, FitsSchema, name_bytes, u16_bytes, u32_bytes};
+ghost use Rattle.qd_fields.specs.Spelling.{FitsName, FitsColumn, FitsKeys, FitsSchema, name_bytes, u16_bytes, u32_bytes};
 ghost use Rattle.qd_wal_entry.specs.Spelling.{SpellsEntry};
 ghost use Rattle.qd_wal_entry.specs.Written.{EndsRow, HasRoom, IsAt, IsSoFar, SoFar, begun, entry_of, inserted, nothing, with_cell, with_op, with_row};
 
 use crate::draft::EntryDraft;
 use qd_base::{Col, Memory, Schema, Txt};
-use qd_fields::{push_column, push_name, push_schema, push_u16, push_u32};
+use qd_fields::{push_column, push_keys, push_name, push_schema, push_u16, push_u32};
 use std::alloc::Global;
 use std::marker::Model;
 
@@ -104,6 +104,22 @@ impl EntryWriter {
         self.done.push(2)?;
         push_name(&mut self.done, table)?;
         push_column(&mut self.done, col)?;
+        self.count += 1;
+        Ok(())
+    }
+
+    /// Adds that the deduplication keys of a table are set.
+    pub fn set_keys(&mut self, table: &[u8], keys: &[u32]) -> Result<(), Memory>
+        requires closed { self.old.is_open ≡ false }
+        requires room { HasRoom self.old }
+        requires table { FitsName table.now }
+        requires keys { FitsKeys keys.now }
+        ensures added { OnOk result ((e : SoFar) → IsSoFar self.old e → IsSoFar self.new (with_op (op.SetKeys table.now keys.now) e)) }
+        ensures place { OnOk result (IsAt self.new false self.old.columns self.old.rows self.old.cells) }
+    {
+        self.done.push(4)?;
+        push_name(&mut self.done, table)?;
+        push_keys(&mut self.done, keys)?;
         self.count += 1;
         Ok(())
     }

@@ -1,6 +1,7 @@
-use Rattle.std.proofs.Common.{sym}
+use Rattle.std.proofs.Common.{IsNone, sym}
 use Rattle.std.proofs.lemmas.Option.{get_or_from_slice_get}
-use Rattle.qd_base.proofs.Tables.{lacks_at, lacks_table, table_within}
+use Rattle.qd_base.specs.Schemas.{column_at}
+use Rattle.qd_base.proofs.Tables.{lacks_at, tested_none, table_within}
 use Rattle.qd_base.proofs.schemas.Schemas.lacks_column.Goals as goal
 
 pub get-requires : goal.get-requires
@@ -14,4 +15,4 @@ returns-in-Some c = record {
 }
 
 pub returns-in-None : goal.returns-in-None
-returns-in-None c = record { lacks = lacks_table c.args.self.now c.args.table.now c.args.column.now c.in-None.ensures.position }
+returns-in-None c = record { lacks = tested_none (λ t. IsNone (column_at t.cols c.args.column.now)) c.args.self.now c.args.table.now c.in-None.ensures.position }

@@ -17,6 +17,7 @@ pub joined-later : (x y : Op) (os : List Op) (o : Op) → joined (x ∷ y ∷ os
 joined-later (op.Create schema) y os o = refl
 joined-later (op.AddColumn table col) y os o = refl
 joined-later (op.Insert table rows) y os o = refl
+joined-later (op.SetKeys table keys) y os o = refl
 
 -- a change is joined with the last
 pub joined-last : (os : List Op) (o' o : Op) → joined (os ++ o' ∷ []) o ≡ os ++ joined (o' ∷ []) o
@@ -29,8 +30,10 @@ pub joined-plain : (os : List Op) (o : Op) → IsPlain o → joined os o ≡ os 
 joined-plain [] o h = refl
 joined-plain (op.Create schema ∷ []) o h = refl
 joined-plain (op.AddColumn table col ∷ []) o h = refl
+joined-plain (op.SetKeys table keys ∷ []) o h = refl
 joined-plain (op.Insert table rows ∷ []) (op.Create schema) h = refl
 joined-plain (op.Insert table rows ∷ []) (op.AddColumn other col) h = refl
+joined-plain (op.Insert table rows ∷ []) (op.SetKeys other keys) h = refl
 joined-plain (op.Insert table rows ∷ []) (op.Insert other more) h = absurd h
 joined-plain (x ∷ y ∷ os) o h = joined-later x y os o ∙ ap (λ l. x ∷ l) (joined-plain (y ∷ os) o h)
 
@@ -42,6 +45,7 @@ none-closed table rows = refl
 behind-plain : (o : Op) (table : List ℕ) (rows : List Row) → IsPlain o → joined (o ∷ []) (op.Insert table rows) ≡ o ∷ op.Insert table rows ∷ []
 behind-plain (op.Create schema) table rows h = refl
 behind-plain (op.AddColumn other col) table rows h = refl
+behind-plain (op.SetKeys other keys) table rows h = refl
 behind-plain (op.Insert other more) table rows h = absurd h
 
 pub plain-closed : (os : List Op) (o : Op) → IsPlain o → IsClosed (os ++ o ∷ [])
@@ -102,6 +106,7 @@ nonempty : (ops : List Op) (table : List ℕ) (rows : List Row) → (z : Op) × 
 nonempty [] table rows = (op.Insert table rows, [], refl)
 nonempty (op.Create schema ∷ []) table rows = (op.Create schema, op.Insert table rows ∷ [], refl)
 nonempty (op.AddColumn other col ∷ []) table rows = (op.AddColumn other col, op.Insert table rows ∷ [], refl)
+nonempty (op.SetKeys other keys ∷ []) table rows = (op.SetKeys other keys, op.Insert table rows ∷ [], refl)
 nonempty (op.Insert other more ∷ []) table rows = go (same_name other table)
   where
     go : (b : Bool) → (z : Op) × (zs : List Op) × ((if b then op.Insert other (more ++ rows) ∷ [] else op.Insert other more ∷ op.Insert table rows ∷ []) ≡ z ∷ zs)
@@ -117,6 +122,7 @@ pub with_cells-row : (cells row : Row) (table : List ℕ) (ops : List Op) → wi
 with_cells-row cells row table [] = refl
 with_cells-row cells row table (op.Create schema ∷ []) = refl
 with_cells-row cells row table (op.AddColumn other col ∷ []) = refl
+with_cells-row cells row table (op.SetKeys other keys ∷ []) = refl
 with_cells-row cells row table (op.Insert other more ∷ []) = go (same_name other table)
   where
     go : (b : Bool) → with_cells cells (if b then op.Insert other (more ++ row ∷ []) ∷ [] else op.Insert other more ∷ op.Insert table (row ∷ []) ∷ []) ≡ (if b then op.Insert other (more ++ (row ++ cells) ∷ []) ∷ [] else op.Insert other more ∷ op.Insert table ((row ++ cells) ∷ []) ∷ [])
@@ -134,6 +140,7 @@ closed-kept : (ops : List Op) → IsClosed ops → (cells : Row) → with_cells 
 closed-kept [] h cells = refl
 closed-kept (op.Create schema ∷ []) h cells = refl
 closed-kept (op.AddColumn other col ∷ []) h cells = refl
+closed-kept (op.SetKeys other keys ∷ []) h cells = refl
 closed-kept (op.Insert other more ∷ []) h cells =
     let e : op.Insert other (more ++ []) ∷ [] ≡ op.Insert other more ∷ op.Insert other [] ∷ [] = sym (cond-true (same_name other other) (op.Insert other (more ++ []) ∷ []) (op.Insert other more ∷ op.Insert other [] ∷ []) (names_equal.refl other)) ∙ h other [] in
     let size : 1 ≡ 2 = ap length e in

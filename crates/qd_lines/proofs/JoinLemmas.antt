@@ -7,7 +7,7 @@ use Rattle.qd_base.specs.declared.schema.Schema.{Schema}
 use Rattle.qd_base.specs.declared.op.Op.{Op}
 use Rattle.qd_base.specs.declared.op.Op.TheVariants as op
 use Rattle.qd_base.specs.Rows.{Row}
-use Rattle.qd_base.specs.Schemas.{same_name, schema_of, schemas_step}
+use Rattle.qd_base.specs.Schemas.{same_name, schema_of, schemas_step, sets_keys, SetsNoKeys}
 use Rattle.qd_base.specs.Lawful.{AreLawful, IsRowOf, cells_in}
 use Rattle.qd_ilp.specs.Transaction.{joined}
 use Rattle.qd_lines.specs.Laws.{rows_in}
@@ -21,9 +21,11 @@ joined-lawful : (schemas : List Schema) (ops : List Op) (o : Op) → AreLawful s
 joined-lawful schemas [] o h k = k
 joined-lawful schemas (op.Create schema ∷ os) o h k = (h.0, h.1, joined-lawful (schemas_step schemas (op.Create schema)) os o h.2 k)
 joined-lawful schemas (op.AddColumn table col ∷ os) o h k = (h.0, h.1, joined-lawful (schemas_step schemas (op.AddColumn table col)) os o h.2 k)
+joined-lawful schemas (op.SetKeys table keys ∷ os) o h k = (h.0, h.1, joined-lawful (schemas_step schemas (op.SetKeys table keys)) os o h.2 k)
 joined-lawful schemas (op.Insert table rows ∷ y ∷ os) o h k = (h.0, h.1, joined-lawful schemas (y ∷ os) o h.2 k)
 joined-lawful schemas (op.Insert table rows ∷ []) (op.Create schema) h k = (h.0, h.1, k)
 joined-lawful schemas (op.Insert table rows ∷ []) (op.AddColumn other col) h k = (h.0, h.1, k)
+joined-lawful schemas (op.Insert table rows ∷ []) (op.SetKeys other keys) h k = (h.0, h.1, k)
 joined-lawful schemas (op.Insert table rows ∷ []) (op.Insert other more) h k = go (same_name table other) refl
   where
     go : (b : Bool) → same_name table other ≡ b → AreLawful schemas (if b then op.Insert table (rows ++ more) ∷ [] else op.Insert table rows ∷ op.Insert other more ∷ [])
@@ -34,14 +36,31 @@ joined-schemas : (schemas : List Schema) (ops : List Op) (o : Op) → fold schem
 joined-schemas schemas [] o = refl
 joined-schemas schemas (op.Create schema ∷ os) o = joined-schemas (schemas_step schemas (op.Create schema)) os o
 joined-schemas schemas (op.AddColumn table col ∷ os) o = joined-schemas (schemas_step schemas (op.AddColumn table col)) os o
+joined-schemas schemas (op.SetKeys table keys ∷ os) o = joined-schemas (schemas_step schemas (op.SetKeys table keys)) os o
 joined-schemas schemas (op.Insert table rows ∷ y ∷ os) o = joined-schemas schemas (y ∷ os) o
 joined-schemas schemas (op.Insert table rows ∷ []) (op.Create schema) = refl
 joined-schemas schemas (op.Insert table rows ∷ []) (op.AddColumn other col) = refl
+joined-schemas schemas (op.Insert table rows ∷ []) (op.SetKeys other keys) = refl
 joined-schemas schemas (op.Insert table rows ∷ []) (op.Insert other more) = go (same_name table other)
   where
     go : (b : Bool) → fold schemas_step schemas (if b then op.Insert table (rows ++ more) ∷ [] else op.Insert table rows ∷ op.Insert other more ∷ []) ≡ schemas
     go true = refl
     go false = refl
+
+joined-keys : (ops : List Op) (o : Op) → SetsNoKeys ops → sets_keys o ≡ false → SetsNoKeys (joined ops o)
+joined-keys [] o h k = (k, tt)
+joined-keys (op.Create schema ∷ os) o h k = (h.0, joined-keys os o h.1 k)
+joined-keys (op.AddColumn table col ∷ os) o h k = (h.0, joined-keys os o h.1 k)
+joined-keys (op.SetKeys table keys ∷ os) o h k = (h.0, joined-keys os o h.1 k)
+joined-keys (op.Insert table rows ∷ y ∷ os) o h k = (h.0, joined-keys (y ∷ os) o h.1 k)
+joined-keys (op.Insert table rows ∷ []) (op.Create schema) h k = (h.0, (k, tt))
+joined-keys (op.Insert table rows ∷ []) (op.AddColumn other col) h k = (h.0, (k, tt))
+joined-keys (op.Insert table rows ∷ []) (op.SetKeys other keys) h k = (h.0, (k, tt))
+joined-keys (op.Insert table rows ∷ []) (op.Insert other more) h k = go (same_name table other)
+  where
+    go : (b : Bool) → SetsNoKeys (if b then op.Insert table (rows ++ more) ∷ [] else op.Insert table rows ∷ op.Insert other more ∷ [])
+    go true = (refl, tt)
+    go false = (refl, (refl, tt))
 
 -- A number of each change, which is the sum of both where two insertions are joined.
 module _ (f : Op → ℕ) (adds : (table other : List ℕ) (rows more : List Row) → f (op.Insert table (rows ++ more)) ≡ f (op.Insert table rows) + f (op.Insert other more)) where
@@ -52,9 +71,11 @@ module _ (f : Op → ℕ) (adds : (table other : List ℕ) (rows more : List Row
   joined-sum [] o = refl
   joined-sum (op.Create schema ∷ os) o = first (op.Create schema) os (joined os o) o (joined-sum os o)
   joined-sum (op.AddColumn table col ∷ os) o = first (op.AddColumn table col) os (joined os o) o (joined-sum os o)
+  joined-sum (op.SetKeys table keys ∷ os) o = first (op.SetKeys table keys) os (joined os o) o (joined-sum os o)
   joined-sum (op.Insert table rows ∷ y ∷ os) o = first (op.Insert table rows) (y ∷ os) (joined (y ∷ os) o) o (joined-sum (y ∷ os) o)
   joined-sum (op.Insert table rows ∷ []) (op.Create schema) = refl
   joined-sum (op.Insert table rows ∷ []) (op.AddColumn other col) = refl
+  joined-sum (op.Insert table rows ∷ []) (op.SetKeys other keys) = refl
   joined-sum (op.Insert table rows ∷ []) (op.Insert other more) = go (same_name table other)
     where
       go : (b : Bool) → sum_by f (if b then op.Insert table (rows ++ more) ∷ [] else op.Insert table rows ∷ op.Insert other more ∷ []) ≡ sum_by f (op.Insert table rows ∷ []) + f (op.Insert other more)
@@ -75,6 +96,10 @@ pub grown-lawful : (schemas : List Schema) (ops os : List Op) → AreLawful sche
 grown-lawful schemas ops [] h k = h
 grown-lawful schemas ops (o ∷ os) h k =
     grown-lawful schemas (joined ops o) os (joined-lawful schemas ops o h (k.0, k.1, tt)) (subst (λ ss. AreLawful ss os) (sym (joined-schemas schemas ops o)) k.2)
+
+pub grown-keys : (ops os : List Op) → SetsNoKeys ops → SetsNoKeys os → SetsNoKeys (fold joined ops os)
+grown-keys ops [] h k = h
+grown-keys ops (o ∷ os) h k = grown-keys (joined ops o) os (joined-keys ops o h k.0) k.1
 
 pub grown-cells : (ops os : List Op) → sum_by cells_in (fold joined ops os) ≡ sum_by cells_in ops + sum_by cells_in os
 grown-cells ops os = grown-sum cells_in (λ table other rows more. sum_by-append length rows more) ops os

@@ -14,7 +14,7 @@ use Rattle.qd_base.specs.declared.op.Op.{Op}
 use Rattle.qd_base.specs.declared.op.Op.TheVariants as op
 use Rattle.qd_base.specs.declared.op.Entry.{Entry}
 use Rattle.qd_base.specs.Rows.{Row as Cells}
-use Rattle.qd_base.specs.Schemas.{same_name, schema_of, schemas_step}
+use Rattle.qd_base.specs.Schemas.{same_name, schema_of, schemas_step, SetsNoKeys}
 use Rattle.qd_base.specs.Lawful.{AreLawful, AreSchemas, IsRowOf, cells_in, cells_of}
 use Rattle.qd_base.proofs.Alike.{names_equal}
 use Rattle.qd_base.proofs.Lists.{each-both, each-weaker}
@@ -27,7 +27,7 @@ use Rattle.qd_lines.specs.Codes.{IsCodeless}
 use Rattle.qd_lines.proofs.AnswerLemmas.{none_refused}
 use Rattle.qd_lines.proofs.CleanLemmas.{Clean, clean}
 use Rattle.qd_lines.proofs.ColumnLemmas.{added_by, with_items_added}
-use Rattle.qd_lines.proofs.JoinLemmas.{grown-cells, grown-lawful, grown-schemas}
+use Rattle.qd_lines.proofs.JoinLemmas.{grown-cells, grown-keys, grown-lawful, grown-schemas}
 use Rattle.qd_lines.proofs.ReadableLemmas.{reading-readable}
 use Rattle.qd_lines.proofs.RowLemmas.{IsFair, row-made, row-there, timely}
 use Rattle.qd_lines.proofs.SchemaLemmas.{added-there, adds, adds-lawful, as-many, create-lawful, found-itself, new-there, schema-there, schemas-line}
@@ -73,10 +73,22 @@ line-lawful schemas cells now row are r c (Some s) e =
     (λ ss found. insert-lawful ss s.name (record s { cols = s.cols ++ more }) (map f (with_items s.cols row.items)) found (same (s.cols ++ more) (with_items_added s.cols row.items))) in
     subst (λ (cs : List Col). AreLawful schemas (adds s.name cs ++ op.Insert s.name (map f (with_items s.cols row.items) ∷ []) ∷ [])) (sym (added-there schemas cells now row c s e)) lawful
 
+-- a line sets no keys
+adds-keys : (name : List ℕ) (cs : List Col) (rest : List Op) → SetsNoKeys rest → SetsNoKeys (adds name cs ++ rest)
+adds-keys name [] rest h = h
+adds-keys name (c ∷ cs) rest h = (refl, adds-keys name cs rest h)
+
+line-keys : (o : Option Schema) (now : ℕ) (row : Row) → SetsNoKeys (line_ops o now row)
+line-keys None now row = (refl, (refl, tt))
+line-keys (Some s) now row =
+    let cells : Cells = map (cell_in (name_at s.cols s.time_col) row (micros_of (moment_of now row.moment))) (with_items s.cols row.items) in
+    adds-keys s.name (drop (length s.cols) (with_items s.cols row.items)) (op.Insert s.name (cells ∷ []) ∷ []) (refl, tt)
+
 pub line-keeps : (now cells : ℕ) (schemas : List Schema) (row : Row) → AreSchemas schemas → IsRowReadable row → IsCodeless schemas cells now row → KeepLaws schemas (line_ops (schema_of schemas row.table) now row)
 line-keeps now cells schemas row are r none = record {
   lawful = line-lawful schemas cells now row are r (clean schemas cells now row none) (schema_of schemas row.table) refl;
   after = schemas-line schemas cells now row are none;
+  keys = line-keys (schema_of schemas row.table) now row;
 }
 
 -- its cells are as many as the columns after it
@@ -110,6 +122,7 @@ record Worked (schemas : List Schema) (w : Work) : Type 0 where
   cells : w.cells ≡ sum_by cells_in w.ops
   few : w.cells ≤ MAX_BATCH_CELLS
   are : AreSchemas w.schemas
+  keys : SetsNoKeys w.ops
 
 worked-line : (now : ℕ) (schemas : List Schema) (w : Work) (line : Line) → Worked schemas w → IsLineReadable line → ((c : Code) → Refuses now w line c → ⊥) → Worked schemas (work_in now w line)
 worked-line now schemas w Blank h r none = h
@@ -124,12 +137,13 @@ worked-line now schemas w (Gives row) h r none =
       cells = let a = grown-cells w.ops ops in let b = line-cells w.schemas w.cells now row c (schema_of w.schemas row.table) refl in let e : w.cells ≡ sum_by cells_in w.ops = h.cells in omega arith;
       few = c.few;
       are = keeps.after;
+      keys = grown-keys w.ops ops h.keys keeps.keys;
     }
 
 lines-worked : (now : ℕ) (schemas : List Schema) (w : Work) (number : ℕ) (lines : List Line) (whole : Bool) (entry : Entry) → Worked schemas w → AllByRecursion IsLineReadable lines → Says now w number lines whole (Ok entry) → KeepLaws schemas entry.ops × (cells_of entry ≤ MAX_BATCH_CELLS)
 lines-worked now schemas w number [] true entry h r says =
     let same : entry.ops ≡ w.ops = ap ops_of says in (
-      record { lawful = subst (λ (os : List Op). AreLawful schemas os) (sym same) h.lawful; after = subst (λ (ss : List Schema). AreSchemas ss) (h.same ∙ ap (λ (os : List Op). fold schemas_step schemas os) (sym same)) h.are },
+      record { lawful = subst (λ (os : List Op). AreLawful schemas os) (sym same) h.lawful; after = subst (λ (ss : List Schema). AreSchemas ss) (h.same ∙ ap (λ (os : List Op). fold schemas_step schemas os) (sym same)) h.are; keys = subst (λ (os : List Op). SetsNoKeys os) (sym same) h.keys },
       (let a : w.cells ≡ sum_by cells_in w.ops = h.cells in let b : sum_by cells_in entry.ops ≡ sum_by cells_in w.ops = ap (λ (os : List Op). sum_by cells_in os) same in let le : w.cells ≤ MAX_BATCH_CELLS = h.few in omega arith),
     )
   where
@@ -141,7 +155,7 @@ lines-worked now schemas w number (line ∷ lines) whole entry h r (inl k) = abs
 lines-worked now schemas w number (line ∷ lines) whole entry h r (inr k) = lines-worked now schemas (work_in now w line) (number + 1) lines whole entry (worked-line now schemas w line h r.0 k.0) r.1 k.1
 
 pub lines-keep : (now : ℕ) (schemas : List Schema) (number : ℕ) (lines : List Line) (whole : Bool) (entry : Entry) → AreSchemas schemas → AllByRecursion IsLineReadable lines → Says now (start schemas) number lines whole (Ok entry) → KeepLaws schemas entry.ops × (cells_of entry ≤ MAX_BATCH_CELLS)
-lines-keep now schemas number lines whole entry are r says = lines-worked now schemas (start schemas) number lines whole entry (record { lawful = tt; same = refl; cells = refl; few = omega arith; are = are }) r says
+lines-keep now schemas number lines whole entry are r says = lines-worked now schemas (start schemas) number lines whole entry (record { lawful = tt; same = refl; cells = refl; few = omega arith; are = are; keys = tt }) r says
 
 -- the lines of a text of bytes
 pub text-keeps : (now : ℕ) (schemas : List Schema) (number : ℕ) (text : List ℕ) (reading : Reading) (entry : Entry) → AreSchemas schemas → All (λ b. b < 256) text → IsReading text reading → Says now (start schemas) number reading.lines reading.whole (Ok entry)

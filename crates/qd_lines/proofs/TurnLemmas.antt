@@ -36,9 +36,11 @@ joined-acts : (db : Database) (ops : List Op) (o : Op) → fold step db (joined 
 joined-acts db [] o = refl
 joined-acts db (op.Create schema ∷ os) o = joined-acts (step db (op.Create schema)) os o
 joined-acts db (op.AddColumn table col ∷ os) o = joined-acts (step db (op.AddColumn table col)) os o
+joined-acts db (op.SetKeys table keys ∷ os) o = joined-acts (step db (op.SetKeys table keys)) os o
 joined-acts db (op.Insert table rows ∷ y ∷ os) o = joined-acts (step db (op.Insert table rows)) (y ∷ os) o
 joined-acts db (op.Insert table rows ∷ []) (op.Create schema) = refl
 joined-acts db (op.Insert table rows ∷ []) (op.AddColumn other col) = refl
+joined-acts db (op.Insert table rows ∷ []) (op.SetKeys other keys) = refl
 joined-acts db (op.Insert table rows ∷ []) (op.Insert other more) = go (same_name table other) refl
   where
     go : (b : Bool) → same_name table other ≡ b → fold step db (if b then op.Insert table (rows ++ more) ∷ [] else op.Insert table rows ∷ op.Insert other more ∷ []) ≡ step (step db (op.Insert table rows)) (op.Insert other more)

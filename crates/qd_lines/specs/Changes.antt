@@ -16,6 +16,7 @@ abbrev pub IsPlain : Op → Type 0
 IsPlain (op.Create schema) = Unit {0}
 IsPlain (op.AddColumn table col) = Unit {0}
 IsPlain (op.Insert table rows) = ⊥
+IsPlain (op.SetKeys table keys) = Unit {0}
 
 -- no insertion is joined with the last of these changes
 abbrev pub IsClosed : List Op → Type 0

@@ -7,7 +7,7 @@ use Rattle.qd_base.specs.declared.schema.Schema.{Schema}
 use Rattle.qd_base.specs.declared.op.Op.{Op}
 use Rattle.qd_base.specs.declared.op.Op.TheVariants as op
 use Rattle.qd_base.specs.declared.op.Entry.{Entry}
-use Rattle.qd_base.specs.Schemas.{schema_of, schemas_step}
+use Rattle.qd_base.specs.Schemas.{schema_of, schemas_step, SetsNoKeys}
 use Rattle.qd_base.specs.Database.{Database, step, schemas_of}
 use Rattle.qd_base.specs.Replay.{commit}
 use Rattle.qd_base.specs.Lawful.{AreLawful, AreSchemas, cells_of}
@@ -31,6 +31,7 @@ abbrev pub rows_in : Op → ℕ
 rows_in (op.Create schema) = 0
 rows_in (op.AddColumn table col) = 0
 rows_in (op.Insert table rows) = length rows
+rows_in (op.SetKeys table keys) = 0
 
 abbrev pub rows_given : Line → ℕ
 rows_given Blank = 0
@@ -82,10 +83,11 @@ IsLineReadable (Gives row) = IsRowReadable row
 
 -- ---- what lines do
 
--- Changes are lawful over these schemas, and leave others that a lawful history can leave.
+-- Changes are lawful over these schemas, leave others that a lawful history can leave, and set no keys.
 pub record KeepLaws (schemas : List Schema) (ops : List Op) : Type 0 where
   pub lawful : AreLawful schemas ops
   pub after : AreSchemas (fold schemas_step schemas ops)
+  pub keys : SetsNoKeys ops
 
 -- Over schemas that a lawful history can leave, what lines do is lawful, and leaves such schemas.
 pub record BatchesAreLawful : Type 0 where

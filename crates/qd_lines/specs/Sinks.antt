@@ -28,6 +28,7 @@ abbrev pub with_rows : (List Row → List Row) → Op → Op
 with_rows f (op.Create schema) = op.Create schema
 with_rows f (op.AddColumn table col) = op.AddColumn table col
 with_rows f (op.Insert table rows) = op.Insert table (f rows)
+with_rows f (op.SetKeys table keys) = op.SetKeys table keys
 
 -- the last row of the last change, an insertion, gets these cells behind its own
 abbrev pub with_cells : List Cell → List Op → List Op

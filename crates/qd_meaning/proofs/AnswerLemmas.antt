@@ -67,3 +67,4 @@ looks-at-named-tables db db' (is.Query q) same = query-same db db' q same
 looks-at-named-tables db db' (is.Show name place) same = ap (shown_answer place) (same name (head name []))
 looks-at-named-tables db db' (is.Create c) same = refl
 looks-at-named-tables db db' (is.Insert i) same = refl
+looks-at-named-tables db db' (is.Alter a) same = refl

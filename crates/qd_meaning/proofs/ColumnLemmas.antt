@@ -53,6 +53,7 @@ table-distinct db (is.Query q) few =
 table-distinct db (is.Show name place) few = shown-distinct (stored db name)
 table-distinct db (is.Create c) few = IsDistinct-nil (λ (a b : Col). same_name a.name b.name)
 table-distinct db (is.Insert i) few = IsDistinct-nil (λ (a b : Col). same_name a.name b.name)
+table-distinct db (is.Alter a) few = IsDistinct-nil (λ (a b : Col). same_name a.name b.name)
 
 answered-table : (o : Option Refusal) (a t : Table) → judged o a ≡ Ok t → a ≡ t
 answered-table None a t e = cc

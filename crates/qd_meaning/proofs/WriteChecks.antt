@@ -2,11 +2,35 @@
 use Rattle.std.proofs.Common.{refl}
 use Rattle.std.specs.Str.{is_utf8, chars}
 use Rattle.qd_time.specs.Reading as reading
-use Rattle.qd_meaning.specs.WriteExamples.{WritesAreMade, CreatesAreRefused, InsertsAreRefused}
+use Rattle.qd_meaning.specs.WriteExamples.{WritesAreMade, CreatesAreRefused, InsertsAreRefused, AltersAreRefused}
 
 pub writes-are-made : WritesAreMade
 unfolding is_utf8 chars lib.Utf8.encode
-writes-are-made = record { created = refl; inserted = refl; listed = refl; null_truth = refl }
+writes-are-made =
+    record {
+      created = refl;
+      inserted = refl;
+      listed = refl;
+      null_truth = refl;
+      added = refl;
+      enabled = refl;
+      enabled_two = refl;
+      disabled = refl;
+    }
+
+pub alters-are-refused : AltersAreRefused
+unfolding is_utf8 chars lib.Utf8.encode
+alters-are-refused =
+    record {
+      without_time = refl;
+      key_again = refl;
+      no_column = refl;
+      column_again = refl;
+      bad_name = refl;
+      no_table = refl;
+      none_to_disable = refl;
+      names_first = refl;
+    }
 
 pub creates-are-refused : CreatesAreRefused
 unfolding is_utf8 chars lib.Utf8.encode

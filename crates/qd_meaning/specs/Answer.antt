@@ -127,6 +127,7 @@ refusals db (is.Query q) =
 refusals db (is.Show name place) = shown_faults (stored db name) place
 refusals db (is.Create c) = []
 refusals db (is.Insert i) = []
+refusals db (is.Alter a) = []
 
 abbrev pub query_table : Option StoredTable → Option StoredTable → AskPlan → Table
 query_table left right p = finished p (work_rows p left right)
@@ -138,6 +139,7 @@ table_of db (is.Query q) =
 table_of db (is.Show name place) = shown (stored db name)
 table_of db (is.Create c) = record { cols = []; rows = [] }
 table_of db (is.Insert i) = record { cols = []; rows = [] }
+table_of db (is.Alter a) = record { cols = []; rows = [] }
 
 -- the answer of a statement: its table, or the least of its refusals
 abbrev pub answer : Database → Stmt → Result Table Refusal

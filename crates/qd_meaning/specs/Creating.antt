@@ -90,12 +90,14 @@ not_designated n (Some col) = unless (is_time_kind col.kind) code.Types n.at
 abbrev pub designated_faults : List Col → Name → List Refusal
 designated_faults cols n = unknown_column cols n ++ not_designated n (slice_get cols (place_in cols n))
 
+-- keys are distinct, with the designated column's name among them
+abbrev pub key_faults : List ℕ → Dedup → List Refusal
+key_faults time d = unless (list_any (λ (k : Name). same_name k.text time) d.keys) code.Keys d.at ++ again_from (λ n. at code.Keys n.at) [] d.keys
+
 -- keys are distinct columns with the designated one among them
 abbrev pub dedup_faults : List Col → Name → Option Dedup → List Refusal
 dedup_faults cols time None = []
-dedup_faults cols time (Some d) =
-    flat_map column_name_faults d.keys ++ flat_map (unknown_column cols) d.keys
-    ++ unless (list_any (λ (k : Name). same_name k.text time.text) d.keys) code.Keys d.at ++ again_from (λ n. at code.Keys n.at) [] d.keys
+dedup_faults cols time (Some d) = flat_map column_name_faults d.keys ++ flat_map (unknown_column cols) d.keys ++ key_faults time.text d
 
 abbrev pub table_faults : List Schema → Create → List Refusal
 table_faults schemas c =

@@ -50,6 +50,7 @@ tables_named (is.Query q) = q.source.table.text ∷ right_names q.join
 tables_named (is.Show name place) = name ∷ []
 tables_named (is.Create c) = []
 tables_named (is.Insert i) = []
+tables_named (is.Alter a) = []
 
 -- An answer looks only at the tables that its statement names: two databases that have the same tables of these names answer alike.
 abbrev pub LooksAtNamedTables : Type 0

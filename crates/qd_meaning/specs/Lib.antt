@@ -17,6 +17,7 @@ pub mod Planned
 pub mod Answer
 pub mod Creating
 pub mod Inserting
+pub mod Altering
 pub mod Write
 pub mod ListLaws
 pub mod Laws

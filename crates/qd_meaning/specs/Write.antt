@@ -12,6 +12,7 @@ use Rattle.qd_meaning.specs.declared.refusal.Refusal.{Refusal}
 use Rattle.qd_meaning.specs.Refusals.{least, judged}
 use Rattle.qd_meaning.specs.Creating.{created, create_faults}
 use Rattle.qd_meaning.specs.Inserting.{inserted_rows, insert_faults}
+use Rattle.qd_meaning.specs.Altering.{altered, alter_faults}
 
 -- the rows under the table's own name
 abbrev pub inserted : Option Schema → Insert → List Op
@@ -22,6 +23,7 @@ inserted (Some s) i = op.Insert s.name (inserted_rows s i) ∷ []
 abbrev pub write_faults : List Schema → Stmt → List Refusal
 write_faults schemas (is.Create c) = create_faults schemas c
 write_faults schemas (is.Insert i) = insert_faults (schema_of schemas i.table.text) i
+write_faults schemas (is.Alter a) = alter_faults (schema_of schemas a.table.text) a
 write_faults schemas (is.Query q) = []
 write_faults schemas (is.Show table place) = []
 
@@ -29,6 +31,7 @@ write_faults schemas (is.Show table place) = []
 abbrev pub changes : List Schema → Stmt → List Op
 changes schemas (is.Create c) = op.Create (created c) ∷ []
 changes schemas (is.Insert i) = inserted (schema_of schemas i.table.text) i
+changes schemas (is.Alter a) = altered (schema_of schemas a.table.text) a
 changes schemas (is.Query q) = []
 changes schemas (is.Show table place) = []
 

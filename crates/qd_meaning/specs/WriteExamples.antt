@@ -1,4 +1,4 @@
--- Worked examples: what CREATE and INSERT do, and where they are refused. Beside each stands its text, by which its offsets go.
+-- Worked examples: what CREATE, INSERT and ALTER do, and where they are refused. Beside each stands its text, by which its offsets go.
 use Rattle.std.specs.Prelude.{◌≡◌, ℕ, false, true, List, [], ◌∷◌, codes, pos, neg_ℤ, Option, Some, None, Result, Ok, Err}
 use Rattle.qd_base.specs.declared.code.Code.{Code}
 use Rattle.qd_base.specs.declared.code.Code.TheVariants as code
@@ -13,6 +13,8 @@ use Rattle.qd_base.specs.declared.op.Entry.{Entry}
 use Rattle.qd_sql_ast.specs.declared.tree.Name.{Name}
 use Rattle.qd_sql_ast.specs.declared.tree.Lit.{Lit}
 use Rattle.qd_sql_ast.specs.declared.tree.Lit.TheVariants as lit
+use Rattle.qd_sql_ast.specs.declared.tree.Change.{Change}
+use Rattle.qd_sql_ast.specs.declared.tree.Change.TheVariants as changes
 use Rattle.qd_sql_ast.specs.declared.tree.ColumnDef.{ColumnDef}
 use Rattle.qd_sql_ast.specs.declared.tree.Dedup.{Dedup}
 use Rattle.qd_sql_ast.specs.declared.tree.Tuple.{Tuple}
@@ -52,6 +54,13 @@ tuple place lits = record { at = place; lits = lits }
 abbrev pub insert : Name → Option (List Name) → List Tuple → Stmt
 insert table columns tuples = is.Insert (record { table = table; columns = columns; tuples = tuples })
 
+-- the names of tables in ALTER stand behind its first two words
+abbrev pub alter : List ℕ → Change → Stmt
+alter table change = is.Alter (record { table = name 12 table; change = change })
+
+abbrev pub with_keys : ℕ → List Name → Change
+with_keys place names = changes.EnableDedup (record { at = place; keys = names })
+
 abbrev pub done : Op → Result Entry Refusal
 done change = Ok (record { ops = change ∷ [] })
 
@@ -71,6 +80,10 @@ keyed = record {
 
 abbrev pub flagged : Schema
 flagged = schema (codes "e") (column (codes "ts") kind.Time ∷ column (codes "v") kind.Long ∷ column (codes "ok") kind.Bool ∷ column (codes "s") kind.Varchar ∷ []) 0
+
+-- two columns, the second one designated
+abbrev pub timed : Schema
+timed = schema (codes "t") (column (codes "v") kind.Long ∷ column (codes "timestamp") kind.Time ∷ []) 1
 
 abbrev pub ts : ℕ → ColumnDef
 ts place = def place (codes "ts") kind.Time
@@ -92,6 +105,32 @@ pub record WritesAreMade : Type 0 where
   pub null_truth :
       write (flagged ∷ []) (insert (name 12 (codes "e")) (Some (name 15 (codes "ok") ∷ name 19 (codes "ts") ∷ [])) (tuple 30 (lit.Null 31 ∷ number 37 0 ∷ []) ∷ []))
       ≡ done (op.Insert (codes "e") ((second 0 ∷ cell.Null ∷ cell.Bool false ∷ cell.Null ∷ []) ∷ []))
+  -- ALTER TABLE T ADD COLUMN w SYMBOL
+  pub added : write (timed ∷ []) (alter (codes "T") (changes.AddColumn (def 25 (codes "w") kind.Symbol))) ≡ done (op.AddColumn (codes "t") (column (codes "w") kind.Symbol))
+  -- ALTER TABLE t DEDUP ENABLE UPSERT KEYS(timestamp)
+  pub enabled : write (timed ∷ []) (alter (codes "t") (with_keys 34 (name 39 (codes "timestamp") ∷ []))) ≡ done (op.SetKeys (codes "t") (1 ∷ []))
+  -- ALTER TABLE t DEDUP ENABLE UPSERT KEYS(v, timestamp)
+  pub enabled_two : write (timed ∷ []) (alter (codes "t") (with_keys 34 (name 39 (codes "v") ∷ name 42 (codes "timestamp") ∷ []))) ≡ done (op.SetKeys (codes "t") (0 ∷ 1 ∷ []))
+  -- ALTER TABLE d DEDUP DISABLE
+  pub disabled : write (keyed ∷ []) (alter (codes "d") changes.DisableDedup) ≡ done (op.SetKeys (codes "d") [])
+
+pub record AltersAreRefused : Type 0 where
+  -- ALTER TABLE t DEDUP ENABLE UPSERT KEYS(v): without the designated column
+  pub without_time : write (timed ∷ []) (alter (codes "t") (with_keys 34 (name 39 (codes "v") ∷ []))) ≡ refused code.Keys 34
+  -- ALTER TABLE t DEDUP ENABLE UPSERT KEYS(timestamp, Timestamp): twice, without regard to case
+  pub key_again : write (timed ∷ []) (alter (codes "t") (with_keys 34 (name 39 (codes "timestamp") ∷ name 50 (codes "Timestamp") ∷ []))) ≡ refused code.Keys 50
+  -- ALTER TABLE t DEDUP ENABLE UPSERT KEYS(w, timestamp)
+  pub no_column : write (timed ∷ []) (alter (codes "t") (with_keys 34 (name 39 (codes "w") ∷ name 42 (codes "timestamp") ∷ []))) ≡ refused code.UnknownColumn 39
+  -- ALTER TABLE t ADD COLUMN V LONG
+  pub column_again : write (timed ∷ []) (alter (codes "t") (changes.AddColumn (def 25 (codes "V") kind.Long))) ≡ refused code.DuplicateColumn 25
+  -- ALTER TABLE t ADD COLUMN "a-b" LONG
+  pub bad_name : write (timed ∷ []) (alter (codes "t") (changes.AddColumn (def 25 (codes "a-b") kind.Long))) ≡ refused code.Name 25
+  -- ALTER TABLE f ADD COLUMN v LONG
+  pub no_table : write (timed ∷ []) (alter (codes "f") (changes.AddColumn (def 25 (codes "v") kind.Long))) ≡ refused code.UnknownTable 12
+  -- ALTER TABLE f DEDUP DISABLE
+  pub none_to_disable : write (timed ∷ []) (alter (codes "f") changes.DisableDedup) ≡ refused code.UnknownTable 12
+  -- ALTER TABLE f DEDUP ENABLE UPSERT KEYS("a-b"): names that may not be before those that aren't there
+  pub names_first : write (timed ∷ []) (alter (codes "f") (with_keys 34 (name 39 (codes "a-b") ∷ []))) ≡ refused code.Name 39
 
 pub record CreatesAreRefused : Type 0 where
   -- CREATE TABLE e (ts TIMESTAMP, v LONG) TIMESTAMP(ts) PARTITION BY DAY DEDUP UPSERT KEYS(v): without the designated column

@@ -4,7 +4,7 @@ ghost use Rattle.qd_meaning.specs.Bindings.{BindingsFollow};
 ghost use Rattle.qd_meaning.specs.OperatorExamples.{OperatorsGive, SamplesGive};
 ghost use Rattle.qd_meaning.specs.QueryExamples.{QueriesAreRefused};
 ghost use Rattle.qd_meaning.specs.TypeExamples.{ClausesAreRefused, TypesAreRefused};
-ghost use Rattle.qd_meaning.specs.WriteExamples.{CreatesAreRefused, InsertsAreRefused, WritesAreMade};
+ghost use Rattle.qd_meaning.specs.WriteExamples.{AltersAreRefused, CreatesAreRefused, InsertsAreRefused, WritesAreMade};
 ghost use Rattle.qd_meaning.specs.ListLaws.{JoinsTakeTheLast, LatestRowsStand};
 ghost use Rattle.qd_meaning.specs.Laws.{LeastIsAnswered, LimitsCount, LooksAtNamedTables, NamesAreJudged, OutputNamesAreDistinct, PlansAnswer, RefusedHasNoAnswer, TimesAreRead};
 
@@ -87,6 +87,11 @@ pub fn creates_are_refused()
 /// Some INSERT statements are refused with the wanted codes and places.
 pub fn inserts_are_refused()
     ensures law { InsertsAreRefused }
+{}
+
+/// Some ALTER statements are refused with the wanted codes and places.
+pub fn alters_are_refused()
+    ensures law { AltersAreRefused }
 {}
 
 /// Some queries are refused with the wanted codes and places, and others not.

@@ -14,11 +14,15 @@ use Rattle.qd_base.specs.declared.schema.Schema.{Schema}
 use Rattle.qd_base.specs.Lawful.{AreSchemas, IsSchema, cells_in, cells_of}
 use Rattle.qd_base.specs.Rows.{Row}
 use Rattle.qd_base.specs.Schemas.{same_name, schema_of}
+use Rattle.qd_sql_ast.specs.declared.tree.Alter.{Alter}
+use Rattle.qd_sql_ast.specs.declared.tree.Change.{Change}
+use Rattle.qd_sql_ast.specs.declared.tree.Change.TheVariants as changing
 use Rattle.qd_sql_ast.specs.declared.tree.Insert.{Insert}
 use Rattle.qd_sql_ast.specs.declared.tree.Stmt.{Stmt}
 use Rattle.qd_sql_ast.specs.declared.tree.Stmt.TheVariants as is
 use Rattle.qd_sql_ast.specs.declared.tree.Tuple.{Tuple}
 use Rattle.qd_meaning.specs.declared.refusal.Refusal.{Refusal}
+use Rattle.qd_meaning.specs.Altering.{altered, changed}
 use Rattle.qd_meaning.specs.Inserting.{Target, cell_for, inserted_rows, row_of, targets_of}
 use Rattle.qd_meaning.specs.Refusals.{judged, least}
 use Rattle.qd_meaning.specs.Write.{changes, inserted, transaction, write, write_faults}
@@ -53,10 +57,22 @@ insert_cells (Some s) i few short =
     let one : cells_of (record { ops = inserted (Some s) i }) ≡ 0 + sum_by length (inserted_rows s i) = refl in
     omega (arith, one, rows_size s.cols (targets_of s.cols i.columns) i.tuples (few s refl), short)
 
+changed_cells : (s : Schema) (change : Change) → cells_in (changed s change) ≡ 0
+changed_cells s (changing.AddColumn c) = refl
+changed_cells s (changing.EnableDedup d) = refl
+changed_cells s changing.DisableDedup = refl
+
+alter_cells : (o : Option Schema) (a : Alter) → cells_of (record { ops = altered o a }) ≤ MAX_BATCH_CELLS
+alter_cells None a = omega arith
+alter_cells (Some s) a =
+    let one : cells_of (record { ops = altered (Some s) a }) ≡ 0 + cells_in (changed s a.change) = refl in
+    omega (arith, one, changed_cells s a.change)
+
 stmt_cells : (schemas : List Schema) (s : Stmt) → AllByRecursion IsSchema schemas → IsShort s → cells_of (transaction schemas s) ≤ MAX_BATCH_CELLS
 stmt_cells schemas (is.Create c) h short = omega arith
 stmt_cells schemas (is.Query q) h short = omega arith
 stmt_cells schemas (is.Show name place) h short = omega arith
+stmt_cells schemas (is.Alter a) h short = alter_cells (schema_of schemas a.table.text) a
 stmt_cells schemas (is.Insert i) h short =
     insert_cells (schema_of schemas i.table.text) i (found_few schemas i.table.text (schema_of schemas i.table.text) refl h) short
 
@@ -68,3 +84,25 @@ pub written_cells : (schemas : List Schema) (s : Stmt) (entry : Entry) → AreSc
 written_cells schemas s entry sound short e =
     subst (λ (x : Entry). cells_of x ≤ MAX_BATCH_CELLS) (sym (accepted (least (write_faults schemas s)) (transaction schemas s) entry e))
     (stmt_cells schemas s (recursion_from_All IsSchema schemas sound.each) short)
+
+-- ---- few changes
+
+few_inserted : (o : Option Schema) (i : Insert) → length (inserted o i) ≤ 1
+few_inserted None i = omega arith
+few_inserted (Some s) i = omega arith
+
+few_altered : (o : Option Schema) (a : Alter) → length (altered o a) ≤ 1
+few_altered None a = omega arith
+few_altered (Some s) a = omega arith
+
+few_made : (schemas : List Schema) (s : Stmt) → length (changes schemas s) ≤ 1
+few_made schemas (is.Create c) = omega arith
+few_made schemas (is.Query q) = omega arith
+few_made schemas (is.Show name place) = omega arith
+few_made schemas (is.Insert i) = few_inserted (schema_of schemas i.table.text) i
+few_made schemas (is.Alter a) = few_altered (schema_of schemas a.table.text) a
+
+-- a statement makes one change at most
+pub written_few : (schemas : List Schema) (s : Stmt) (entry : Entry) → write schemas s ≡ Ok entry → length entry.ops ≤ 1
+written_few schemas s entry e =
+    subst (λ (x : Entry). length x.ops ≤ 1) (sym (accepted (least (write_faults schemas s)) (transaction schemas s) entry e)) (few_made schemas s)

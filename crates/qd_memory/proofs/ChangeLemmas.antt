@@ -17,8 +17,8 @@ use Rattle.qd_base.specs.Lawful.{AreLawful, AreSchemas, IsRowOf, IsSchema, IsSou
 use Rattle.qd_base.specs.Names.{IsColumnName}
 use Rattle.qd_base.specs.Replay.{commit, replay}
 use Rattle.qd_base.specs.Rows.{Row, put}
-use Rattle.qd_base.specs.Schemas.{at_name, column_at, same_name, schema_of, schemas_step, table_at, with_column, Fits}
-use Rattle.qd_base.proofs.Lawful.{AreSchemas-step, IsSchema-wider}
+use Rattle.qd_base.specs.Schemas.{at_name, column_at, same_name, schema_of, schemas_step, table_at, with_column, with_keys, AreKeys, Fits}
+use Rattle.qd_base.proofs.Lawful.{AreSchemas-step, IsSchema-rekeyed, IsSchema-wider}
 use Rattle.qd_base.proofs.Lists.{IsDistinct-nil}
 use Rattle.qd_base.proofs.Tables.{find-position, not_found, schemas_of-commit, schemas_of-step}
 use Rattle.qd_merge.specs.Batch.{batch}
@@ -89,6 +89,12 @@ pub may_fill : (schemas : List Schema) (ts : List Kept) (name : List ℕ) (rows 
 may_fill schemas ts name rows i t are sound at there =
     subst (λ (o : Option Schema). IfSome o (λ (s : Schema). All (IsRowOf s) rows)) (schema_there schemas ts name i t are at there) sound
 
+-- keys that fit
+pub may_rekey : (schemas : List Schema) (ts : List Kept) (name keys : List ℕ) (i : ℕ) (t : Kept) → AreTables schemas ts → Fits schemas (op.SetKeys name keys) → Some i ≡ table_at schemas name → t ≡ get_or ts i t → IsSchema (with_keys keys t.schema)
+may_rekey schemas ts name keys i t are fits at there =
+    IsSchema-rekeyed keys t.schema (kept_there schemas ts name i t are at there).schema
+    (subst (λ (o : Option Schema). IsSomeAnd o (λ (s : Schema). AreKeys s.cols s.time_col keys)) (schema_there schemas ts name i t are at there) fits)
+
 -- a change of it is the change of the table of the name
 pub one_changed : (schemas : List Schema) (ts : List Kept) (name : List ℕ) (i : ℕ) (old new : Kept) (change : StoredTable → StoredTable) → AreTables schemas ts → Some i ≡ table_at schemas name → old ≡ get_or ts i old → stored new ≡ change (stored old)
     → database_of (set ts i new) ≡ at_name (λ (t : StoredTable). t.schema.name) change name (database_of ts)
@@ -100,6 +106,9 @@ none_widens schemas name col none fits = not_found (λ (s : Schema). same_name s
 
 pub none_fills : (schemas : List Schema) (name : List ℕ) (rows : List Row) → None ≡ table_at schemas name → Fits schemas (op.Insert name rows) → ⊥
 none_fills schemas name rows none fits = true≢false (sym fits ∙ ap is_some (sym none))
+
+pub none_rekeys : (schemas : List Schema) (name keys : List ℕ) → None ≡ table_at schemas name → Fits schemas (op.SetKeys name keys) → ⊥
+none_rekeys schemas name keys none fits = not_found (λ (s : Schema). same_name s.name name) (λ (s : Schema). AreKeys s.cols s.time_col keys) schemas (sym none) fits
 
 -- ---- all tables
 
@@ -157,7 +166,7 @@ pub next_entry : (schemas : List Schema) (entries : List Entry) (i : ℕ) (e : E
 next_entry schemas entries i e lt is lawful =
     let cut : drop i entries ≡ e ∷ drop (suc i) entries = drop-cons entries i e lt ∙ ap (λ (x : Entry). x ∷ drop (suc i) entries) (sym is) in
     let all = subst (LawfulFrom schemas) cut lawful in
-    (all.0, subst (λ (n : ℕ). LawfulFrom (fold schemas_step schemas e.ops) (drop n entries)) (sym (one_more i)) all.2)
+    (all.0, subst (λ (n : ℕ). LawfulFrom (fold schemas_step schemas e.ops) (drop n entries)) (sym (one_more i)) all.3)
   where
     one_more : (i : ℕ) → i + 1 ≡ suc i
     one_more i = omega arith

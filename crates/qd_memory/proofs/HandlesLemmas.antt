@@ -158,6 +158,7 @@ answers_sql : (old new : Listed) (time : ℕ) (text : List ℕ) (asks : Result S
     → Answers AllowedAlone (listed_shown old) (listed_shown new) time (request.Sql text) given
 answers_sql old new time text (Ok (is.Create c)) given within asks h = answers_stmt old new time text (is.Create c) given asks tt h
 answers_sql old new time text (Ok (is.Insert i)) given within asks h = answers_stmt old new time text (is.Insert i) given asks tt h
+answers_sql old new time text (Ok (is.Alter a)) given within asks h = answers_stmt old new time text (is.Alter a) given asks tt h
 answers_sql old new time text (Ok (is.Query q)) given within asks (made, same) =
     answers_same old new time text given _ made same (answers_question old time text (is.Query q) (answer (first old.history old.applied) (is.Query q)) within asks tt refl)
 answers_sql old new time text (Ok (is.Show name place)) given within asks (made, same) =

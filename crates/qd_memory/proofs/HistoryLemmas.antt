@@ -7,36 +7,36 @@ use Rattle.qd_base.specs.declared.schema.Schema.{Schema}
 use Rattle.qd_base.specs.declared.op.Entry.{Entry}
 use Rattle.qd_base.specs.Schemas.{schemas_from, schemas_step}
 use Rattle.qd_base.specs.Database.{Database, schemas_of}
-use Rattle.qd_base.specs.Lawful.{AreLawful, Lawful, LawfulFrom, cells_of}
+use Rattle.qd_base.specs.Lawful.{AreLawful, Lawful, LawfulFrom, SetsKeysAlone, cells_of}
 use Rattle.qd_base.specs.Replay.{after, commit, first, replay}
 use Rattle.qd_base.proofs.Tables.{schemas_of-commit, schemas_of-replay}
 use Rattle.qd_scan.specs.Sources.{SourceView, Stays, Tells}
 use Rattle.qd_memory.specs.Listed.{FitsTogether}
 
-lawful_more : (schemas : List Schema) (history : List Entry) (e : Entry) → LawfulFrom schemas history → AreLawful (schemas_from schemas history) e.ops → cells_of e ≤ MAX_BATCH_CELLS → LawfulFrom schemas (history ++ e ∷ [])
-lawful_more schemas [] e h lawful few = (lawful, few, tt)
-lawful_more schemas (d ∷ ds) e h lawful few = (h.0, h.1, lawful_more (fold schemas_step schemas d.ops) ds e h.2 lawful few)
+lawful_more : (schemas : List Schema) (history : List Entry) (e : Entry) → LawfulFrom schemas history → AreLawful (schemas_from schemas history) e.ops → cells_of e ≤ MAX_BATCH_CELLS → SetsKeysAlone e.ops → LawfulFrom schemas (history ++ e ∷ [])
+lawful_more schemas [] e h lawful few alone = (lawful, few, alone, tt)
+lawful_more schemas (d ∷ ds) e h lawful few alone = (h.0, h.1, h.2, lawful_more (fold schemas_step schemas d.ops) ds e h.3 lawful few alone)
 
 -- the front of a lawful history is lawful, and what is behind it is over the schemas that it leaves
 pub lawful_front : (schemas : List Schema) (n : ℕ) (history : List Entry) → LawfulFrom schemas history → LawfulFrom schemas (take n history)
 lawful_front schemas zero history h = tt
 lawful_front schemas (suc n) [] h = tt
-lawful_front schemas (suc n) (e ∷ es) h = (h.0, h.1, lawful_front (fold schemas_step schemas e.ops) n es h.2)
+lawful_front schemas (suc n) (e ∷ es) h = (h.0, h.1, h.2, lawful_front (fold schemas_step schemas e.ops) n es h.3)
 
 lawful_behind : (schemas : List Schema) (n : ℕ) (history : List Entry) → LawfulFrom schemas history → LawfulFrom (schemas_from schemas (take n history)) (drop n history)
 lawful_behind schemas zero history h = h
 lawful_behind schemas (suc n) [] h = tt
-lawful_behind schemas (suc n) (e ∷ es) h = lawful_behind (fold schemas_step schemas e.ops) n es h.2
+lawful_behind schemas (suc n) (e ∷ es) h = lawful_behind (fold schemas_step schemas e.ops) n es h.3
 
 schemas_more : (history : List Entry) (e : Entry) → schemas_of (after (history ++ e ∷ [])) ≡ fold schemas_step (schemas_of (after history)) e.ops
 schemas_more history e = ap schemas_of (fold-append commit [] history (e ∷ [])) ∙ schemas_of-commit (after history) e.ops
 
 -- what is kept fits together with one transaction more
 pub fits_more : (history : List Entry) (applied : ℕ) (schemas now : List Schema) (parts : SourceView) (e : Entry) → FitsTogether history applied schemas parts → AreLawful (schemas_of (after history)) e.ops
-    → cells_of e ≤ MAX_BATCH_CELLS → now ≡ fold schemas_step schemas e.ops → FitsTogether (history ++ e ∷ []) applied now parts
-fits_more history applied schemas now parts e h lawful few is = record {
+    → cells_of e ≤ MAX_BATCH_CELLS → SetsKeysAlone e.ops → now ≡ fold schemas_step schemas e.ops → FitsTogether (history ++ e ∷ []) applied now parts
+fits_more history applied schemas now parts e h lawful few alone is = record {
   within = let within : applied ≤ length history = h.within in omega (arith, length_push history e);
-  lawful = lawful_more [] history e h.lawful (subst (λ (s : List Schema). AreLawful s e.ops) (schemas_of-replay [] history) lawful) few;
+  lawful = lawful_more [] history e h.lawful (subst (λ (s : List Schema). AreLawful s e.ops) (schemas_of-replay [] history) lawful) few alone;
   schemas_are = is ∙ ap (λ (s : List Schema). fold schemas_step s e.ops) h.schemas_are ∙ sym (schemas_more history e);
   told = h.told ∙ ap (λ (es : List Entry). Some (after es)) (sym (take-append-le applied history (e ∷ []) h.within));
 }

@@ -9,11 +9,11 @@ use Rattle.qd_base.specs.declared.schema.Col.{Col}
 use Rattle.qd_base.specs.declared.schema.ColType.{ColType}
 use Rattle.qd_base.specs.declared.schema.ColType.TheVariants as kind
 use Rattle.qd_base.specs.declared.schema.Schema.{Schema}
-use Rattle.qd_base.specs.Database.{Database, StoredTable, filled, missing, widened}
+use Rattle.qd_base.specs.Database.{Database, StoredTable, filled, missing, rekeyed, widened}
 use Rattle.qd_base.specs.Lawful.{HasKinds, IsRowOf, IsSchema}
 use Rattle.qd_base.specs.Laws.{IsInOrder}
 use Rattle.qd_base.specs.Rows.{Row, put, time_of}
-use Rattle.qd_base.specs.Schemas.{at_name, same_name, table_at, with_column}
+use Rattle.qd_base.specs.Schemas.{at_name, same_name, table_at, with_column, with_keys}
 use Rattle.qd_base.proofs.Tables.{at_name-position}
 use Rattle.qd_base.proofs.Texts.{position-map}
 use Rattle.qd_time.specs.Units.{start_of, unit_of}
@@ -131,6 +131,54 @@ stored_widened t c kept settled =
     (ap (λ (w : List Row). fold f (joined (s.cols ++ c ∷ []) t.slots) w) settled
     ∙ joined_widened s c t.slots kept.slots.each
     ∙ ap (λ (w : List Row). map (λ (r : Row). r ++ missing c.kind ∷ []) (fold f (joined s.cols t.slots) w)) (sym settled))
+
+-- ---- other keys
+
+slot_rekeyed : (s : Schema) (keys : List ℕ) (x : Slot) → IsSlot s x → IsSlot (with_keys keys s) x
+slot_rekeyed s keys x slot = record {
+  start = slot.start;
+  part = record {
+    some = slot.part.some;
+    few = slot.part.few;
+    timed = slot.part.timed;
+    columns = slot.part.columns;
+    in_order = slot.part.in_order;
+    timely = slot.part.timely;
+    together = slot.part.together;
+    one_time = slot.part.one_time;
+  };
+  whole = slot.whole;
+  block = record {
+    rows = slot.block.rows;
+    columns = slot.block.columns;
+    kinds = slot.block.kinds;
+    time_col = slot.block.time_col;
+    fit = slot.block.fit;
+    first = slot.block.first;
+    last = slot.block.last;
+  };
+}
+
+slots_rekeyed : (s : Schema) (keys : List ℕ) (xs : List Slot) → AllByRecursion (IsSlot s) xs → AllByRecursion (IsSlot (with_keys keys s)) xs
+slots_rekeyed s keys [] h = tt
+slots_rekeyed s keys (x ∷ xs) h = (slot_rekeyed s keys x h.0, slots_rekeyed s keys xs h.1)
+
+pub kept_rekeyed : (t : Kept) (keys : List ℕ) → IsKept t → IsSettled t → IsSchema (with_keys keys t.schema) → IsKept (record { schema = with_keys keys t.schema; slots = t.slots; parts = t.parts; waiting = t.waiting })
+kept_rekeyed t keys kept settled schema = record {
+  schema = schema;
+  slots = record { each = slots_rekeyed t.schema keys t.slots kept.slots.each; apart = kept.slots.apart };
+  few = kept.few;
+  parts = kept.parts;
+  waiting = subst (All (IsRowOf (with_keys keys t.schema))) (sym settled) (λ k d lt. absurd (omega arith));
+}
+
+-- where no row waits, the rows are the same
+pub stored_rekeyed : (t : Kept) (keys : List ℕ) → IsSettled t → stored (record { schema = with_keys keys t.schema; slots = t.slots; parts = t.parts; waiting = t.waiting }) ≡ rekeyed keys (stored t)
+stored_rekeyed t keys settled =
+    let s : Schema = t.schema in
+    let rows : List Row = joined s.cols t.slots in
+    ap (λ (l : List Row). let x : StoredTable = record { schema = with_keys keys s; rows = l } in x)
+    (ap (λ (w : List Row). fold (put s.time_col keys) rows w) settled ∙ sym (ap (λ (w : List Row). fold (put s.time_col s.keys) rows w) settled))
 
 -- ---- rows that wait
 

@@ -77,6 +77,7 @@ WritesStmt old new s _ = ⊥
 abbrev pub CarriesOut : Listed → Listed → Result Stmt SqlFault → Reply → Type 0
 CarriesOut old new (Ok (is.Create c)) given = WritesStmt old new (is.Create c) given
 CarriesOut old new (Ok (is.Insert i)) given = WritesStmt old new (is.Insert i) given
+CarriesOut old new (Ok (is.Alter a)) given = WritesStmt old new (is.Alter a) given
 CarriesOut old new (Ok (is.Query q)) given = AnswersStmt old new (is.Query q) given
 CarriesOut old new (Ok (is.Show name place)) given = AnswersStmt old new (is.Show name place) given
 CarriesOut old new (Err (fault.Refused why place)) given = (given ≡ reply.Refused (number_of why) place) × (new ≡ old)

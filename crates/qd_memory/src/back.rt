@@ -6,7 +6,7 @@ ghost use Rattle.qd_base.specs.declared.request.Request.TheVariants as request;
 ghost use Rattle.qd_base.specs.declared.request.Reply.TheVariants as reply;
 ghost use Rattle.qd_base.specs.declared.request.Table.{Table};
 ghost use Rattle.qd_base.specs.Database.{schemas_of};
-ghost use Rattle.qd_base.specs.Lawful.{AreLawful, cells_of};
+ghost use Rattle.qd_base.specs.Lawful.{AreLawful, SetsKeysAlone, cells_of};
 ghost use Rattle.qd_base.specs.Replay.{after, first};
 ghost use Rattle.qd_ilp.specs.Whole.{IsReading};
 ghost use Rattle.qd_meaning.specs.declared.refusal.Refusal.{Refusal};
@@ -90,6 +90,7 @@ impl ListBack {
     fn commit(&mut self, entry: Entry) -> Result<Reply, Memory>
         requires lawful { AreLawful (schemas_of (after self.old.history)) entry.ops }
         requires cells { cells_of entry ≤ MAX_BATCH_CELLS }
+        requires alone { SetsKeysAlone entry.ops }
         ensures ok { OnOk result (self.new ≡ with_entry self.old entry) }
         ensures reply { IfOk result (λ given. given ≡ reply.Done (length self.old.history + 1)) }
         ensures err { OnErr result (self.new ≡ self.old) }
@@ -113,7 +114,7 @@ impl ListBack {
         ensures err { OnErr result (self.new ≡ self.old) }
     {
         match stmt {
-            Stmt::Create(_) | Stmt::Insert(_) => self.write_stmt(alloc, stmt),
+            Stmt::Create(_) | Stmt::Insert(_) | Stmt::Alter(_) => self.write_stmt(alloc, stmt),
             Stmt::Query(_) | Stmt::Show(..) => self.answer(alloc, stmt),
         }
     }
@@ -187,7 +188,7 @@ impl Backend for ListBack {
         self.write(alloc, batch, now)
     }
 
-    /// Makes CREATE TABLE and INSERT the next transaction, or refuses them; answers a query and SHOW PARTITIONS over what is
+    /// Makes CREATE TABLE, INSERT and ALTER TABLE the next transaction, or refuses them; answers a query and SHOW PARTITIONS over what is
     /// applied, or refuses them by the refusal that goes first. A text that is no statement is refused as `parse_stmt`
     /// refuses it.
     ///

@@ -1,14 +1,14 @@
 //! One table: its partitions, and rows that wait to be put into them.
 ghost use Rattle.std.specs.Prelude.{◌≡◌, [], ◌++◌, All, IfOk, IfSome, OnOk};
-ghost use Rattle.qd_base.specs.Database.{filled, widened};
+ghost use Rattle.qd_base.specs.Database.{filled, rekeyed, widened};
 ghost use Rattle.qd_base.specs.Lawful.{IsRowOf, IsSchema};
-ghost use Rattle.qd_base.specs.Schemas.{with_column};
+ghost use Rattle.qd_base.specs.Schemas.{with_column, with_keys};
 ghost use Rattle.qd_block.specs.Blocks.{FitsKinds, IsTimed};
 ghost use Rattle.qd_memory.specs.Kept.{stored, waiting_in, IsBegun, IsKept, IsSettled, IsWaiting};
 
 use crate::merging::{batch_of, with_batch};
 use crate::slots::{Slot, parts_of, shared_slots};
-use qd_base::{Col, Duplicate, Memory, PartList, Row, RowList, Schema};
+use qd_base::{Col, Duplicate, KeyList, Memory, PartList, Row, RowList, Schema};
 use qd_block::Builder;
 use qd_symbols::SymbolMap;
 use std::alloc::Global;
@@ -110,6 +110,16 @@ impl Table {
         self.settle(alloc)?;
         let col = col.copy()?;
         self.schema.cols.push(col)?;
+        Ok(())
+    }
+
+    /// Sets the deduplication keys, for rows that come after.
+    pub(crate) fn rekey(&mut self, alloc: Global, keys: &KeyList) -> Result<(), Memory>
+        requires sound { IsSchema (with_keys keys.now self.old.schema) }
+        ensures ok { OnOk result (stored self.new ≡ rekeyed keys.now (stored self.old)) }
+    {
+        self.settle(alloc)?;
+        self.schema.keys = keys.copy()?;
         Ok(())
     }
 }

@@ -11,7 +11,7 @@ ghost use Rattle.qd_memory.specs.declared.slots.Slot.{Slot};
 ghost use Rattle.qd_memory.specs.Kept.{database_of, schemas_in, AreTables, IsKept, IsSettled, Kept};
 
 use crate::table::Table;
-use qd_base::{Col, Duplicate, Memory, Op, PartList, RowList, Schema, Schemas};
+use qd_base::{Col, Duplicate, KeyList, Memory, Op, PartList, RowList, Schema, Schemas};
 use qd_block::Block;
 use qd_symbols::SymbolMap;
 use std::alloc::Global;
@@ -152,6 +152,7 @@ fn changed_list(
         Op::Create { schema } => with_table(alloc, tables, schema),
         Op::AddColumn { table, col } => with_column(alloc, schemas, tables, table.bytes(), col),
         Op::Insert { table, rows } => with_rows(alloc, schemas, tables, table.bytes(), rows),
+        Op::SetKeys { table, keys } => with_keys(alloc, schemas, tables, table.bytes(), keys),
     }
 }
 
@@ -214,6 +215,31 @@ fn with_rows(
         Some(i) => {
             let table = &mut tables[i];
             table.fill(alloc, rows)?;
+            table.is_kept();
+            Ok(tables)
+        }
+        None => Ok(tables),
+    }
+}
+
+/// A list of tables, of which the one of a name has these keys.
+fn with_keys(
+    alloc: Global,
+    schemas: &Schemas,
+    tables: Vec<Table>,
+    name: &[u8],
+    keys: &KeyList,
+) -> Result<Vec<Table>, Memory>
+    requires kept { AreTables schemas.now tables.items }
+    requires fits { Fits schemas.now (change.SetKeys name.now keys.now) }
+    ensures kept { IfOk result (λ v. AllByRecursion IsKept v.items) }
+    ensures step { IfOk result (λ v. database_of v.items ≡ step (database_of tables.items) (change.SetKeys name.now keys.now)) }
+{
+    let mut tables = tables;
+    match schemas.find(name) {
+        Some(i) => {
+            let table = &mut tables[i];
+            table.rekey(alloc, keys)?;
             table.is_kept();
             Ok(tables)
         }

@@ -31,3 +31,4 @@ Planned schemas (is.Query q) r = PlannedQuery (parts.planned schemas q) r
 Planned schemas (is.Show name place) r = PlannedShow (table_at schemas name) place r
 Planned schemas (is.Create c) r = Unit {0}
 Planned schemas (is.Insert i) r = Unit {0}
+Planned schemas (is.Alter a) r = Unit {0}

@@ -26,7 +26,7 @@ pub fn plan(alloc: Global, schemas: &Schemas, stmt: &Stmt) -> Result<Plan, PlanF
     match stmt {
         Stmt::Query(query) => planned(alloc, schemas, query),
         Stmt::Show(name, at) => shown(schemas, name.bytes(), *at),
-        Stmt::Create(_) | Stmt::Insert(_) => unreachable!(),
+        Stmt::Create(_) | Stmt::Insert(_) | Stmt::Alter(_) => unreachable!(),
     }
 }
 

@@ -23,7 +23,7 @@ use Rattle.qd_base.specs.Dictionary.{id_for, with_text}
 use Rattle.qd_base.specs.Lawful.{AreLawful, AreSchemas, HasKinds, IsRowOf, IsSchema, IsSound, Takes, cells_in, cells_of}
 use Rattle.qd_base.specs.Names.{IsColumnName, IsTableName}
 use Rattle.qd_base.specs.Rows.{Row}
-use Rattle.qd_base.specs.Schemas.{Fits, same_name, schema_of, schemas_step, table_at}
+use Rattle.qd_base.specs.Schemas.{AreKeys, Fits, same_name, schema_of, schemas_step, table_at}
 use Rattle.qd_base.proofs.Lawful.{AreSchemas-step, HasKinds-length, get-below}
 use Rattle.qd_base.proofs.Texts.{some_place, with_text-new, with_text-there}
 use Rattle.qd_fields.specs.Spelling.{FitsColumn, FitsName, FitsSchema}
@@ -161,6 +161,11 @@ op_fits schemas (op.AddColumn table col) h fits sound few =
 op_fits schemas (op.Insert table rows) h fits sound few =
     let t = table_found (λ s. All (IsRowOf s) rows) schemas table (recursion_from_All IsSchema schemas h.each) (sym (some_place (λ (s : Schema). same_name s.name table) schemas) ∙ fits) sound in
     (name_fits t.schema table t.sound t.same, rows_fit t.schema rows t.sound t.holds few)
+op_fits schemas (op.SetKeys table keys) h fits sound few =
+    let t = table_widened (λ s. AreKeys s.cols s.time_col keys) schemas table (recursion_from_All IsSchema schemas h.each) fits in
+    let columns : length t.schema.cols ≤ 256 = t.sound.few in
+    let count : length keys ≤ length t.schema.cols = few_keys (length t.schema.cols) t.schema.time_col keys t.holds in
+    (name_fits t.schema table t.sound t.same, record { few = omega arith; each = low_keys (length t.schema.cols) t.schema.time_col keys (omega arith) t.holds })
 
 ops_fit : (schemas : List Schema) (ops : List Op) → AreSchemas schemas → AreLawful schemas ops → sum_by cells_in ops ≤ MAX_BATCH_CELLS → AllByRecursion FitsOp ops
 ops_fit schemas [] h lawful few = tt
@@ -201,6 +206,7 @@ op_texts : (o : Op) → length (texts_of_op o) ≤ cells_in o
 op_texts (op.Create schema) = omega arith
 op_texts (op.AddColumn table col) = omega arith
 op_texts (op.Insert table rows) = rows_texts rows
+op_texts (op.SetKeys table keys) = omega arith
 
 ops_texts : (ops : List Op) → length (flat_map texts_of_op ops) ≤ sum_by cells_in ops
 ops_texts [] = omega arith

@@ -61,6 +61,7 @@ plain-alters : (o : Op) → IsPlain o → filter alters (o ∷ []) ≡ o ∷ []
 plain-alters (op.Create schema) h = refl
 plain-alters (op.AddColumn table col) h = refl
 plain-alters (op.Insert table rows) h = absurd h
+plain-alters (op.SetKeys table keys) h = refl
 
 -- a table or a column is made
 pub change_taken : (w w' : Written) (table : List ℕ) (changes grown ops : List Op) (o : Op) → IsPlain o → grown ≡ changes ++ o ∷ [] → ((e : SoFar) → IsSoFar w e → IsSoFar w' (with_op o e)) → IsTaken (sunk w place.Shut table changes) ops

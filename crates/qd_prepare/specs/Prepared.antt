@@ -4,7 +4,7 @@ use Rattle.qd_base.specs.declared.limits.TheConstants.{MAX_BATCH_CELLS, MAX_QUER
 use Rattle.qd_base.specs.declared.schema.Schema.{Schema}
 use Rattle.qd_base.specs.declared.op.Entry.{Entry}
 use Rattle.qd_base.specs.Schemas.{schemas_step}
-use Rattle.qd_base.specs.Lawful.{AreLawful, AreSchemas, cells_of}
+use Rattle.qd_base.specs.Lawful.{AreLawful, AreSchemas, SetsKeysAlone, cells_of}
 use Rattle.qd_ilp.specs.Whole.{IsReading, Reading}
 use Rattle.qd_sql_ast.specs.declared.tree.Stmt.{Stmt}
 use Rattle.qd_sql_ast.specs.declared.tree.Stmt.TheVariants as is
@@ -20,11 +20,12 @@ abbrev pub IsShort : Stmt → Type 0
 IsShort (is.Insert i) = 4 * length i.tuples ≤ MAX_QUERY_BYTES
 IsShort s = Unit {0}
 
--- A transaction is ready: its bytes are those of its entry, it is lawful over the schemas before it and keeps to the limit of
--- cells, and the schemas that it leaves are there, where they are others.
+-- A transaction is ready: its bytes are those of its entry, it is lawful over the schemas before it, keeps to the limit of
+-- cells, and sets keys alone, and the schemas that it leaves are there, where they are others.
 pub record IsPrepared (schemas : List Schema) (e : Entry) (p : Prepared) : Type 0 where
   pub bytes : SpellsEntry p.bytes e
   pub changes : AreLawful schemas e.ops
   pub cells : cells_of e ≤ MAX_BATCH_CELLS
+  pub alone : SetsKeysAlone e.ops
   pub left : unwrap_or p.schemas schemas ≡ fold schemas_step schemas e.ops
   pub sound : IfSome p.schemas AreSchemas

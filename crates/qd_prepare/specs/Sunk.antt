@@ -21,11 +21,12 @@ IsTied place.Shut w = w.is_open ≡ false
 IsTied place.Open w = w.is_open ≡ true
 IsTied place.Lost w = Unit {0}
 
--- whether a change makes a table or a column
+-- whether a change makes a table or a column, or sets keys
 abbrev pub alters : Op → Bool
 alters (op.Create schema) = true
 alters (op.AddColumn table col) = true
 alters (op.Insert table rows) = false
+alters (op.SetKeys table keys) = true
 
 -- These are the changes of an entry that is written so far. The last row of an insertion that is open isn't ended yet.
 abbrev pub Stands : Place → List ℕ → SoFar → List Op → Type 0

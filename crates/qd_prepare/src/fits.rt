@@ -1,7 +1,7 @@
 //! Whether names and schemas are short enough to be stored. Those of a lawful transaction are.
 ghost use Rattle.std.specs.Prelude.{◌<◌, ◌^◌, All, IsTrue};
 ghost use Rattle.std.specs.Bool.{OnTrue};
-ghost use Rattle.qd_fields.specs.Spelling.{FitsColumn, FitsName, FitsSchema};
+ghost use Rattle.qd_fields.specs.Spelling.{FitsColumn, FitsKeys, FitsName, FitsSchema};
 
 use qd_base::{Col, Schema};
 
@@ -28,6 +28,13 @@ pub(crate) fn fits(schema: &Schema) -> bool
         && (schema.time_col as usize) < MANY
         && schema.keys.len() < MANY
         && are_low(schema.keys.as_slice())
+}
+
+/// Says whether keys are few and low enough. It costs time linear in them.
+pub(crate) fn keys_fit(keys: &[u32]) -> bool
+    ensures fit { OnTrue result (FitsKeys keys.now) }
+{
+    keys.len() < MANY && are_low(keys)
 }
 
 /// Says whether the columns' names are short enough.

@@ -23,7 +23,7 @@ use std::alloc::Global;
 pub struct Prepared {
     /// The bytes of its entry.
     pub bytes: Txt,
-    /// The schemas that it leaves, where it makes a table or a column; else it leaves those before it.
+    /// The schemas that it leaves, where it makes a table or a column or sets keys; else it leaves those before it.
     pub schemas: Option<Schemas>,
 }
 
@@ -53,9 +53,11 @@ pub fn prepare_lines(
 }
 
 /// Makes the transaction of a statement that writes ready over the tables that are there, or says why it is refused, as
-/// `check_write` does: CREATE TABLE makes a table, INSERT puts rows into one.
+/// `check_write` does: CREATE TABLE makes a table, INSERT puts rows into one, ALTER TABLE adds a column to one or sets its
+/// deduplication keys.
 ///
-/// It costs what `check_write` does, and time and memory linear in the bytes. For CREATE TABLE all schemas are copied once.
+/// It costs what `check_write` does, and time and memory linear in the bytes. For CREATE TABLE and ALTER TABLE all schemas
+/// are copied once.
 pub fn prepare_stmt(alloc: Global, schemas: &Schemas, stmt: &Stmt) -> Result<Prepared, StmtFault>
     requires lawful { AreSchemas schemas.now }
     requires short { IsShort stmt.now }

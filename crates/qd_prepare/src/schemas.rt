@@ -8,7 +8,7 @@ ghost use Rattle.qd_base.specs.Lawful.{AreLawful};
 use qd_base::{Memory, Op, Schemas};
 
 /// Gives the schemas that changes leave, or none where they leave the schemas as they are. It costs time linear in the number
-/// of changes; where one makes a table or a column, also time and memory linear in the size of all schemas.
+/// of changes; where one makes a table or a column or sets keys, also time and memory linear in the size of all schemas.
 pub(crate) fn schemas_left(schemas: &Schemas, ops: &[Op]) -> Result<Option<Schemas>, Memory>
     requires lawful { AreLawful schemas.now ops.now }
     ensures left { IfOk result (λ left. unwrap_or left schemas.now ≡ fold schemas_step schemas.now ops.now) }

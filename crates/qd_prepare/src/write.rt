@@ -5,13 +5,13 @@ ghost use Rattle.std.specs.Prelude.{◌≡◌, true, false, OnOk};
 ghost use Rattle.qd_lines.specs.Sinks.{cell_lent};
 ghost use Rattle.qd_wal_entry.specs.Written.{IsSoFar, SoFar, inserted, with_cell, with_op, with_row};
 
-use crate::fits::{fits, is_short};
+use crate::fits::{fits, is_short, keys_fit};
 use qd_base::{MAX_TEXT_BYTES, Memory, Op};
 use qd_lines::CellView;
 use qd_wal_entry::EntryWriter;
 use std::alloc::AllocError;
 
-/// Writes the making of a table or a column. Rows are not written so.
+/// Writes the making of a table or a column, or that keys are set. Rows are not written so.
 pub(crate) fn write_change(writer: &mut EntryWriter, change: &Op) -> Result<(), Memory>
     requires shut { writer.old.is_open ≡ false }
     ensures shut { OnOk result (writer.new.is_open ≡ false) }
@@ -24,6 +24,9 @@ pub(crate) fn write_change(writer: &mut EntryWriter, change: &Op) -> Result<(), 
         Op::Create { schema } if fits(schema) => writer.create(schema),
         Op::AddColumn { table, col } if is_short(table.bytes()) && is_short(col.name.bytes()) => {
             writer.add_column(table.bytes(), col)
+        }
+        Op::SetKeys { table, keys } if is_short(table.bytes()) && keys_fit(keys.as_slice()) => {
+            writer.set_keys(table.bytes(), keys.as_slice())
         }
         _ => Err(AllocError),
     }

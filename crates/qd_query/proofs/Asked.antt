@@ -171,6 +171,7 @@ ready schemas (is.Query q) made asks stride h = subst (IsReady schemas) (sym h.1
 ready schemas (is.Show name place) made asks stride h = absurd h
 ready schemas (is.Create c) made asks stride h = absurd asks
 ready schemas (is.Insert i) made asks stride h = absurd asks
+ready schemas (is.Alter b) made asks stride h = absurd asks
 
 asked : (law : PlansAnswer) (v : SourceView) (db : Database) (s : Stmt) (made : AskPlan) (a : Answer) → Asks s → Planned v.schemas s (Ok (plan.Ask made)) → Tells v db
     → a ≡ plan_answer made (Some (table_in db made.left)) (right_in db made.join) → a ≡ answer_of db s
@@ -179,6 +180,7 @@ asked law v db (is.Query q) made a asks h tells e =
 asked law v db (is.Show name place) made a asks h tells e = absurd h
 asked law v db (is.Create c) made a asks h tells e = absurd asks
 asked law v db (is.Insert i) made a asks h tells e = absurd asks
+asked law v db (is.Alter b) made a asks h tells e = absurd asks
 
 pub told_asked : (law : PlansAnswer) (v : SourceView) (o : Option Database) (s : Stmt) (made : AskPlan) (a : Answer) → Asks s → Planned v.schemas s (Ok (plan.Ask made)) → IfSome o (Tells v)
     → IfSome o (λ db. a ≡ plan_answer made (Some (table_in db made.left)) (right_in db made.join)) → IfSome o (λ db. a ≡ answer_of db s)
@@ -194,6 +196,7 @@ show_low schemas (is.Query q) table asks h = absurd h
 show_low schemas (is.Show name place) table asks h = table_within schemas name table (sym h)
 show_low schemas (is.Create c) table asks h = absurd asks
 show_low schemas (is.Insert i) table asks h = absurd asks
+show_low schemas (is.Alter b) table asks h = absurd asks
 
 showed : (v : SourceView) (db : Database) (s : Stmt) (table : ℕ) (a : Answer) → Asks s → Planned v.schemas s (Ok (plan.Show table)) → Tells v db → a ≡ show_answer (table_in db table) → a ≡ answer_of db s
 showed v db (is.Query q) table a asks h tells e = absurd h
@@ -201,6 +204,7 @@ showed v db (is.Show name place) table a asks h tells e =
     e ∙ sym (shown_is db name place (meaning.stored db name) (table_in db table) (named db name table (ap (λ (ss : List Schema). table_at ss name) tells.schemas ∙ h)))
 showed v db (is.Create c) table a asks h tells e = absurd asks
 showed v db (is.Insert i) table a asks h tells e = absurd asks
+showed v db (is.Alter b) table a asks h tells e = absurd asks
 
 pub told_shown : (v : SourceView) (o : Option Database) (s : Stmt) (table : ℕ) (a : Answer) → Asks s → Planned v.schemas s (Ok (plan.Show table)) → IfSome o (Tells v)
     → IfSome o (λ db. a ≡ show_answer (table_in db table)) → IfSome o (λ db. a ≡ answer_of db s)
@@ -216,6 +220,7 @@ refused law v db (is.Show name at_name) why place asks h tells =
     ∙ sym (ap (λ (x : Option StoredTable). given (judged (least (meaning.shown_faults x at_name)) (meaning.shown x))) (unnamed db name (ap (λ (ss : List Schema). table_at ss name) tells.schemas ∙ h.0)))
 refused law v db (is.Create c) why place asks h tells = absurd asks
 refused law v db (is.Insert i) why place asks h tells = absurd asks
+refused law v db (is.Alter b) why place asks h tells = absurd asks
 
 pub told_refused : (law : PlansAnswer) (v : SourceView) (o : Option Database) (s : Stmt) (why : Code) (place : ℕ) → Asks s → Planned v.schemas s (Err (fault.Refused why place)) → IfSome o (Tells v)
     → IfSome o (λ db. answer.Refused (number_of why) place ≡ answer_of db s)

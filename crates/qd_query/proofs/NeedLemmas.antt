@@ -70,6 +70,7 @@ plan_needed s (is.Query q) made a b asks h asked = asked_wider (PlanNeeds s made
 plan_needed s (is.Show name place) made a b asks h asked = absurd h
 plan_needed s (is.Create c) made a b asks h asked = absurd asks
 plan_needed s (is.Insert i) made a b asks h asked = absurd asks
+plan_needed s (is.Alter x) made a b asks h asked = absurd asks
 
 pub show_needed : (s : SourceView) (stmt : Stmt) (table : ℕ) (a b : Option (List PartAt)) → Asks stmt → Planned s.schemas stmt (Ok (plan.Show table)) → AskedOnly (IsPartBetween s table 0 MAX_TIME) a b → AskedOnly (Needs s stmt) a b
 show_needed s (is.Query q) table a b asks h asked = absurd h
@@ -77,3 +78,4 @@ show_needed s (is.Show name place) table a b asks h asked =
     asked_wider (IsPartBetween s table 0 MAX_TIME) (Needs s (is.Show name place)) a b (λ x one. subst (λ (o : Option ℕ). ShowNeeds s o x) (sym h) (one.of_table, one.there)) asked
 show_needed s (is.Create c) table a b asks h asked = absurd asks
 show_needed s (is.Insert i) table a b asks h asked = absurd asks
+show_needed s (is.Alter x) table a b asks h asked = absurd asks

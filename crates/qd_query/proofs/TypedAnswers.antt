@@ -339,6 +339,7 @@ table_typed follow db (is.Query q) lawful none =
 table_typed follow db (is.Show name place) lawful none = shown_typed (stored db name)
 table_typed follow db (is.Create c) lawful none = tt
 table_typed follow db (is.Insert i) lawful none = tt
+table_typed follow db (is.Alter a) lawful none = tt
 
 judged_table : (o : Option Refusal) (a t : Table) → judged o a ≡ Ok t → a ≡ t
 judged_table None a t h = cc

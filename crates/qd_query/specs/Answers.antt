@@ -73,6 +73,7 @@ StrideIn (is.Query q) = HasStride q.sampled
 StrideIn (is.Show name place) = Unit {0}
 StrideIn (is.Create c) = Unit {0}
 StrideIn (is.Insert i) = Unit {0}
+StrideIn (is.Alter a) = Unit {0}
 
 -- rows in order of time, of which a column is named, up to the greatest timestamp
 pub record AreTimed (time_col : ℕ) (rows : List Row) : Type 0 where

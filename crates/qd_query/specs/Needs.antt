@@ -54,3 +54,4 @@ Needs s (is.Query q) a = QueryNeeds s (parts.planned s.schemas q) a
 Needs s (is.Show name place) a = ShowNeeds s (table_at s.schemas name) a
 Needs s (is.Create c) a = ⊥
 Needs s (is.Insert i) a = ⊥
+Needs s (is.Alter b) a = ⊥

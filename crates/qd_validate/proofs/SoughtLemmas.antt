@@ -12,7 +12,7 @@ use Rattle.qd_base.specs.Schemas.{same_name, schema_of, table_at}
 use Rattle.qd_base.proofs.NameIndex.{position-is}
 use Rattle.qd_base.proofs.Alike.{names_equal}
 use Rattle.qd_base.proofs.Tables.{find-position, not_found}
-use Rattle.qd_validate.proofs.ListLemmas.{IsDistinct-pair}
+use Rattle.qd_base.proofs.Taken.{IsDistinct-pair}
 
 same_number : (n i : ℕ) → eqb n i ≡ true → n ≡ i
 same_number n i e = grind (arith, nat_tests)

@@ -1,9 +1,9 @@
 //! Transactions over the schemas that are there.
 ghost use Rattle.std.specs.Prelude.{◌≡◌, ◌+◌, ◌<◌, ◌≤◌, ◌↔◌, length, fold, sum_by, All, IfOk, IfSome, IfNone, IsTrue};
 ghost use Rattle.std.specs.Bool.{OnTrue};
-ghost use Rattle.qd_base.specs.Schemas.{schemas_step, schema_of, Fits};
+ghost use Rattle.qd_base.specs.Schemas.{schemas_step, schema_of, Fits, SetsNoKeys};
 ghost use Rattle.qd_base.specs.Names.{IsColumnName};
-ghost use Rattle.qd_base.specs.Lawful.{cells_in, cells_of, AreLawful, AreSchemas, IsRowOf, IsSound};
+ghost use Rattle.qd_base.specs.Lawful.{cells_in, cells_of, AreLawful, AreSchemas, IsRowOf, IsSound, SetsKeysAlone};
 
 use crate::cells::rows_fit;
 use crate::schema::schema_fits;
@@ -19,11 +19,12 @@ use qd_base::{
 /// takes memory for what the schemas gain alone.
 pub fn follow(schemas: &mut Schemas, entry: &Entry) -> Result<bool, Memory>
     requires { AreSchemas schemas.old }
-    ensures lawful { IfOk result (λ lawful. IsTrue lawful ↔ (AreLawful schemas.old entry.now.ops × (cells_of entry.now ≤ MAX_BATCH_CELLS))) }
+    ensures lawful { IfOk result (λ lawful. IsTrue lawful ↔ (AreLawful schemas.old entry.now.ops × (cells_of entry.now ≤ MAX_BATCH_CELLS) × SetsKeysAlone entry.now.ops)) }
     ensures behind { IfOk result (λ lawful. OnTrue lawful (schemas.new ≡ fold schemas_step schemas.old entry.now.ops)) }
     ensures sound { IfOk result (λ lawful. OnTrue lawful (AreSchemas schemas.new)) }
 {
-    Ok(has_room(entry.ops.as_slice()) && follow_each(schemas, entry.ops.as_slice())?)
+    let ops = entry.ops.as_slice();
+    Ok(has_room(ops) && sets_keys_alone(ops) && follow_each(schemas, ops)?)
 }
 
 /// Whether changes are lawful over these schemas, one behind another. It moves the schemas behind them.
@@ -50,6 +51,7 @@ fn is_sound(schemas: &Schemas, op: &Op) -> bool
             column_name_ok(col.name.bytes()) && has_column_left(schemas, table.bytes())
         }
         Op::Insert { table, rows } => takes_rows(schemas, table.bytes(), rows.as_slice()),
+        Op::SetKeys { .. } => true,
     }
 }
 
@@ -71,6 +73,25 @@ fn takes_rows(schemas: &Schemas, table: &[u8], rows: &[Row]) -> bool
         Some(i) => rows_fit(schemas.get(i), rows),
         None => true,
     }
+}
+
+/// Whether a change that sets keys has no other beside it.
+fn sets_keys_alone(ops: &[Op]) -> bool
+    ensures alone { IsTrue result ↔ SetsKeysAlone ops.now }
+{
+    ops.len() <= 1 || sets_no_keys(ops)
+}
+
+/// Whether no change sets keys.
+fn sets_no_keys(ops: &[Op]) -> bool
+    ensures none { IsTrue result ↔ SetsNoKeys ops.now }
+{
+    for op in ops {
+        if op.sets_keys() {
+            return false;
+        }
+    }
+    true
 }
 
 /// Whether changes insert no more cells than a transaction may.

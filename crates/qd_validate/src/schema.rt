@@ -7,7 +7,6 @@ ghost use Rattle.qd_base.specs.Names.{IsColumnName};
 ghost use Rattle.qd_base.specs.Schemas.{same_name};
 ghost use Rattle.qd_base.specs.Lawful.{IsSchema};
 
-use crate::keys::keys_fit;
 use qd_base::{Col, ColList, ColType, MAX_COLUMNS, Schema, column_name_ok, table_name_ok};
 
 /// Whether each column has a name as columns may have.
@@ -60,5 +59,5 @@ pub(crate) fn schema_fits(schema: &Schema) -> bool
     table_name_ok(schema.name.bytes())
         && columns_fit(&schema.cols)
         && is_designated(schema.cols.as_slice(), schema.time_col)
-        && keys_fit(schema.cols.len(), schema.time_col, schema.keys.as_slice())
+        && schema.takes_keys(schema.keys.as_slice())
 }

@@ -1,8 +1,8 @@
 //! Tests of what no clause says: that names are judged as they are meant to be, and that the calls that no session makes
 //! succeed where memory is found.
 use qd_base::{
-    Cell, ColList, Duplicate, Entry, KeyList, Memory, Op, OpList, RefList, Row, RowList, Table,
-    Txt, WalRef, column_name_ok, same_name, table_name_ok,
+    Cell, Col, ColList, ColType, Duplicate, Entry, KeyList, Memory, Op, OpList, PartUnit, RefList,
+    Row, RowList, Schema, Schemas, Table, Txt, WalRef, column_name_ok, same_name, table_name_ok,
 };
 use std::alloc::Global;
 use std::test::Fail;
@@ -71,6 +71,52 @@ fn entry(alloc: Global) -> Result<Entry, Memory> {
 fn transactions_are_copied(rt: HostRuntime) -> Result<(), Fail> {
     let copy = entry(rt.alloc())?.copy()?;
     assert_eq!(rt; copy.ops.len(), 1);
+    Ok(())
+}
+
+/// A table of one column, the designated one, without keys.
+fn moments(alloc: Global) -> Result<Schema, Memory> {
+    let mut cols = ColList::new(alloc);
+    cols.push(Col {
+        name: Txt::from_bytes(alloc, b"ts")?,
+        kind: ColType::Time,
+    })?;
+    Ok(Schema {
+        name: Txt::from_bytes(alloc, b"m")?,
+        cols,
+        time_col: 0,
+        unit: PartUnit::Day,
+        keys: KeyList::new(alloc),
+    })
+}
+
+/// A change that gives the table `m` one key.
+fn key_of_m(alloc: Global, key: u32) -> Result<Op, Memory> {
+    let table = Txt::from_bytes(alloc, b"M")?;
+    let mut keys = KeyList::new(alloc);
+    keys.push(key)?;
+    Ok(Op::SetKeys { table, keys })
+}
+
+/// Makes a change of the schemas where it fits, and says whether it did.
+fn change(schemas: &mut Schemas, op: &Op) -> Result<bool, Memory> {
+    if !schemas.fits(op) {
+        return Ok(false);
+    }
+    schemas.apply(op)?;
+    Ok(true)
+}
+
+#[test]
+fn keys_are_set(rt: HostRuntime) -> Result<(), Fail> {
+    let mut schemas = Schemas::new(rt.alloc());
+    let schema = moments(rt.alloc())?;
+    let set = key_of_m(rt.alloc(), 0)?.copy()?;
+    assert!(rt; set.sets_keys() && !change(&mut schemas, &set)?);
+    assert!(rt; change(&mut schemas, &Op::Create { schema })?);
+    assert!(rt; !change(&mut schemas, &key_of_m(rt.alloc(), 1)?)?);
+    assert!(rt; change(&mut schemas, &set)?);
+    assert!(rt; schemas.len() == 1 && schemas.get(0).keys.as_slice() == [0].as_slice());
     Ok(())
 }
 

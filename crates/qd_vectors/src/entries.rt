@@ -1,6 +1,6 @@
 //! Entries of the write-ahead log as bytes that were written by hand, and damage where it was looked for by hand.
-use qd_base::{Cell, Entry, Memory, Op};
-use qd_wal_entry::{EntryFault, decode_entry, encode_entry};
+use qd_base::{Cell, Entry, Memory, Op, Txt};
+use qd_wal_entry::{EntryFault, EntryWriter, decode_entry, encode_entry};
 use std::alloc::Global;
 use std::test::Fail;
 
@@ -20,6 +20,9 @@ const PIECES: [&[u8]; 8] = [
     b"\x04\x01\0\0\0\x01\xFF\xFF\xFF\xFF\xFF\xFF\xFF\xFF\x04\0\0\0\0",
     b"\x03\x01t\0\0\0\0\0\0",
 ];
+
+/// Other keys for the table `t`: its second column.
+const OTHER_KEYS: &[u8] = b"\0\0\0\0\x01\0\0\0\x04\x01t\x01\0\x01\0";
 
 /// The bytes of the pieces, 104 of them, with this value at a place.
 fn pieces(alloc: Global, at: usize, value: u8) -> Result<Vec<u8>, Memory> {
@@ -63,7 +66,37 @@ fn entries_are_read_and_written(rt: HostRuntime) -> Result<(), Fail> {
     let first = Some((1, 1_704_067_200_000_000));
     assert!(rt; comes_back(rt.alloc(), FIRST_ROW, first)?);
     assert!(rt; comes_back(rt.alloc(), &pieces(rt.alloc(), 104, 0)?, None)?);
+    assert!(rt; comes_back(rt.alloc(), OTHER_KEYS, None)?);
     Ok(())
+}
+
+/// The entry of other keys, written change by change.
+fn written_keys(alloc: Global) -> Result<Option<Txt>, Memory> {
+    let mut writer = EntryWriter::new(alloc)?;
+    if !writer.has_room() {
+        return Ok(None);
+    }
+    writer.set_keys(b"t", &[1])?;
+    let bytes = writer.finish()?;
+    Ok(Some(bytes))
+}
+
+#[test]
+fn keys_are_written(rt: HostRuntime) -> Result<(), Fail> {
+    let bytes = written_keys(rt.alloc())?;
+    assert!(rt; bytes.is_some_and(|bytes| bytes.bytes() == OTHER_KEYS));
+    Ok(())
+}
+
+#[test]
+fn missing_keys_are_damage(rt: HostRuntime) {
+    for len in 8..OTHER_KEYS.len() {
+        let fault = fault_of(rt.alloc(), &OTHER_KEYS[..len]);
+        assert!(rt;
+            fault == Some(EntryFault::Damaged { at: len as u64 }),
+            "the first {len}"
+        );
+    }
 }
 
 /// What is wrong with bytes.
@@ -74,13 +107,14 @@ fn fault_of(alloc: Global, bytes: &[u8]) -> Option<EntryFault> {
 #[test]
 fn damage_is_found(rt: HostRuntime) -> Result<(), Fail> {
     // The place of a byte, what is put there, and where the damage is.
-    let cases: [(usize, u8, u64); 18] = [
+    let cases: [(usize, u8, u64); 19] = [
         (0, 1, 11),
         (9, 98, 7),
         (10, 3, 95),
         (10, 5, 104),
         (14, 0, 14),
-        (14, 4, 14),
+        (14, 4, 104),
+        (14, 5, 14),
         (19, 6, 19),
         (30, 5, 30),
         (38, 0, 38),

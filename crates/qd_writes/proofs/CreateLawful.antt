@@ -1,5 +1,5 @@
 -- The table that a CREATE without a refusal makes is one that may be.
-use Rattle.std.proofs.Common.{◌≡◌, ℕ, ◌<◌, ◌≤◌, ◌⊎◌, inl, inr, Bool, true, false, not, ◌||◌, if◌then◌else◌, ltb, leb, List, [], ◌∷◌, ◌++◌, map, length, get_or, Option, Some, None, refl, sym, ap, ◌∙◌, subst, arith, true≢false, All, Contains}
+use Rattle.std.proofs.Common.{◌≡◌, ℕ, ◌<◌, ◌≤◌, inl, inr, Bool, true, false, not, ◌||◌, if◌then◌else◌, ltb, leb, List, [], ◌∷◌, ◌++◌, map, length, get_or, Option, Some, None, refl, sym, ap, ◌∙◌, subst, arith, true≢false, Contains}
 use Rattle.std.specs.Prelude.{nat_eq, slice_get, IsSomeAnd, is_some, unwrap_or}
 use Rattle.std.specs.List.{AllByRecursion, IsDistinct, flat_map, list_any, position}
 use Rattle.std.proofs.lemmas.Bool.{ltb-true, leb-true, eqb-true}
@@ -18,7 +18,7 @@ use Rattle.qd_base.specs.declared.schema.ColType.TheVariants as kind
 use Rattle.qd_base.specs.declared.schema.Schema.{Schema}
 use Rattle.qd_base.specs.Lawful.{AreLawful, IsSchema}
 use Rattle.qd_base.specs.Names.{IsColumnName, IsTableName}
-use Rattle.qd_base.specs.Schemas.{same_name, table_at, column_at}
+use Rattle.qd_base.specs.Schemas.{AreKeys, same_name, table_at, column_at}
 use Rattle.qd_base.proofs.Alike.{alike, joins}
 use Rattle.qd_base.proofs.Lists.{Contains-cons, IsDistinct-cons, IsDistinct-nil, IsDistinct-map, IsDistinct-from_map, each-map, each-weaker}
 use Rattle.qd_sql_ast.specs.declared.tree.ColumnDef.{ColumnDef}
@@ -28,7 +28,7 @@ use Rattle.qd_sql_ast.specs.declared.tree.Name.{Name}
 use Rattle.qd_meaning.specs.declared.refusal.Refusal.{Refusal}
 use Rattle.qd_meaning.specs.Refusals.{at, unless}
 use Rattle.qd_meaning.specs.Laws.{NamesAreJudged}
-use Rattle.qd_meaning.specs.Creating.{again_from, col_of, cols_of, column_name_faults, created, create_faults, dedup_faults, designated_faults, is_time_kind, keys_named, named_twice, not_designated, place_in, table_faults, table_name_faults, unknown_column}
+use Rattle.qd_meaning.specs.Creating.{again_from, col_of, cols_of, column_name_faults, created, create_faults, dedup_faults, designated_faults, is_time_kind, key_faults, keys_named, named_twice, not_designated, place_in, table_faults, table_name_faults, unknown_column}
 
 -- ---- lists without a refusal
 
@@ -44,7 +44,7 @@ pub holds : (b : Bool) (why : Code) (place : ℕ) → unless b why place ≡ [] 
 holds true why place e = refl
 holds false why place e = absurd cc
 
-not-true : (b : Bool) → not b ≡ true → b ≡ false
+pub not-true : (b : Bool) → not b ≡ true → b ≡ false
 not-true true e = absurd (true≢false (sym e))
 not-true false e = refl
 
@@ -165,22 +165,23 @@ time_among cols (k ∷ ks) time e = go (same_name k.text time.text) refl e (time
     go true is f rest = (0, omega arith, same_place cols k time is)
     go false is f rest = Contains-cons (place_in cols k) (map (place_in cols) ks) (place_in cols time) (rest f)
 
-abbrev AreKeys : List Col → ℕ → List ℕ → Type 0
-AreKeys cols time keys = (keys ≡ []) ⊎ (All (λ k. k < length cols) keys × IsDistinct nat_eq keys × Contains keys time)
+-- keys of columns that are there, of which none comes again
+pub keys_are : (cols : List Col) (time : Name) (d : Dedup) → flat_map (unknown_column cols) d.keys ≡ [] → key_faults time.text d ≡ [] → AreKeys cols (place_in cols time) (map (place_in cols) d.keys)
+keys_are cols time d unknown e =
+    let parts = empty_parts (unless (list_any (λ (k : Name). same_name k.text time.text) d.keys) code.Keys d.at) (again_from (λ (n : Name). at code.Keys n.at) [] d.keys) e in
+    let known : AllByRecursion (Known cols) d.keys =
+    each-weaker (λ (k : Name). unknown_column cols k ≡ []) (Known cols) (λ k h. holds (is_some (column_at cols k.text)) code.UnknownColumn k.at h) d.keys (each_empty (unknown_column cols) d.keys unknown) in
+    inr (
+      All-from_recursion (λ (p : ℕ). p < length cols) (map (place_in cols) d.keys) (places_low cols d.keys known),
+      places_distinct cols d.keys known (names_distinct code.Keys d.keys parts.1),
+      time_among cols d.keys time (holds (list_any (λ (k : Name). same_name k.text time.text) d.keys) code.Keys d.at parts.0),
+    )
 
 keys_sound : (cols : List Col) (time : Name) (o : Option Dedup) → dedup_faults cols time o ≡ [] → AreKeys cols (place_in cols time) (map (place_in cols) (keys_named o))
 keys_sound cols time None e = inl refl
 keys_sound cols time (Some d) e =
-    let last = empty_parts (flat_map column_name_faults d.keys ++ flat_map (unknown_column cols) d.keys ++ unless (list_any (λ (k : Name). same_name k.text time.text) d.keys) code.Keys d.at) (again_from (λ (n : Name). at code.Keys n.at) [] d.keys) e in
-    let timed = empty_parts (flat_map column_name_faults d.keys ++ flat_map (unknown_column cols) d.keys) (unless (list_any (λ (k : Name). same_name k.text time.text) d.keys) code.Keys d.at) last.0 in
-    let unknown = empty_parts (flat_map column_name_faults d.keys) (flat_map (unknown_column cols) d.keys) timed.0 in
-    let known : AllByRecursion (Known cols) d.keys =
-    each-weaker (λ (k : Name). unknown_column cols k ≡ []) (Known cols) (λ k h. holds (is_some (column_at cols k.text)) code.UnknownColumn k.at h) d.keys (each_empty (unknown_column cols) d.keys unknown.1) in
-    inr (
-      All-from_recursion (λ (p : ℕ). p < length cols) (map (place_in cols) d.keys) (places_low cols d.keys known),
-      places_distinct cols d.keys known (names_distinct code.Keys d.keys last.1),
-      time_among cols d.keys time (holds (list_any (λ (k : Name). same_name k.text time.text) d.keys) code.Keys d.at timed.1),
-    )
+    let two = empty_parts (flat_map column_name_faults d.keys ++ flat_map (unknown_column cols) d.keys) (key_faults time.text d) e in
+    keys_are cols time d (empty_parts (flat_map column_name_faults d.keys) (flat_map (unknown_column cols) d.keys) two.0).1 two.1
 
 -- ---- the whole
 

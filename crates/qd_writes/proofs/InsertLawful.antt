@@ -154,7 +154,7 @@ targets_fit cols (Some names) = each-map (target_of cols) (IsTarget cols) names 
 abbrev pub is_of : ℕ → Target × Lit → Bool
 is_of col x = eqb x.0.0 col
 
-found-is : {X : Type 0} (P : X → Type 0) (p : X → Bool) (xs : List X) (x : X) → AllByRecursion P xs → find p xs ≡ Some x → P x × (p x ≡ true)
+pub found-is : {X : Type 0} (P : X → Type 0) (p : X → Bool) (xs : List X) (x : X) → AllByRecursion P xs → find p xs ≡ Some x → P x × (p x ≡ true)
 found-is P p [] x h e = absurd cc
 found-is P p (y ∷ ys) x h e = go (p y) refl (found-is P p ys x h.1) e
   where
@@ -289,7 +289,7 @@ rows_sound s is ts fit (t ∷ tuples) h k = (
 
 -- ---- the whole
 
-named_alike : (schemas : List Schema) (a b : List ℕ) → same_name a b ≡ true → schema_of schemas a ≡ schema_of schemas b
+pub named_alike : (schemas : List Schema) (a b : List ℕ) → same_name a b ≡ true → schema_of schemas a ≡ schema_of schemas b
 named_alike schemas a b h = λ i. find (λ (s : Schema). alike a b s.name h i) schemas
 
 -- the refusals of the rows alone

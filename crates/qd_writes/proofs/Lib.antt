@@ -4,3 +4,4 @@ mod PlaceLemmas
 mod TableLemmas
 mod CreateLawful
 mod InsertLawful
+pub mod AlterLawful

@@ -7,17 +7,19 @@ ghost use Rattle.qd_base.specs.declared.schema.Schema.{Schema};
 ghost use Rattle.qd_sql_ast.specs.declared.tree.Stmt.TheVariants as is;
 ghost use Rattle.qd_sql_ast.specs.Kinds.{IsWrite};
 ghost use Rattle.qd_meaning.specs.Refusals.{judged, least};
+ghost use Rattle.qd_meaning.specs.Altering.{alter_faults, altered};
 ghost use Rattle.qd_meaning.specs.Inserting.{insert_faults};
 ghost use Rattle.qd_meaning.specs.Write.{inserted, write};
 ghost use Rattle.qd_writes.specs.Answers.{Answers};
 ghost use Rattle.qd_writes.specs.Filling.{rows_put};
 
+use crate::alter::{alter_fault, changed};
 use crate::create::{create_fault, created};
 use crate::insert::{insert_fault, table_of};
 use crate::rows::{Filled, fill};
 use qd_base::{Code, Entry, Memory, Op, OpList, RowList, Schema, Schemas};
 use qd_meaning::{Refusal, names_are_judged};
-use qd_sql_ast::{Create, Insert, Stmt};
+use qd_sql_ast::{Alter, Create, Insert, Stmt};
 use std::alloc::Global;
 use thiserror::Error;
 
@@ -50,7 +52,7 @@ impl From<Memory> for StmtFault {
 }
 
 /// Gives the transaction of a statement that writes over the schemas of the tables that are there, or why it is refused:
-/// CREATE TABLE makes a table, INSERT puts rows into one.
+/// CREATE TABLE makes a table, INSERT puts rows into one, ALTER TABLE adds a column to one or sets its deduplication keys.
 ///
 /// It costs n log n in the length of the statement, time logarithmic in the number of tables, and for INSERT time and memory
 /// linear in its rows, which have a cell for each column of the table; also where it is refused.
@@ -64,6 +66,7 @@ pub fn check_write(alloc: Global, schemas: &Schemas, stmt: &Stmt) -> Result<Entr
     match stmt {
         Stmt::Create(create) => check_create(alloc, schemas, create),
         Stmt::Insert(insert) => check_insert(alloc, table_of(schemas, &insert.table), insert),
+        Stmt::Alter(alter) => check_alter(alloc, table_of(schemas, &alter.table), alter),
         Stmt::Query(_) | Stmt::Show(..) => unreachable!(),
     }
 }
@@ -94,6 +97,38 @@ fn check_insert(alloc: Global, table: Option<&Schema>, insert: &Insert) -> Resul
     match insert_fault(alloc, table, insert, found)? {
         Some(refusal) => Err(refused(refusal)),
         None => Ok(insertion(alloc, table, rows)?),
+    }
+}
+
+/// The transaction of ALTER of a table.
+#[tactic(auto, using(crate::proofs::AlterLawful::nothing_refused))]
+fn check_alter(alloc: Global, table: Option<&Schema>, alter: &Alter) -> Result<Entry, StmtFault>
+    ensures answer { let table = option_copied table.entry in
+        Answers result (judged (least (alter_faults table alter.now)) (record { ops = altered table alter.now })) }
+    ensures lawful { (schemas : List Schema) → option_copied table.entry ≡ schema_of schemas alter.now.table.text →
+        IfOk result (λ entry. AreSchemas schemas → AreLawful schemas entry.ops) }
+{
+    names_are_judged();
+    match alter_fault(alloc, table, alter)? {
+        Some(refusal) => Err(refused(refusal)),
+        None => Ok(alteration(alloc, table, alter)?),
+    }
+}
+
+/// The transaction that changes a table as an ALTER without a refusal says, where the table is there.
+#[tactic(auto, using(crate::proofs::AlterLawful::few))]
+fn alteration(alloc: Global, table: Option<&Schema>, alter: &Alter) -> Result<Entry, Memory>
+    requires { alter_faults (option_copied table) alter.now ≡ [] }
+    ensures made { IfOk result (λ entry. entry ≡ record { ops = altered (option_copied table.entry) alter.now }) }
+{
+    match table {
+        Some(schema) => {
+            let change = changed(alloc, schema, &alter.change)?;
+            entry_of(alloc, change)
+        }
+        None => Ok(Entry {
+            ops: OpList::new(alloc),
+        }),
     }
 }
 

@@ -1,16 +1,16 @@
 //! What CREATE TABLE makes, and where it is refused.
 ghost use Rattle.std.specs.Prelude.{◌≡◌, ◌≤◌, ◌<◌, length, map, List, IfOk, None, Some, Option};
-ghost use Rattle.std.specs.List.{flat_map, list_any};
+ghost use Rattle.std.specs.List.{flat_map};
 ghost use Rattle.std.specs.Option.{option_copied, option_map};
 ghost use Rattle.qd_base.specs.declared.limits.TheConstants.{MAX_COLUMNS};
-ghost use Rattle.qd_base.specs.Schemas.{column_at, same_name};
+ghost use Rattle.qd_base.specs.Schemas.{column_at};
 ghost use Rattle.qd_sql_ast.specs.declared.tree.ColumnDef.{ColumnDef};
-ghost use Rattle.qd_sql_ast.specs.declared.tree.Name.{Name};
 ghost use Rattle.qd_meaning.specs.Refusals.{least};
 ghost use Rattle.qd_meaning.specs.Creating as spec;
 ghost use Rattle.qd_writes.specs.Met.{HasMet, names_of};
 
 use crate::judge::both;
+use crate::keys::keys_fault;
 use crate::met::{NameSet, again};
 use crate::names::{column_name_fault, table_name_fault};
 use qd_base::{
@@ -117,12 +117,12 @@ fn dedup_fault(alloc: Global, create: &Create, columns: &NameSet) -> Result<Opti
 {
     match &create.dedup {
         None => Ok(None),
-        Some(dedup) => keys_fault(alloc, create, columns, dedup),
+        Some(dedup) => dedup_keys_fault(alloc, create, columns, dedup),
     }
 }
 
 /// Gives the refusal of keys.
-fn keys_fault(
+fn dedup_keys_fault(
     alloc: Global,
     create: &Create,
     columns: &NameSet,
@@ -134,10 +134,8 @@ fn keys_fault(
     let keys = dedup.keys.as_slice();
     let names = soonest(keys, column_name_fault);
     let unknown = both(names, unknown_keys(alloc, create, columns, keys)?);
-    let timed = unless(has_name(keys, &create.time), Code::Keys, dedup.at);
-    let time = both(unknown, timed);
-    let twice = again(alloc, &mut NameSet::new(alloc), keys, Code::Keys)?;
-    Ok(both(time, twice))
+    let set = keys_fault(alloc, dedup, create.time.text.bytes())?;
+    Ok(both(unknown, set))
 }
 
 /// Gives the refusal of the first key that is no column.
@@ -156,15 +154,6 @@ fn unknown_keys(
         found = both(found, unless(is_there, Code::UnknownColumn, key.at));
     }
     Ok(found)
-}
-
-/// Says whether a list has a name.
-fn has_name(names: &[Name], name: &Name) -> bool
-    ensures there { result ≡ list_any (λ (k : Name). same_name k.text name.now.text) names.now }
-{
-    names
-        .iter()
-        .any(|other| same_name(other.text.bytes(), name.text.bytes()))
 }
 
 /// Makes the schema of the table that a CREATE without a refusal makes. It costs time and memory linear in its size, but for
@@ -223,7 +212,7 @@ fn places_of(alloc: Global, cols: &ColList, dedup: &Option<Dedup>) -> Result<Key
 }
 
 /// Gives the positions of the columns of names.
-fn named_places(alloc: Global, cols: &ColList, names: &[Name]) -> Result<KeyList, Memory>
+pub(crate) fn named_places(alloc: Global, cols: &ColList, names: &[Name]) -> Result<KeyList, Memory>
     requires { length cols.now ≤ MAX_COLUMNS }
     ensures places { IfOk result (λ made. made ≡ map (spec.place_in cols.now) names.now) }
 {

@@ -70,7 +70,7 @@ fn table_fault(table: Option<&Schema>, insert: &Insert, rows: Option<Refusal>) -
 }
 
 /// Gives the refusal of the first name that is no column.
-fn unknown_names(schema: &Schema, names: &[Name]) -> Option<Refusal>
+pub(crate) fn unknown_names(schema: &Schema, names: &[Name]) -> Option<Refusal>
     ensures least { result ≡ least (flat_map (unknown_column schema.now.cols) names.now) }
 {
     soonest(names, |name| unknown_name(schema, name))

@@ -1,4 +1,4 @@
-use Rattle.std.proofs.Common.{List, fold, ap, subst, sym, ◌∙◌}
+use Rattle.std.proofs.Common.{List, fold, ap, inr, subst, sym, ◌∙◌}
 use Rattle.qd_base.specs.declared.op.Op.{Op}
 use Rattle.qd_base.specs.Lawful.{AreLawful}
 use Rattle.qd_base.specs.Schemas.{schemas_step}
@@ -23,7 +23,7 @@ returns c =
       prepared = (
         t.0,
         t.1,
-        prepared schemas t.0 c.in_ok-bytes.field-0.bytes c.in_ok-schemas.schemas c.requires.lawful (c.in_ok-bytes.ensures.spelled t.0.ops t.2) laws.0.lawful laws.1
+        prepared schemas t.0 c.in_ok-bytes.field-0.bytes c.in_ok-schemas.schemas c.requires.lawful (c.in_ok-bytes.ensures.spelled t.0.ops t.2) laws.0.lawful laws.1 (inr laws.0.keys)
             (c.in_ok-schemas.ensures.left ∙ ap (λ (os : List Op). fold schemas_step schemas os) (c.as_slice.ensures.items ∙ c.in_ok-bytes.ensures.changes t.0.ops t.2) ∙ altered_left schemas t.0.ops),
       );
       refused = tt;

@@ -1,4 +1,4 @@
-use Rattle.std.proofs.Common.{List, fold, ap, ◌∙◌, arith}
+use Rattle.std.proofs.Common.{List, fold, ap, inl, ◌∙◌, arith}
 use Rattle.qd_base.specs.declared.op.Op.{Op}
 use Rattle.qd_base.specs.Schemas.{schemas_step}
 use Rattle.qd_prepare.proofs.CellLemmas.{written_cells, written_few}
@@ -25,6 +25,7 @@ returns c =
         c.in_ok-entry.ensures.answer,
         prepared schemas entry c.in_ok-bytes.bytes c.in_ok-schemas.schemas c.requires.lawful c.in_ok-bytes.ensures.spelled (c.in_ok-entry.ensures.lawful c.requires.lawful)
             (written_cells schemas c.args.stmt.now entry c.requires.lawful c.requires.short c.in_ok-entry.ensures.answer)
+            (inl (written_few schemas c.args.stmt.now entry c.in_ok-entry.ensures.answer))
             (c.in_ok-schemas.ensures.left ∙ ap (λ (os : List Op). fold schemas_step schemas os) c.as_slice.ensures.items),
       );
       refused = tt;

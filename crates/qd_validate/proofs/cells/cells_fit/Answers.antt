@@ -2,7 +2,8 @@ use Rattle.std.proofs.Common.{◌≡◌, length, get_or, sym, ◌∙◌, true≢
 use Rattle.qd_base.specs.declared.cell.Cell.{Cell}
 use Rattle.qd_base.specs.declared.schema.Col.{Col}
 use Rattle.qd_base.specs.Lawful.{Takes}
-use Rattle.qd_validate.proofs.ListLemmas.{AllZip-at, AllZip-length, holds, fails}
+use Rattle.qd_base.proofs.Taken.{holds, fails}
+use Rattle.qd_validate.proofs.ListLemmas.{AllZip-at, AllZip-length}
 use Rattle.qd_validate.proofs.CellLemmas.{taken_whole}
 use Rattle.qd_validate.proofs.cells.cells_fit.Goals as goal
 

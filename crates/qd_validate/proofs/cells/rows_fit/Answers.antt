@@ -1,5 +1,5 @@
 use Rattle.qd_base.specs.Lawful.{IsRowOf}
-use Rattle.qd_validate.proofs.ListLemmas.{All-taken, All-whole, holds}
+use Rattle.qd_base.proofs.Taken.{All-taken, All-whole, holds}
 use Rattle.qd_validate.proofs.cells.rows_fit.Goals as goal
 
 pub loop-row-preserved : goal.loop-row-preserved

@@ -1,7 +1,7 @@
 use Rattle.std.proofs.Common.{◌<◌, length, nat_lt}
 use Rattle.qd_base.specs.declared.limits.TheConstants.{MAX_COLUMNS}
 use Rattle.qd_base.specs.declared.schema.Schema.{Schema}
-use Rattle.qd_validate.proofs.ListLemmas.{holds}
+use Rattle.qd_base.proofs.Taken.{holds}
 use Rattle.qd_validate.proofs.SoughtLemmas.{counted, schema_lacking, schema_tested}
 use Rattle.qd_validate.proofs.lawful.has_column_left.Goals as goal
 

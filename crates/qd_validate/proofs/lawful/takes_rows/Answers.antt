@@ -1,7 +1,7 @@
 use Rattle.std.proofs.Common.{All}
 use Rattle.qd_base.specs.declared.schema.Schema.{Schema}
 use Rattle.qd_base.specs.Lawful.{IsRowOf}
-use Rattle.qd_validate.proofs.ListLemmas.{holds}
+use Rattle.qd_base.proofs.Taken.{holds}
 use Rattle.qd_validate.proofs.SoughtLemmas.{schema_lacking, schema_tested}
 use Rattle.qd_validate.proofs.lawful.takes_rows.Goals as goal
 

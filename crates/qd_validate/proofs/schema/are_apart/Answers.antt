@@ -1,7 +1,7 @@
 use Rattle.qd_base.specs.declared.schema.Col.{Col}
 use Rattle.qd_base.specs.Schemas.{same_name}
 use Rattle.qd_base.proofs.Lists.{IsDistinct-nil}
-use Rattle.qd_validate.proofs.ListLemmas.{IsDistinct-more, fails}
+use Rattle.qd_base.proofs.Taken.{IsDistinct-more, fails}
 use Rattle.qd_validate.proofs.SoughtLemmas.{its_place, first_there, found_there, turned, unturned}
 use Rattle.qd_validate.proofs.schema.are_apart.Goals as goal
 

@@ -1,6 +1,6 @@
 use Rattle.qd_base.specs.declared.schema.Col.{Col}
 use Rattle.qd_base.specs.Names.{IsColumnName}
-use Rattle.qd_validate.proofs.ListLemmas.{All-taken, All-whole, holds}
+use Rattle.qd_base.proofs.Taken.{All-taken, All-whole, holds}
 use Rattle.qd_validate.proofs.schema.are_named.Goals as goal
 
 pub loop-col-preserved : goal.loop-col-preserved

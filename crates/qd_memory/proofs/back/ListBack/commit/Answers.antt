@@ -11,9 +11,9 @@ invariant_of-self-2 c =
       | then-inserts_only+in_ok-push w ↦
           rw w.self-inside-is
           (fits_kept _ _ _ _ _ _ _ _ w.in_ok-push.ensures.ok refl refl refl
-          (fits_more inside.history inside.applied inside.schemas inside.schemas inside.parts c.args.entry c.self.invariant lawful c.requires.cells (sym (rw c.as_slice.ensures.items at w.if-inserts_only.ensures.unchanged inside.schemas))))
+          (fits_more inside.history inside.applied inside.schemas inside.schemas inside.parts c.args.entry c.self.invariant lawful c.requires.cells c.requires.alone (sym (rw c.as_slice.ensures.items at w.if-inserts_only.ensures.unchanged inside.schemas))))
       | else-inserts_only+in_ok-schemas+in_ok-push-2 w ↦
           rw w.self-inside-is
           (fits_kept _ _ _ _ _ _ _ _ w.in_ok-push-2.ensures.ok refl refl refl
-          (fits_more inside.history inside.applied inside.schemas w.in_ok-schemas.schemas inside.parts c.args.entry c.self.invariant lawful c.requires.cells (rw w.as_slice-else-inserts_only.ensures.items at w.in_ok-schemas.ensures.after)))
+          (fits_more inside.history inside.applied inside.schemas w.in_ok-schemas.schemas inside.parts c.args.entry c.self.invariant lawful c.requires.cells c.requires.alone (rw w.as_slice-else-inserts_only.ensures.items at w.in_ok-schemas.ensures.after)))
     ]

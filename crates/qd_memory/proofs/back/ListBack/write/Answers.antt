@@ -1,4 +1,4 @@
-use Rattle.std.proofs.Common.{List, ap, subst, sym, ◌∙◌}
+use Rattle.std.proofs.Common.{List, ap, inr, subst, sym, ◌∙◌}
 use Rattle.qd_base.proofs.Lawful.{sound_schemas}
 use Rattle.qd_base.specs.declared.schema.Schema.{Schema}
 use Rattle.qd_base.specs.Database.{schemas_of}
@@ -22,3 +22,9 @@ commit-requires-clause-cells c =
     let read = c.requires.read in
     let sound = subst AreSchemas (sym c.self.invariant.schemas_are) (sound_schemas c.self.inside.history c.self.invariant.lawful) in
     (c.batches_are_lawful.ensures.law.text c.args.now c.self.inside.schemas 1 read.0 c.args.batch.now c.in-Ok.said sound read.1 read.2 c.in-Ok.ensures.entry).1
+
+pub commit-requires-clause-alone : goal.commit-requires-clause-alone
+commit-requires-clause-alone c =
+    let read = c.requires.read in
+    let sound = subst AreSchemas (sym c.self.invariant.schemas_are) (sound_schemas c.self.inside.history c.self.invariant.lawful) in
+    inr (c.batches_are_lawful.ensures.law.text c.args.now c.self.inside.schemas 1 read.0 c.args.batch.now c.in-Ok.said sound read.1 read.2 c.in-Ok.ensures.entry).0.keys

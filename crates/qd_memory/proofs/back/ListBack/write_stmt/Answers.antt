@@ -1,4 +1,4 @@
-use Rattle.std.proofs.Common.{◌≡◌, ◌∙◌, List, Err, ap, refl, subst, sym}
+use Rattle.std.proofs.Common.{◌≡◌, ◌∙◌, List, Err, ap, inl, refl, subst, sym}
 use Rattle.qd_base.proofs.Lawful.{sound_schemas}
 use Rattle.qd_base.specs.declared.request.Reply.{Reply}
 use Rattle.qd_base.specs.declared.schema.Schema.{Schema}
@@ -10,7 +10,7 @@ use Rattle.qd_meaning.specs.Write.{write}
 use Rattle.qd_writes.specs.declared.check.StmtFault.{StmtFault}
 use Rattle.qd_writes.specs.Answers.{Answers}
 use Rattle.qd_memory.specs.Listed.{Listed, WritesStmt}
-use Rattle.qd_memory.proofs.CellLemmas.{written_cells}
+use Rattle.qd_memory.proofs.CellLemmas.{written_cells, written_few}
 use Rattle.qd_memory.proofs.back.ListBack.write_stmt.Goals as goal
 
 pub commit-requires-clause-lawful : goal.commit-requires-clause-lawful
@@ -22,6 +22,9 @@ pub commit-requires-clause-cells : goal.commit-requires-clause-cells
 commit-requires-clause-cells c =
     let sound = subst AreSchemas (sym c.self.invariant.schemas_are) (sound_schemas c.self.inside.history c.self.invariant.lawful) in
     written_cells c.self.inside.schemas c.args.stmt.now c.in-Ok.entry sound c.requires.short c.in-Ok.ensures.answer
+
+pub commit-requires-clause-alone : goal.commit-requires-clause-alone
+commit-requires-clause-alone c = inl (written_few c.self.inside.schemas c.args.stmt.now c.in-Ok.entry c.in-Ok.ensures.answer)
 
 pub returns-in-Err-Refused-clause-ok : goal.returns-in-Err-Refused-clause-ok
 returns-in-Err-Refused-clause-ok c =

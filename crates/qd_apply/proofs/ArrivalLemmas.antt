@@ -1,5 +1,5 @@
 -- What arrives is what replay puts.
-use Rattle.std.proofs.Common.{◌≡◌, ℕ, zero, suc, ◌<◌, ◌≤◌, Bool, true, false, if◌then◌else◌, List, [], ◌∷◌, ◌++◌, Option, Some, IfSome, length, map, refl, sym, ap, ap₂, ◌∙◌, arith, All, subst, ⊎_elim, true≢false}
+use Rattle.std.proofs.Common.{◌≡◌, ℕ, zero, suc, ◌<◌, ◌≤◌, Bool, true, false, if◌then◌else◌, List, [], ◌∷◌, ◌++◌, Option, Some, None, IfSome, IsSomeAnd, length, drop, map, refl, sym, ap, ap₂, ◌∙◌, arith, All, subst, inl, inr, ⊎_elim, ◌⊎◌, true≢false}
 use Rattle.std.specs.List.{AllByRecursion, fold}
 use Rattle.std.proofs.lemmas.List.{map-append, length_push}
 use Rattle.std.proofs.lemmas.List.Elements.{recursion_from_All}
@@ -10,11 +10,11 @@ use Rattle.qd_base.specs.declared.schema.Schema.{Schema}
 use Rattle.qd_base.specs.declared.op.Entry.{Entry}
 use Rattle.qd_base.specs.declared.op.Op.{Op}
 use Rattle.qd_base.specs.declared.op.Op.TheVariants as op
-use Rattle.qd_base.specs.Database.{Database, StoredTable, filled, missing, schemas_of, step, widened}
-use Rattle.qd_base.specs.Lawful.{AreLawful, HasKinds, IsRowOf, IsSchema, IsSound, LawfulFrom}
+use Rattle.qd_base.specs.Database.{Database, StoredTable, filled, missing, rekeyed, schemas_of, step, widened}
+use Rattle.qd_base.specs.Lawful.{AreLawful, HasKinds, IsRowOf, IsSchema, IsSound, LawfulFrom, SetsKeysAlone}
 use Rattle.qd_base.specs.Replay.{replay}
 use Rattle.qd_base.specs.Rows.{Row, cell_at, put}
-use Rattle.qd_base.specs.Schemas.{at_name, same_name, schema_of, schemas_from, schemas_step, with_column}
+use Rattle.qd_base.specs.Schemas.{at_name, same_name, schema_of, schemas_from, schemas_step, sets_keys, with_column, with_keys, AreKeys, Fits, HasNoSetKeys, SetsNoKeys}
 use Rattle.qd_base.proofs.Lawful.{HasKinds-length, missing-taken}
 use Rattle.qd_base.proofs.Tables.{map-at_name, map-kept}
 use Rattle.qd_apply.specs.Arrivals.{all_settled, arrivals, arrivals_from, arrived, arrives, first_rows, rest, settled, wide, without_rows}
@@ -41,6 +41,7 @@ keys_below s schema = ⊎_elim (λ none. subst (AllByRecursion (λ k. k < length
 pub schemas_arrive : (ts : List StoredTable) (o : Op) → schemas_of (arrives ts o) ≡ schemas_step (schemas_of ts) o
 schemas_arrive ts (op.Create schema) = map-append (λ (t : StoredTable). t.schema) ts (record { schema = schema; rows = [] } ∷ [])
 schemas_arrive ts (op.AddColumn table col) = map-at_name (λ (t : StoredTable). t.schema.name) (λ (s : Schema). s.name) (widened col) (with_column col) (λ (t : StoredTable). t.schema) table (λ t. refl) (λ t. refl) ts
+schemas_arrive ts (op.SetKeys table keys) = map-at_name (λ (t : StoredTable). t.schema.name) (λ (s : Schema). s.name) (rekeyed keys) (with_keys keys) (λ (t : StoredTable). t.schema) table (λ t. refl) (λ t. refl) ts
 schemas_arrive ts (op.Insert table rows) = map-kept (λ (t : StoredTable). t.schema.name) (arrived rows) (λ (t : StoredTable). t.schema) table (λ t. refl) ts
 
 -- ---- one change
@@ -113,10 +114,36 @@ over_arrived db (t ∷ ts) name rows over fit =
     by_name true e f = (over_filled (first_rows db) rows t over.0 (fit_here t rows (schema_of (schemas_of ts) name) (same_name t.schema.name name) e fit), over.1)
     by_name false e f = (over.0, f (fit_later t rows (schema_of (schemas_of ts) name) (same_name t.schema.name name) e fit))
 
-pub over_arrives : (db : Database) (ts : List StoredTable) (o : Op) → AreOver db ts → IsSound (schemas_of ts) o → AreOver db (arrives ts o)
-over_arrives db ts (op.Create schema) over sound = over_more db ts (record { schema = schema; rows = [] }) over (record { keys = keys_below schema sound.1; old = tt; fit = tt })
-over_arrives db ts (op.AddColumn table col) over sound = over_wider db ts table col over
-over_arrives db ts (op.Insert table rows) over sound = over_arrived db ts table rows over sound
+-- keys that the table of a name may have
+abbrev KeysNamed : List StoredTable → List ℕ → List ℕ → Type 0
+KeysNamed ts name keys = IfSome (schema_of (schemas_of ts) name) (λ s. AreKeys s.cols s.time_col keys)
+
+keys_named : (o : Option Schema) (keys : List ℕ) → IsSomeAnd o (λ s. AreKeys s.cols s.time_col keys) → IfSome o (λ s. AreKeys s.cols s.time_col keys)
+keys_named None keys h = absurd h
+keys_named (Some s) keys h = h
+
+over_keys : (rows : List Row) (t : StoredTable) (keys : List ℕ) → IsOver rows t → AreKeys t.schema.cols t.schema.time_col keys → IsOver rows (rekeyed keys t)
+over_keys rows t keys over are = record {
+  keys = ⊎_elim (λ none. subst (AllByRecursion (λ k. k < length t.schema.cols)) (sym none) tt) (λ some. recursion_from_All (λ k. k < length t.schema.cols) keys some.0) are;
+  old = over.old;
+  fit = each_then (IsRowOf t.schema) (IsRowOf (with_keys keys t.schema)) (λ r h. record { kinds = h.kinds; timed = h.timed }) t.rows over.fit;
+}
+
+over_rekeyed : (db : Database) (ts : List StoredTable) (name keys : List ℕ) → AreOver db ts → KeysNamed ts name keys → AreOver db (at_name (λ (t : StoredTable). t.schema.name) (rekeyed keys) name ts)
+over_rekeyed db [] name keys over fit = over
+over_rekeyed db (t ∷ ts) name keys over fit = by_name (same_name t.schema.name name) fit (over_rekeyed (rest db) ts name keys over.1)
+  where
+    by_name : (b : Bool) → IfSome (if b then Some t.schema else schema_of (schemas_of ts) name) (λ s. AreKeys s.cols s.time_col keys)
+        → (KeysNamed ts name keys → AreOver (rest db) (at_name (λ (t : StoredTable). t.schema.name) (rekeyed keys) name ts))
+        → AreOver db (if b then rekeyed keys t ∷ ts else t ∷ at_name (λ (t : StoredTable). t.schema.name) (rekeyed keys) name ts)
+    by_name true h f = (over_keys (first_rows db) t keys over.0 h, over.1)
+    by_name false h f = (over.0, f h)
+
+pub over_arrives : (db : Database) (ts : List StoredTable) (o : Op) → AreOver db ts → Fits (schemas_of ts) o → IsSound (schemas_of ts) o → AreOver db (arrives ts o)
+over_arrives db ts (op.SetKeys table keys) over fits sound = over_rekeyed db ts table keys over (keys_named (schema_of (schemas_of ts) table) keys fits)
+over_arrives db ts (op.Create schema) over fits sound = over_more db ts (record { schema = schema; rows = [] }) over (record { keys = keys_below schema sound.1; old = tt; fit = tt })
+over_arrives db ts (op.AddColumn table col) over fits sound = over_wider db ts table col over
+over_arrives db ts (op.Insert table rows) over fits sound = over_arrived db ts table rows over sound
 
 -- ---- what is settled follows
 
@@ -142,10 +169,34 @@ settled_filled new rows t =
     ap (λ (l : List Row). let x : StoredTable = record { schema = t.schema; rows = l } in x)
     (fold-append (put t.schema.time_col t.schema.keys) (map (wide t.schema.cols) rows) t.rows new)
 
-pub settled_arrives : (db : Database) (ts : List StoredTable) (o : Op) → AreOver db ts → all_settled db (arrives ts o) ≡ step (all_settled db ts) o
-settled_arrives db ts (op.Create schema) over = settled_more db ts schema over
-settled_arrives db ts (op.AddColumn table col) over = settled_name db ts table (widened col) (widened col) (λ t. refl) (λ rows t is. settled_wider rows t col is.keys is.old (lengths t.schema t.rows is.fit)) over
-settled_arrives db ts (op.Insert table rows) over = settled_name db ts table (arrived rows) (filled rows) (λ t. refl) (λ old t is. settled_filled rows old t) over
+-- Keys that are set where no row waits: the rows so far stay as they are.
+settled_rekeyed : (rows : List Row) (keys : List ℕ) (t : StoredTable) → t.rows ≡ [] → settled rows (rekeyed keys t) ≡ rekeyed keys (settled rows t)
+settled_rekeyed rows keys t none =
+    let wider : List Row = map (wide t.schema.cols) rows in
+    ap (λ (l : List Row). let x : StoredTable = record { schema = with_keys keys t.schema; rows = l } in x)
+    (ap (fold (put t.schema.time_col keys) wider) none ∙ sym (ap (fold (put t.schema.time_col t.schema.keys) wider) none))
+
+-- tables in which no row waits
+abbrev AreIdle : List StoredTable → Type 0
+AreIdle ts = AllByRecursion (λ (t : StoredTable). t.rows ≡ []) ts
+
+settled_keys : (db : Database) (ts : List StoredTable) (name keys : List ℕ) → AreIdle ts
+    → all_settled db (at_name (λ (t : StoredTable). t.schema.name) (rekeyed keys) name ts) ≡ at_name (λ (t : StoredTable). t.schema.name) (rekeyed keys) name (all_settled db ts)
+settled_keys db [] name keys idle = refl
+settled_keys db (t ∷ ts) name keys idle = by_name (same_name t.schema.name name) (settled_keys (rest db) ts name keys idle.1)
+  where
+    by_name : (b : Bool) → all_settled (rest db) (at_name (λ (t : StoredTable). t.schema.name) (rekeyed keys) name ts) ≡ at_name (λ (t : StoredTable). t.schema.name) (rekeyed keys) name (all_settled (rest db) ts)
+        → all_settled db (if b then rekeyed keys t ∷ ts else t ∷ at_name (λ (t : StoredTable). t.schema.name) (rekeyed keys) name ts)
+        ≡ (if b then rekeyed keys (settled (first_rows db) t) ∷ all_settled (rest db) ts else settled (first_rows db) t ∷ at_name (λ (t : StoredTable). t.schema.name) (rekeyed keys) name (all_settled (rest db) ts))
+    by_name true e = ap (λ (x : StoredTable). x ∷ all_settled (rest db) ts) (settled_rekeyed (first_rows db) keys t idle.0)
+    by_name false e = ap (λ (l : Database). settled (first_rows db) t ∷ l) e
+
+settled_arrives : (db : Database) (ts : List StoredTable) (o : Op) → AreOver db ts → (sets_keys o ≡ false) ⊎ AreIdle ts → all_settled db (arrives ts o) ≡ step (all_settled db ts) o
+settled_arrives db ts (op.SetKeys table keys) over (inl same) = absurd (true≢false same)
+settled_arrives db ts (op.SetKeys table keys) over (inr idle) = settled_keys db ts table keys idle
+settled_arrives db ts (op.Create schema) over none = settled_more db ts schema over
+settled_arrives db ts (op.AddColumn table col) over none = settled_name db ts table (widened col) (widened col) (λ t. refl) (λ rows t is. settled_wider rows t col is.keys is.old (lengths t.schema t.rows is.fit)) over
+settled_arrives db ts (op.Insert table rows) over none = settled_name db ts table (arrived rows) (filled rows) (λ t. refl) (λ old t is. settled_filled rows old t) over
 
 -- ---- transactions
 
@@ -154,12 +205,19 @@ pub record HaveArrived (db : Database) (ts now : List StoredTable) (next : Datab
   pub over : AreOver db now
   pub settled : all_settled db now ≡ next
 
-pub ops_arrive : (db : Database) (ts : List StoredTable) (ops : List Op) → AreOver db ts → AreLawful (schemas_of ts) ops → HaveArrived db ts (fold arrives ts ops) (fold step (all_settled db ts) ops)
-ops_arrive db ts [] over lawful = record { over = over; settled = refl }
-ops_arrive db ts (o ∷ os) over lawful =
+ops_arrive : (db : Database) (ts : List StoredTable) (ops : List Op) → AreOver db ts → AreLawful (schemas_of ts) ops → SetsNoKeys ops → HaveArrived db ts (fold arrives ts ops) (fold step (all_settled db ts) ops)
+ops_arrive db ts [] over lawful none = record { over = over; settled = refl }
+ops_arrive db ts (o ∷ os) over lawful none =
     let rest_lawful : AreLawful (schemas_of (arrives ts o)) os = subst (λ (l : List Schema). AreLawful l os) (sym (schemas_arrive ts o)) lawful.2 in
-    let next = ops_arrive db (arrives ts o) os (over_arrives db ts o over lawful.1) rest_lawful in
-    record { over = next.over; settled = next.settled ∙ ap (λ (d : Database). fold step d os) (settled_arrives db ts o over) }
+    let next = ops_arrive db (arrives ts o) os (over_arrives db ts o over lawful.0 lawful.1) rest_lawful none.1 in
+    record { over = next.over; settled = next.settled ∙ ap (λ (d : Database). fold step d os) (settled_arrives db ts o over (inl none.0)) }
+
+-- Those of a first transaction may set keys: no row waits yet, and they do nothing else.
+first_ops_arrive : (db : Database) (ts : List StoredTable) (ops : List Op) → AreOver db ts → AreIdle ts → AreLawful (schemas_of ts) ops → SetsKeysAlone ops → HaveArrived db ts (fold arrives ts ops) (fold step (all_settled db ts) ops)
+first_ops_arrive db ts ops over idle lawful (inr none) = ops_arrive db ts ops over lawful none
+first_ops_arrive db ts [] over idle lawful (inl one) = record { over = over; settled = refl }
+first_ops_arrive db ts (o ∷ []) over idle lawful (inl one) = record { over = over_arrives db ts o over lawful.0 lawful.1; settled = settled_arrives db ts o over (inr idle) }
+first_ops_arrive db ts (o ∷ p ∷ os) over idle lawful (inl one) = absurd (omega (arith, one))
 
 pub schemas_ops : (ts : List StoredTable) (ops : List Op) → schemas_of (fold arrives ts ops) ≡ fold schemas_step (schemas_of ts) ops
 schemas_ops ts [] = refl
@@ -169,12 +227,22 @@ pub schemas_entries : (ts : List StoredTable) (entries : List Entry) → schemas
 schemas_entries ts [] = refl
 schemas_entries ts (e ∷ es) = schemas_entries (fold arrives ts e.ops) es ∙ ap (λ (l : List Schema). schemas_from l es) (schemas_ops ts e.ops)
 
-pub entries_arrive : (db : Database) (ts : List StoredTable) (entries : List Entry) → AreOver db ts → LawfulFrom (schemas_of ts) entries → HaveArrived db ts (arrivals_from ts entries) (replay (all_settled db ts) entries)
-entries_arrive db ts [] over lawful = record { over = over; settled = refl }
-entries_arrive db ts (e ∷ es) over lawful =
-    let one = ops_arrive db ts e.ops over lawful.0 in
-    let rest_lawful : LawfulFrom (schemas_of (fold arrives ts e.ops)) es = subst (λ (l : List Schema). LawfulFrom l es) (sym (schemas_ops ts e.ops)) lawful.2 in
-    let next = entries_arrive db (fold arrives ts e.ops) es one.over rest_lawful in
+rest_lawful : (ts : List StoredTable) (e : Entry) (es : List Entry) → LawfulFrom (schemas_of ts) (e ∷ es) → LawfulFrom (schemas_of (fold arrives ts e.ops)) es
+rest_lawful ts e es lawful = subst (λ (l : List Schema). LawfulFrom l es) (sym (schemas_ops ts e.ops)) lawful.3
+
+entries_arrive : (db : Database) (ts : List StoredTable) (entries : List Entry) → AreOver db ts → LawfulFrom (schemas_of ts) entries → HasNoSetKeys entries → HaveArrived db ts (arrivals_from ts entries) (replay (all_settled db ts) entries)
+entries_arrive db ts [] over lawful none = record { over = over; settled = refl }
+entries_arrive db ts (e ∷ es) over lawful none =
+    let one = ops_arrive db ts e.ops over lawful.0 none.0 in
+    let next = entries_arrive db (fold arrives ts e.ops) es one.over (rest_lawful ts e es lawful) none.1 in
+    record { over = next.over; settled = next.settled ∙ ap (λ (d : Database). replay d es) one.settled }
+
+first_entries_arrive : (db : Database) (ts : List StoredTable) (entries : List Entry) → AreOver db ts → AreIdle ts → LawfulFrom (schemas_of ts) entries → HasNoSetKeys (drop 1 entries)
+    → HaveArrived db ts (arrivals_from ts entries) (replay (all_settled db ts) entries)
+first_entries_arrive db ts [] over idle lawful none = record { over = over; settled = refl }
+first_entries_arrive db ts (e ∷ es) over idle lawful none =
+    let one = first_ops_arrive db ts e.ops over idle lawful.0 lawful.2 in
+    let next = entries_arrive db (fold arrives ts e.ops) es one.over (rest_lawful ts e es lawful) none in
     record { over = next.over; settled = next.settled ∙ ap (λ (d : Database). replay d es) one.settled }
 
 -- ---- from a database on
@@ -201,12 +269,16 @@ pub schemas_without : (schemas : List Schema) → schemas_of (without_rows schem
 schemas_without [] = refl
 schemas_without (s ∷ ss) = ap (λ (l : List Schema). s ∷ l) (schemas_without ss)
 
-pub all_arrive : (db : Database) (entries : List Entry) → IsDatabase db → LawfulFrom (schemas_of db) entries → HaveArrived db (without_rows (schemas_of db)) (arrivals (schemas_of db) entries) (replay db entries)
-all_arrive db entries is lawful =
+without_idle : (schemas : List Schema) → AreIdle (without_rows schemas)
+without_idle [] = tt
+without_idle (s ∷ ss) = (refl, without_idle ss)
+
+pub all_arrive : (db : Database) (entries : List Entry) → IsDatabase db → LawfulFrom (schemas_of db) entries → HasNoSetKeys (drop 1 entries) → HaveArrived db (without_rows (schemas_of db)) (arrivals (schemas_of db) entries) (replay db entries)
+all_arrive db entries is lawful none =
     let ts = without_rows (schemas_of db) in
     let over = nothing_over db (recursion_from_All IsSchema (schemas_of db) is.schemas.each) is.rows in
-    let done = entries_arrive db ts entries over (subst (λ (l : List Schema). LawfulFrom l entries) (sym (schemas_without (schemas_of db))) lawful) in
+    let done = first_entries_arrive db ts entries over (without_idle (schemas_of db)) (subst (λ (l : List Schema). LawfulFrom l entries) (sym (schemas_without (schemas_of db))) lawful) none in
     record { over = done.over; settled = done.settled ∙ ap (λ (d : Database). replay d entries) (nothing_settled db is.rows) }
 
-pub replayed : (db : Database) (entries : List Entry) → IsDatabase db → LawfulFrom (schemas_of db) entries → replay db entries ≡ all_settled db (arrivals (schemas_of db) entries)
-replayed db entries is lawful = sym (all_arrive db entries is lawful).settled
+pub replayed : (db : Database) (entries : List Entry) → IsDatabase db → LawfulFrom (schemas_of db) entries → HasNoSetKeys (drop 1 entries) → replay db entries ≡ all_settled db (arrivals (schemas_of db) entries)
+replayed db entries is lawful none = sym (all_arrive db entries is lawful none).settled

@@ -13,8 +13,8 @@ use Rattle.qd_base.specs.declared.schema.Schema.{Schema}
 use Rattle.qd_base.specs.Database.{schemas_of, StoredTable}
 use Rattle.qd_base.specs.Lawful.{AreLawful, AreSchemas, IsRowOf, IsSchema, IsSound}
 use Rattle.qd_base.specs.Rows.{Row}
-use Rattle.qd_base.specs.Schemas.{at_name, column_at, same_name, schema_of, schemas_step, table_at, with_column, Fits}
-use Rattle.qd_base.proofs.Lawful.{AreSchemas-step, IsSchema-wider}
+use Rattle.qd_base.specs.Schemas.{at_name, column_at, same_name, schema_of, schemas_step, table_at, with_column, with_keys, AreKeys, Fits}
+use Rattle.qd_base.proofs.Lawful.{AreSchemas-step, IsSchema-rekeyed, IsSchema-wider}
 use Rattle.qd_base.proofs.Tables.{at_name-position, find-position, not_found}
 use Rattle.qd_base.proofs.Texts.{position-map}
 use Rattle.qd_apply.specs.Arrivals.{arrives, without_rows}
@@ -56,6 +56,12 @@ pub may_fill : (schemas : List Schema) (ts : List StoredTable) (name : List ℕ)
 may_fill schemas ts name rows i t are sound at there =
     subst (λ (o : Option Schema). IfSome o (λ (s : Schema). All (IsRowOf s) rows)) (schema_there schemas ts name i t are at there) sound
 
+-- keys that fit
+pub may_rekey : (schemas : List Schema) (ts : List StoredTable) (name keys : List ℕ) (i : ℕ) (t : StoredTable) → AreTables schemas ts → Fits schemas (op.SetKeys name keys) → Some i ≡ table_at schemas name → t ≡ get_or ts i t → IsSchema (with_keys keys t.schema)
+may_rekey schemas ts name keys i t are fits at there =
+    IsSchema-rekeyed keys t.schema (waits_there schemas ts name i t are at there).schema
+    (subst (λ (o : Option Schema). IsSomeAnd o (λ (s : Schema). AreKeys s.cols s.time_col keys)) (schema_there schemas ts name i t are at there) fits)
+
 -- a change of it is the change of the table of the name
 pub one_changed : (schemas : List Schema) (ts : List StoredTable) (name : List ℕ) (i : ℕ) (old new : StoredTable) (change : StoredTable → StoredTable) → AreTables schemas ts → Some i ≡ table_at schemas name → old ≡ get_or ts i old → new ≡ change old
     → set ts i new ≡ at_name (λ (t : StoredTable). t.schema.name) change name ts
@@ -70,6 +76,9 @@ none_widens schemas name col none fits = not_found (λ (s : Schema). same_name s
 
 pub none_fills : (schemas : List Schema) (name : List ℕ) (rows : List Row) → None ≡ table_at schemas name → Fits schemas (op.Insert name rows) → ⊥
 none_fills schemas name rows none fits = true≢false (sym fits ∙ ap is_some (sym none))
+
+pub none_rekeys : (schemas : List Schema) (name keys : List ℕ) → None ≡ table_at schemas name → Fits schemas (op.SetKeys name keys) → ⊥
+none_rekeys schemas name keys none fits = not_found (λ (s : Schema). same_name s.name name) (λ (s : Schema). AreKeys s.cols s.time_col keys) schemas (sym none) fits
 
 pub waits_set : (ts : List StoredTable) (i : ℕ) (t : StoredTable) → AllByRecursion Waits ts → Waits t → AllByRecursion Waits (set ts i t)
 waits_set [] i t h is = tt

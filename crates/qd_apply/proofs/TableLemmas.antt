@@ -13,7 +13,7 @@ use Rattle.qd_base.specs.Database.{missing, StoredTable}
 use Rattle.qd_base.specs.Lawful.{HasKinds, IsRowOf, IsSchema}
 use Rattle.qd_base.specs.Laws.{IsInOrder}
 use Rattle.qd_base.specs.Rows.{Row, put, time_of}
-use Rattle.qd_base.specs.Schemas.{with_column}
+use Rattle.qd_base.specs.Schemas.{with_column, with_keys}
 use Rattle.qd_base.proofs.Order.{in_order-append}
 use Rattle.qd_block.specs.Blocks.{Block, in_time_order, kinds_in, IsWhole}
 use Rattle.qd_manifest.specs.Spelling.{no_part, rows_shown, AreParts, IsPart}
@@ -33,23 +33,28 @@ use Rattle.qd_apply.proofs.RangeLemmas.{none_before, since}
 use Rattle.qd_apply.proofs.ShareLemmas.{acts_walked, ascending_order, walked_acts, AreAscending}
 use Rattle.qd_apply.proofs.WideLemmas.{absent_all}
 
--- ---- a schema that has got columns
+-- ---- a schema that has got columns, and maybe other keys
 
 pub record Grows (old new : Schema) : Type 0 where
   pub more : List Col
-  pub is : new ≡ record old { cols = old.cols ++ more }
+  pub keys : List ℕ
+  pub is : new ≡ record old { cols = old.cols ++ more; keys = keys }
 
 pub grows_none : (s : Schema) → Grows s s
-grows_none s = record { more = []; is = ap (λ (cs : List Col). let x : Schema = record s { cols = cs } in x) (sym (append-nil s.cols)) }
+grows_none s = record { more = []; keys = s.keys; is = ap (λ (cs : List Col). let x : Schema = record s { cols = cs } in x) (sym (append-nil s.cols)) }
 
 pub grows_one : (old new : Schema) (c : Col) → Grows old new → Grows old (with_column c new)
 grows_one old new c g = record {
   more = g.more ++ c ∷ [];
-  is = ap (with_column c) g.is ∙ ap (λ (cs : List Col). let x : Schema = record old { cols = cs } in x) (append_assoc old.cols g.more (c ∷ []));
+  keys = g.keys;
+  is = ap (with_column c) g.is ∙ ap (λ (cs : List Col). let x : Schema = record old { cols = cs; keys = g.keys } in x) (append_assoc old.cols g.more (c ∷ []));
 }
 
-piece_wider : (s : Schema) (more : List Col) (x : Piece) → IsPiece s x → IsPiece (record s { cols = s.cols ++ more }) x
-piece_wider s more x is =
+pub grows_keys : (old new : Schema) (keys : List ℕ) → Grows old new → Grows old (with_keys keys new)
+grows_keys old new keys g = record { more = g.more; keys = keys; is = ap (with_keys keys) g.is }
+
+piece_wider : (s : Schema) (more : List Col) (keys : List ℕ) (x : Piece) → IsPiece s x → IsPiece (record s { cols = s.cols ++ more; keys = keys }) x
+piece_wider s more keys x is =
     let n = x.part.cols in
     let few : n ≤ length s.cols = is.columns in
     record {
@@ -72,7 +77,7 @@ piece_wider s more x is =
     }
 
 pub pieces_grow : (old new : Schema) (xs : List Piece) → Grows old new → AllByRecursion (IsPiece old) xs → AllByRecursion (IsPiece new) xs
-pieces_grow old new xs g each = subst (λ (s : Schema). AllByRecursion (IsPiece s) xs) (sym g.is) (each_then (IsPiece old) (IsPiece (record old { cols = old.cols ++ g.more })) (piece_wider old g.more) xs each)
+pieces_grow old new xs g each = subst (λ (s : Schema). AllByRecursion (IsPiece s) xs) (sym g.is) (each_then (IsPiece old) (IsPiece (record old { cols = old.cols ++ g.more; keys = g.keys })) (piece_wider old g.more g.keys) xs each)
 
 -- its rows so far are wider
 wide_row : (cols more : List Col) (n : ℕ) (r : Row) → length r ≡ n → n ≤ length cols → wide (cols ++ more) (r ++ absent (drop n cols)) ≡ r ++ absent (drop n (cols ++ more))

@@ -1,5 +1,5 @@
 -- The next version stands for the database that replay gives, and has a manifest.
-use Rattle.std.proofs.Common.{◌≡◌, ℕ, zero, suc, ◌+◌, ◌*◌, ◌-◌, ◌^◌, ◌<◌, ◌≤◌, Bool, true, false, cond, if◌then◌else◌, nat_eq, List, [], ◌∷◌, ◌++◌, Option, Some, None, IfSome, length, map, get_or, refl, sym, ap, ap₂, ◌∙◌, arith, All, Contains, subst, append-nil, length-append, true≢false}
+use Rattle.std.proofs.Common.{◌≡◌, ℕ, zero, suc, ◌+◌, ◌*◌, ◌-◌, ◌^◌, ◌<◌, ◌≤◌, Bool, true, false, cond, if◌then◌else◌, nat_eq, List, [], ◌∷◌, ◌++◌, Option, Some, None, IfSome, length, drop, map, get_or, refl, sym, ap, ap₂, ◌∙◌, arith, All, Contains, subst, append-nil, length-append, true≢false}
 use Rattle.std.specs.Prelude.{sum_by}
 use Rattle.std.specs.List.{AllByRecursion, IsDistinct, flat_map, fold}
 use Rattle.std.proofs.lemmas.List.{length-map}
@@ -13,11 +13,11 @@ use Rattle.qd_base.specs.declared.part.Part.{Part}
 use Rattle.qd_base.specs.declared.schema.Col.{Col}
 use Rattle.qd_base.specs.declared.schema.ColType.TheVariants as kind
 use Rattle.qd_base.specs.declared.schema.Schema.{Schema}
-use Rattle.qd_base.specs.Database.{Database, missing, schemas_of, widened, StoredTable}
+use Rattle.qd_base.specs.Database.{Database, missing, rekeyed, schemas_of, widened, StoredTable}
 use Rattle.qd_base.specs.Lawful.{cells_in, AreLawful, AreSchemas, IsRowOf, IsSchema, IsSound, LawfulFrom}
 use Rattle.qd_base.specs.Replay.{replay}
 use Rattle.qd_base.specs.Rows.{same_on, Row}
-use Rattle.qd_base.specs.Schemas.{at_name, same_name, schema_of, schemas_from, schemas_step}
+use Rattle.qd_base.specs.Schemas.{at_name, same_name, schema_of, schemas_from, schemas_step, HasNoSetKeys}
 use Rattle.qd_base.proofs.Lawful.{AreSchemas-ops, HasKinds-length}
 use Rattle.qd_block.specs.Blocks.{Block, in_time_order, IsWhole}
 use Rattle.qd_manifest.specs.declared.shape.TableParts.{TableParts}
@@ -42,7 +42,7 @@ use Rattle.qd_apply.proofs.PieceLemmas.{piece_each, rows_of, IsPiece}
 use Rattle.qd_apply.proofs.PutCountLemmas.{fold_few}
 use Rattle.qd_apply.proofs.ShapeLemmas.{first_pieces, first_up, pieces_numbers, pieces_shown, shape_distinct, shape_numbers, shape_stands, shown, AreGrown, FirstGrows, IsOld, StandAll}
 use Rattle.qd_apply.proofs.ShareLemmas.{walked_acts, AreAscending}
-use Rattle.qd_apply.proofs.TableLemmas.{acts_are, ascend, batch_is, grows_none, grows_one, olds_of, parts_of_pieces, rows_of_pieces, shown_joined, Grows}
+use Rattle.qd_apply.proofs.TableLemmas.{acts_are, ascend, batch_is, grows_keys, grows_none, grows_one, olds_of, parts_of_pieces, rows_of_pieces, shown_joined, Grows}
 
 -- ---- the tables that arrive have grown
 
@@ -67,6 +67,7 @@ grown_arrives : (shape : List TableParts) (ts : List StoredTable) (o : Op) → A
 grown_arrives shape ts (op.Create schema) h = grown_more shape ts (record { schema = schema; rows = [] }) h
 grown_arrives shape ts (op.AddColumn table col) h = grown_name shape ts table (widened col) (λ t old g. grows_one old t.schema col g) h
 grown_arrives shape ts (op.Insert table rows) h = grown_name shape ts table (arrived rows) (λ t old g. g) h
+grown_arrives shape ts (op.SetKeys table keys) h = grown_name shape ts table (rekeyed keys) (λ t old g. grows_keys old t.schema keys g) h
 
 grown_ops : (shape : List TableParts) (ts : List StoredTable) (ops : List Op) → AreGrown shape ts → AreGrown shape (fold arrives ts ops)
 grown_ops shape ts [] h = h
@@ -86,7 +87,7 @@ abbrev pub total : List StoredTable → ℕ
 total [] = 0
 total (t ∷ ts) = length t.rows + total ts
 
-rows_cells : (s : Schema) (rows : List Row) → IsSchema s → AllByRecursion (IsRowOf s) rows → length rows ≤ sum_by length rows
+pub rows_cells : (s : Schema) (rows : List Row) → IsSchema s → AllByRecursion (IsRowOf s) rows → length rows ≤ sum_by length rows
 rows_cells s [] schema fit = omega arith
 rows_cells s (r ∷ rows) schema fit =
     let some = wide_enough s.cols s.time_col schema.designated in
@@ -111,6 +112,14 @@ total_wider (t ∷ ts) name c = step (same_name t.schema.name name) (total_wider
     step true e = ap (λ (n : ℕ). n + total ts) (length-map t.rows (λ (r : Row). r ++ missing c.kind ∷ []))
     step false e = ap (λ (n : ℕ). length t.rows + n) e
 
+total_rekeyed : (ts : List StoredTable) (name keys : List ℕ) → total (at_name (λ (t : StoredTable). t.schema.name) (rekeyed keys) name ts) ≡ total ts
+total_rekeyed [] name keys = refl
+total_rekeyed (t ∷ ts) name keys = step (same_name t.schema.name name) (total_rekeyed ts name keys)
+  where
+    step : (b : Bool) → total (at_name (λ (t : StoredTable). t.schema.name) (rekeyed keys) name ts) ≡ total ts → total (if b then rekeyed keys t ∷ ts else t ∷ at_name (λ (t : StoredTable). t.schema.name) (rekeyed keys) name ts) ≡ length t.rows + total ts
+    step true e = refl
+    step false e = ap (λ (n : ℕ). length t.rows + n) e
+
 total_filled : (ts : List StoredTable) (name : List ℕ) (rows : List Row) → AllByRecursion IsSchema (schemas_of ts) → IfSome (schema_of (schemas_of ts) name) (λ (s : Schema). All (IsRowOf s) rows)
     → total (at_name (λ (t : StoredTable). t.schema.name) (arrived rows) name ts) ≤ total ts + sum_by length rows
 total_filled [] name rows schemas fit = omega arith
@@ -125,6 +134,7 @@ total_filled (t ∷ ts) name rows schemas fit = step (same_name t.schema.name na
 total_arrives : (ts : List StoredTable) (o : Op) → AreSchemas (schemas_of ts) → IsSound (schemas_of ts) o → total (arrives ts o) ≤ total ts + cells_in o
 total_arrives ts (op.Create schema) are sound = let e = total_more ts schema in omega (arith, e)
 total_arrives ts (op.AddColumn table col) are sound = let e = total_wider ts table col in omega (arith, e)
+total_arrives ts (op.SetKeys table keys) are sound = let e = total_rekeyed ts table keys in omega (arith, e)
 total_arrives ts (op.Insert table rows) are sound = total_filled ts table rows (recursion_from_All IsSchema (schemas_of ts) are.each) sound
 
 total_ops : (ts : List StoredTable) (ops : List Op) → AreSchemas (schemas_of ts) → AreLawful (schemas_of ts) ops → total (fold arrives ts ops) ≤ total ts + sum_by cells_in ops
@@ -143,7 +153,7 @@ total_entries ts (e ∷ es) are lawful =
     let next : AreSchemas (schemas_of (fold arrives ts e.ops)) = subst AreSchemas (sym same) (AreSchemas-ops (schemas_of ts) e.ops are lawful.0) in
     let one = total_ops ts e.ops are lawful.0 in
     let few : sum_by cells_in e.ops ≤ BLOCKS_PER_TRANSACTION = lawful.1 in
-    let more = total_entries (fold arrives ts e.ops) es next (subst (λ (l : List Schema). LawfulFrom l es) (sym same) lawful.2) in
+    let more = total_entries (fold arrives ts e.ops) es next (subst (λ (l : List Schema). LawfulFrom l es) (sym same) lawful.3) in
     omega (arith, one, few, more)
 
 total_none : (schemas : List Schema) → total (without_rows schemas) ≡ 0
@@ -323,13 +333,13 @@ all_stand blocks shape db all = record {
 
 schemas_lawful : (schemas : List Schema) (entries : List Entry) → AreSchemas schemas → LawfulFrom schemas entries → AreSchemas (schemas_from schemas entries)
 schemas_lawful schemas [] are lawful = are
-schemas_lawful schemas (e ∷ es) are lawful = schemas_lawful (fold schemas_step schemas e.ops) es (AreSchemas-ops schemas e.ops are lawful.0) lawful.2
+schemas_lawful schemas (e ∷ es) are lawful = schemas_lawful (fold schemas_step schemas e.ops) es (AreSchemas-ops schemas e.ops are lawful.0) lawful.3
 
 -- ---- the law
 
-pub merges : (blocks : ℕ → Block) (written : List (List ℕ)) (split base : ℕ) (m : Manifest) (db : Database) (entries : List Entry) → IsManifest base m → StandsFor blocks m.shape db → LawfulFrom (schemas_of db) entries
+pub merges : (blocks : ℕ → Block) (written : List (List ℕ)) (split base : ℕ) (m : Manifest) (db : Database) (entries : List Entry) → IsManifest base m → StandsFor blocks m.shape db → LawfulFrom (schemas_of db) entries → HasNoSetKeys (drop 1 entries)
     → (base + length entries) * BLOCKS_PER_TRANSACTION < 2 ^ 64 → All (λ (t : StoredTable). length t.rows < 2 ^ 64) (replay db entries) → Merges blocks written split base m db entries
-merges blocks written split base m db entries manifest stands lawful room few =
+merges blocks written split base m db entries manifest stands lawful alone room few =
     let shape : List TableParts = m.shape in
     let bound : ℕ = m.next_block in
     let ts : List StoredTable = arrivals (schemas_in shape) entries in
@@ -343,7 +353,7 @@ merges blocks written split base m db entries manifest stands lawful room few =
     let same : schemas_in shape ≡ schemas_of db = stands.schemas in
     let are : AreSchemas (schemas_of db) = subst AreSchemas same manifest.schemas in
     let database : IsDatabase db = record { schemas = are; rows = subst (AllByRecursion (λ (t : StoredTable). All (IsRowOf t.schema) t.rows)) is (shown_fit blocks shape old) } in
-    let arrive = all_arrive db entries database lawful in
+    let arrive = all_arrive db entries database lawful alone in
     let ts_are : arrivals (schemas_of db) entries ≡ ts = ap (λ (l : List Schema). arrivals l entries) (sym same) in
     let over : AreOver db ts = subst (AreOver db) ts_are arrive.over in
     let settled_is : all_settled (shown blocks shape) ts ≡ replay db entries = ap₂ (λ (d : Database) (l : List StoredTable). all_settled d l) is (sym ts_are) ∙ arrive.settled in

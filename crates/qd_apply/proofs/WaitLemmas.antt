@@ -1,5 +1,5 @@
 -- Rows that wait in blocks in the making.
-use Rattle.std.proofs.Common.{◌≡◌, ℕ, ◌≤◌, List, [], ◌∷◌, ◌++◌, Option, Some, None, length, get_or, map, take, refl, sym, ap, ap₂, ◌∙◌, arith, All, subst, append-nil, append_assoc}
+use Rattle.std.proofs.Common.{◌≡◌, ℕ, ◌≤◌, List, [], ◌∷◌, ◌++◌, Option, Some, None, IfSome, length, get_or, map, take, refl, sym, ap, ap₂, ◌∙◌, arith, All, subst, append-nil, append_assoc}
 use Rattle.std.specs.List.{AllByRecursion}
 use Rattle.std.proofs.lemmas.Grind.{flat_map-append}
 use Rattle.std.proofs.lemmas.List.{length-map, length-take, length_push, map-append, take-append-le}
@@ -10,7 +10,7 @@ use Rattle.qd_base.specs.declared.schema.Schema.{Schema}
 use Rattle.qd_base.specs.Database.{missing, widened, StoredTable}
 use Rattle.qd_base.specs.Lawful.{HasKinds, IsRowOf, IsSchema}
 use Rattle.qd_base.specs.Rows.{Row}
-use Rattle.qd_base.specs.Schemas.{with_column}
+use Rattle.qd_base.specs.Schemas.{with_column, with_keys}
 use Rattle.qd_block.specs.Blocks.{Building, kinds_in, FitsKinds, IsTimed}
 use Rattle.qd_apply.specs.Arrivals.{arrived, wide}
 use Rattle.qd_apply.specs.Waiting.{begun_rows, staged, waiting, IsBegun, IsStage, IsWaiting, Waits}
@@ -161,3 +161,19 @@ waits_kept s stages stages' current current' b cols is same aside none still =
 
 pub sound_here : (s s' : Schema) (c c' : Col) → s ≡ s' → c ≡ c' → IsSchema (with_column c' s') → IsSchema (with_column c s)
 sound_here s s' c c' same is sound = subst (λ (x : Schema). IsSchema (with_column c x)) (sym same) (subst (λ (k : Col). IsSchema (with_column k s')) (sym is) sound)
+
+-- ---- a table whose keys are set
+
+pub waits_rekeyed : (s : Schema) (keys : List ℕ) (stages : List Building) (current : Option Building) → IsWaiting s stages current → IsSchema (with_keys keys s) → IsWaiting (with_keys keys s) stages current
+waits_rekeyed s keys stages current is schema = record {
+  waits = record {
+    schema = schema;
+    fit = each_then (IsRowOf s) (IsRowOf (with_keys keys s)) (λ r h. record { kinds = h.kinds; timed = h.timed }) (staged s.cols stages ++ begun_rows current) is.waits.fit;
+  };
+  each = each_then (IsStage s) (IsStage (with_keys keys s)) (λ b h. record { kinds = h.kinds; time_col = h.time_col; whole = h.whole; narrow = h.narrow }) stages is.each;
+  begun = begun current is.begun;
+}
+  where
+    begun : (o : Option Building) → IfSome o (IsBegun s) → IfSome o (IsBegun (with_keys keys s))
+    begun None h = tt
+    begun (Some b) h = record { kinds = h.kinds; time_col = h.time_col; whole = h.whole }

@@ -5,7 +5,7 @@ use Rattle.qd_base.specs.declared.schema.Schema.{Schema}
 use Rattle.qd_base.specs.declared.op.Entry.{Entry}
 use Rattle.qd_base.specs.declared.op.Op.{Op}
 use Rattle.qd_base.specs.declared.op.Op.TheVariants as op
-use Rattle.qd_base.specs.Database.{Database, StoredTable, widened}
+use Rattle.qd_base.specs.Database.{Database, StoredTable, rekeyed, widened}
 use Rattle.qd_base.specs.Rows.{Row, put}
 use Rattle.qd_base.specs.Schemas.{at_name}
 use Rattle.qd_rows.specs.Sets.{absent}
@@ -15,11 +15,12 @@ abbrev pub arrived : List Row → StoredTable → StoredTable
 arrived rows t = record { schema = t.schema; rows = t.rows ++ rows }
 
 -- The tables with the rows that wait, after a change. A new table has none; a column makes the rows that wait wider, by
--- what a row lacks; rows of a table wait in the order in which they come.
+-- what a row lacks; rows of a table wait in the order in which they come; keys that are set leave the rows that wait.
 abbrev pub arrives : List StoredTable → Op → List StoredTable
 arrives ts (op.Create schema) = ts ++ record { schema = schema; rows = [] } ∷ []
 arrives ts (op.AddColumn table col) = at_name (λ t. t.schema.name) (widened col) table ts
 arrives ts (op.Insert table rows) = at_name (λ t. t.schema.name) (arrived rows) table ts
+arrives ts (op.SetKeys table keys) = at_name (λ t. t.schema.name) (rekeyed keys) table ts
 
 -- the same after transactions, in order
 abbrev pub arrivals_from : List StoredTable → List Entry → List StoredTable

@@ -1,11 +1,12 @@
 -- The laws of merging transactions into the parts of a version.
-use Rattle.std.specs.Prelude.{◌≡◌, ℕ, zero, suc, ◌+◌, ◌*◌, ◌^◌, ◌<◌, ◌≤◌, ◌++◌, ◌⊎◌, List, [], ◌∷◌, Some, All, Contains, length, map, nat_eq, slice_get, slice_index_or, take}
+use Rattle.std.specs.Prelude.{◌≡◌, ℕ, zero, suc, ◌+◌, ◌*◌, ◌^◌, ◌<◌, ◌≤◌, ◌++◌, ◌⊎◌, List, [], ◌∷◌, Some, All, Contains, drop, length, map, nat_eq, slice_get, slice_index_or, take}
 use Rattle.std.specs.List.{AllByRecursion, IsDistinct}
 use Rattle.qd_base.specs.declared.op.Entry.{Entry}
 use Rattle.qd_base.specs.declared.part.Part.{Part}
 use Rattle.qd_base.specs.Database.{Database, StoredTable, schemas_of}
 use Rattle.qd_base.specs.Lawful.{AreSchemas, IsRowOf, Lawful, LawfulFrom}
 use Rattle.qd_base.specs.Replay.{after, replay}
+use Rattle.qd_base.specs.Schemas.{HasNoSetKeys}
 use Rattle.qd_block.specs.Blocks.{Block, kinds_in}
 use Rattle.qd_manifest.specs.declared.shape.Manifest.{Manifest}
 use Rattle.qd_manifest.specs.declared.shape.TableParts.{TableParts}
@@ -22,9 +23,12 @@ pub record IsDatabase (db : Database) : Type 0 where
   pub rows : AllByRecursion (λ (t : StoredTable). All (IsRowOf t.schema) t.rows) db
 
 -- Replay is, table by table, the rows so far made as wide as the table is then, with the rows that came put one by one:
--- widening a table commutes with putting rows.
+-- widening a table commutes with putting rows. Keys may be set by the first of the transactions alone, since they hold
+-- for rows that come after.
 abbrev pub ArrivalsAreReplayed : Type 0
-ArrivalsAreReplayed = (db : Database) (entries : List Entry) → IsDatabase db → LawfulFrom (schemas_of db) entries → replay db entries ≡ all_settled db (arrivals (schemas_of db) entries)
+ArrivalsAreReplayed = (db : Database) (entries : List Entry)
+    → IsDatabase db → LawfulFrom (schemas_of db) entries → HasNoSetKeys (drop 1 entries)
+    → replay db entries ≡ all_settled db (arrivals (schemas_of db) entries)
 
 -- ---- rows that go behind those of a part
 
@@ -82,11 +86,12 @@ pub record Merges (blocks : ℕ → Block) (written : List (List ℕ)) (split ba
   pub grown : All (IsGrowth m.shape written) (grown_after blocks written split m.shape entries)
   pub apart : IsDistinct nat_eq (map (growth_block m.shape) (grown_after blocks written split m.shape entries))
 
--- It holds whatever the files hold, and whatever number of rows stays where it lies. There is room: for the numbers of
--- blocks, and for those of a table's rows.
+-- It holds whatever the files hold, and whatever number of rows stays where it lies. None of the transactions but the
+-- first sets keys. There is room: for the numbers of blocks, and for those of a table's rows.
 abbrev pub MergingStands : Type 0
 MergingStands = (blocks : ℕ → Block) (written : List (List ℕ)) (split base : ℕ) (m : Manifest) (db : Database) (entries : List Entry)
-    → IsManifest base m → StandsFor blocks m.shape db → LawfulFrom (schemas_of db) entries
+    → IsManifest base m → StandsFor blocks m.shape db
+    → LawfulFrom (schemas_of db) entries → HasNoSetKeys (drop 1 entries)
     → (base + length entries) * BLOCKS_PER_TRANSACTION < 2 ^ 64 → All (λ t. length t.rows < 2 ^ 64) (replay db entries)
     → Merges blocks written split base m db entries
 

@@ -1,7 +1,7 @@
 //! Drafts: transactions that are to be merged into the parts of a version.
 ghost use Rattle.std.specs.Prelude.{◌≡◌, ◌+◌, ◌^◌, ◌<◌, ◌≤◌, ◌↔◌, fold, map, All, IfOk, IfSome, IsSome};
 ghost use Rattle.qd_base.specs.Database.{schemas_of};
-ghost use Rattle.qd_base.specs.Lawful.{cells_of, AreLawful, AreSchemas};
+ghost use Rattle.qd_base.specs.Lawful.{cells_of, AreLawful, AreSchemas, SetsKeysAlone};
 ghost use Rattle.qd_base.specs.declared.limits.TheConstants.{MAX_BATCH_CELLS as most};
 ghost use Rattle.qd_manifest.specs.Spelling.{schemas_in, AreParts};
 ghost use Rattle.qd_apply.specs.Arrivals.{arrives, without_rows};
@@ -66,12 +66,17 @@ impl Draft {
     /// Takes one more transaction, where it is lawful over the schemas behind those before; else there is no draft any
     /// more, nor where no memory is found.
     ///
+    /// One that sets keys is taken wherever it stands. All rows of a draft are merged by the keys that their table has at
+    /// its end, so a draft leaves what replay does ([`merging_stands`](crate::merging_stands)) where none of its
+    /// transactions but the first sets keys: whoever drafts ends it before the next one that does.
+    ///
     /// Its rows go straight into the columns of blocks in the making. It costs time linear in the transaction, and a
-    /// table's name is looked up in time logarithmic in the tables. A column is added in the time of its schema: rows
-    /// that wait in that table stay as they are until they are merged.
+    /// table's name is looked up in time logarithmic in the tables. A column is added in the time of its schema, and keys
+    /// are set in theirs: rows that wait in that table stay as they are until they are merged.
     pub fn take(self, alloc: Global, entry: &Entry) -> Result<Option<Draft>, Memory>
         requires room { self.upto + 1 < 2 ^ 64 }
-        ensures lawful { IfOk result (λ next. IsSome next ↔ (AreLawful (schemas_of self.tables) entry.now.ops × (cells_of entry.now ≤ most))) }
+        ensures lawful { IfOk result (λ next. IsSome next ↔
+            (AreLawful (schemas_of self.tables) entry.now.ops × (cells_of entry.now ≤ most) × SetsKeysAlone entry.now.ops)) }
         ensures taken { IfOk result (λ next. IfSome next (λ d. d ≡ record self { upto = self.upto + 1; tables = fold arrives self.tables entry.now.ops })) }
     {
         let Draft {

@@ -9,7 +9,7 @@ ghost use Rattle.qd_apply.specs.Arrivals.{arrives, without_rows};
 ghost use Rattle.qd_apply.specs.Waiting.{AreTables, Waits};
 
 use crate::waiting::Waiting;
-use qd_base::{Col, Duplicate, Memory, Op, RowList, Schema, Schemas};
+use qd_base::{Col, Duplicate, KeyList, Memory, Op, RowList, Schema, Schemas};
 use std::alloc::Global;
 use std::marker::Model;
 
@@ -96,6 +96,7 @@ fn changed_list(
         Op::Create { schema } => with_table(alloc, tables, schema),
         Op::AddColumn { table, col } => with_column(schemas, tables, table.bytes(), col),
         Op::Insert { table, rows } => with_rows(alloc, schemas, tables, table.bytes(), rows),
+        Op::SetKeys { table, keys } => with_keys(schemas, tables, table.bytes(), keys),
     }
 }
 
@@ -157,6 +158,30 @@ fn with_rows(
         Some(i) => {
             let table = &mut tables[i];
             table.fill(alloc, rows)?;
+            table.waits();
+            Ok(tables)
+        }
+        None => Ok(tables),
+    }
+}
+
+/// A list of tables, of which the one of a name has these keys.
+fn with_keys(
+    schemas: &Schemas,
+    tables: Vec<Waiting>,
+    name: &[u8],
+    keys: &KeyList,
+) -> Result<Vec<Waiting>, Memory>
+    requires kept { AreTables schemas.now tables.items }
+    requires fits { Fits schemas.now (change.SetKeys name.now keys.now) }
+    ensures kept { IfOk result (λ v. AllByRecursion Waits v.items) }
+    ensures step { IfOk result (λ v. v.items ≡ arrives tables.items (change.SetKeys name.now keys.now)) }
+{
+    let mut tables = tables;
+    match schemas.find(name) {
+        Some(i) => {
+            let table = &mut tables[i];
+            table.rekey(keys)?;
             table.waits();
             Ok(tables)
         }

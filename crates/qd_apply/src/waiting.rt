@@ -1,13 +1,13 @@
 //! One table: rows that wait to be merged.
 ghost use Rattle.std.specs.Prelude.{◌≡◌, [], ◌++◌, All, IfOk, IfSome, OnOk};
-ghost use Rattle.qd_base.specs.Database.{widened};
+ghost use Rattle.qd_base.specs.Database.{rekeyed, widened};
 ghost use Rattle.qd_base.specs.Lawful.{IsRowOf, IsSchema};
-ghost use Rattle.qd_base.specs.Schemas.{with_column};
+ghost use Rattle.qd_base.specs.Schemas.{with_column, with_keys};
 ghost use Rattle.qd_block.specs.Blocks.{FitsKinds, IsTimed};
 ghost use Rattle.qd_apply.specs.Arrivals.{arrived};
 ghost use Rattle.qd_apply.specs.Waiting.{begun_rows, IsBegun, Waits};
 
-use qd_base::{Col, Duplicate, Memory, Row, RowList, Schema};
+use qd_base::{Col, Duplicate, KeyList, Memory, Row, RowList, Schema};
 use qd_block::Builder;
 use qd_symbols::SymbolMap;
 use std::alloc::Global;
@@ -62,6 +62,15 @@ impl Waiting {
         let mut current = begun(alloc, &self.schema, self.current.take())?;
         push_rows(&mut current, rows.as_slice())?;
         self.current = Some(current);
+        Ok(())
+    }
+
+    /// Sets the deduplication keys. The rows that wait stay where they are.
+    pub(crate) fn rekey(&mut self, keys: &KeyList) -> Result<(), Memory>
+        requires sound { IsSchema (with_keys keys.now self.old.schema) }
+        ensures ok { OnOk result (self.new ≡ rekeyed keys.now self.old) }
+    {
+        self.schema.keys = keys.copy()?;
         Ok(())
     }
 

@@ -8,7 +8,6 @@ use Rattle.qd_base.specs.Replay.{first}
 use Rattle.qd_block.specs.Blocks.{Block}
 use Rattle.qd_catalog.specs.declared.version.Version as catalog
 use Rattle.qd_catalog.specs.Versions.{version_at}
-use Rattle.qd_apply.specs.Drafts.{Planning}
 use Rattle.qd_sequencer.specs.declared.fault.CommitFault.{CommitFault}
 use Rattle.qd_sequencer.specs.declared.fault.Committed.{Committed}
 use Rattle.qd_sequencer.specs.Sequences.{Sequence}
@@ -17,7 +16,7 @@ use Rattle.qd_versions.specs.Stores as versions
 use Rattle.qd_volume.specs.Disk.{Disk}
 use Rattle.qd_store.specs.Arriving.{IsBehind}
 use Rattle.qd_store.specs.Calls.{Commits}
-use Rattle.qd_store.specs.Drafts.{Drafted, IsDraft, IsDraftedFrom, IsMerged, IsNextOf, Merging, between}
+use Rattle.qd_store.specs.Drafts.{IsMerged, IsNextOf, Merging, between}
 use Rattle.qd_store.specs.Faults.{IsSettled}
 use Rattle.qd_store.specs.Stores.{Book, IsStore}
 use Rattle.qd_recovery.specs.Calls.{Acknowledges, Asked, Call, Fails, LeavesAll, Says, Step}
@@ -31,13 +30,6 @@ commits h asked (Ok done) old new before after told said count settled =
 commits h asked (Err fault) old new before after told said count settled = (Fails asked fault, refl, record { told = told; settled = settled })
 
 -- ---- merges
-
-pub merges : (h : List Entry) (s : Book) (upto : ℕ) (d : Drafted) (m : Merging) → IsDraftedFrom (Ok d) s h upto → d.plan.upto ≡ upto
-    → ((next : ℕ) (x : catalog.Version) (es : List Entry) (contents : ℕ → Block) (db : Database) → IsDraft next x es contents db d → IsMerged next x es contents db m) → IsNextOf s h m
-merges h s upto d m (x, contents, current, is) same merged =
-    let made = merged s.versions.versions.next_block x (between h x.n upto) contents (first h x.n) is in
-    let number : upto ≡ m.upto = sym same ∙ ap (λ (p : Planning). p.upto) is.plan ∙ sym made.upto in
-    (x, contents, current, subst (λ (n : ℕ). IsMerged s.versions.versions.next_block x (between h x.n n) contents (first h x.n) m) number made)
 
 pub waits : (h more : List Entry) (s t : Book) (m : Merging) → IsNextOf s h m → m.upto ≤ length h → t.versions ≡ s.versions → IsNextOf t (h ++ more) m
 waits h more s t m (x, contents, current, is) within same =
@@ -61,3 +53,12 @@ module _ (h : List Entry) (old new : Book) (disk : Disk) (law : versions.IsStore
 
   pub leaves_sequence : (s : Sequence) → s.pending ≡ old.sequence.pending → new.sequence ≡ s → LeavesAll old new disk disk
   leaves_sequence s same is = leaves_all (ap (λ (q : Sequence). q.pending) is ∙ same)
+
+-- a merge isn't published, and nothing changes
+pub unmoved : (h : List Entry) (old new : Book) (before after : Disk) → versions.IsStore old.versions → (after ≡ before) × (new ≡ old) → LeavesAll old new before after
+unmoved h old new before after law (volume, same) = record {
+  law = law;
+  holds = λ g next disk is. subst (λ (s : Book). IsStore s g next disk) (sym same) is;
+  pending = ap (λ (s : Book). s.sequence.pending) same;
+  volume = volume;
+}

@@ -35,11 +35,12 @@ pub data Call : Type 0 where
   Acknowledges : (asked : Asked) (done : Committed) (e : Entry) → Call
   -- a commit that answered Err
   Fails : (asked : Asked) (fault : CommitFault) → Call
-  -- the publication of a merge, whatever it answered
+  -- the publication of a merge into the current version, whatever it answered
   Publishes : (m : Merging) (result : Result ℕ PublishFault) → Call
   -- a sweep
   Sweeps : Call
-  -- a call that leaves the volume as it is: a version or a writer goes, transactions are drafted, a part is read
+  -- a call that leaves the volume as it is: a version or a writer goes, transactions are drafted, a part is read, or a merge isn't
+  -- published because another one came before it
   Stays : Call
 
 -- ---- what a call acknowledges

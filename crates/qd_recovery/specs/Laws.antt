@@ -16,6 +16,7 @@ use Rattle.qd_versions.specs.Stores as versions
 use Rattle.qd_volume.specs.Disk.{Disk, Image}
 use Rattle.qd_store.specs.declared.fault.OpenFault.{OpenFault}
 use Rattle.qd_store.specs.declared.fault.PublishFault.{PublishFault}
+use Rattle.qd_store.specs.declared.fault.PublishFault.TheVariants as publish
 use Rattle.qd_store.specs.Arriving.{IsBehind}
 use Rattle.qd_store.specs.Calls.{Commits, ShowsOneOf, Stands}
 use Rattle.qd_store.specs.Drafts.{Drafted, IsDraft, IsDraftedFrom, IsMerged, IsNextOf, Merging}
@@ -41,13 +42,17 @@ pub record CallsAreSteps : Type 0 where
   pub commits : (h : List Entry) (asked : Asked) (result : Result Committed CommitFault) (old new : Book) (before after : Disk) → Commits result old new (Says old.sequence.schemas asked) before after
       → OnOk result (IsBehind old.sequence.schemas new.sequence.schemas (Says old.sequence.schemas asked)) → IfOk result (λ done. done.n ≡ length new.sequence.refs) → IsSettled result new.sequence
       → (call : Call) × IsCommitOf asked result call × Step h call old new before after
-  -- `draft` (`told`, `upto`) and `Draft::merge` (`merged`): what is merged are the history's next transactions
-  pub merges : (h : List Entry) (s : Book) (upto : ℕ) (d : Drafted) (m : Merging) → IsDraftedFrom (Ok d) s h upto → d.plan.upto ≡ upto
+  -- `draft` (`told`) and `Draft::merge` (`merged`): what is merged are the history's next transactions, up to where the draft ends
+  pub merges : (h : List Entry) (s : Book) (upto : ℕ) (d : Drafted) (m : Merging) → IsDraftedFrom (Ok d) s h upto
       → ((next : ℕ) (x : catalog.Version) (es : List Entry) (contents : ℕ → Block) (db : Database) → IsDraft next x es contents db d → IsMerged next x es contents db m) → IsNextOf s h m
   -- and they are while commits put others behind them (`versions` of these)
   pub waits : (h more : List Entry) (s t : Book) (m : Merging) → IsNextOf s h m → m.upto ≤ length h → t.versions ≡ s.versions → IsNextOf t (h ++ more) m
   -- `publish` (`told`)
   pub publishes : (h : List Entry) (m : Merging) (result : Result ℕ PublishFault) (old new : Book) (before after : Disk) → IsNextOf old h m → PublishesMerged result old new m before after → Step h (Publishes m result) old new before after
+  -- `publish` of a merge that another publication came before, which is answered by `Moved` (`unmoved`)
+  pub moves : (h : List Entry) (result : Result ℕ PublishFault) (old new : Book) (before after : Disk) → versions.IsStore old.versions
+      → ((n : ℕ) → result ≡ Err (publish.Moved n) → (after ≡ before) × (new ≡ old))
+      → (n : ℕ) → result ≡ Err (publish.Moved n) → Step h Stays old new before after
   -- `sweep` (`told`)
   pub sweeps : (h : List Entry) (old new : Book) (before after : Disk) → Stands old new before after → Step h Sweeps old new before after
   -- `retire` (`holds`, `sequence`, `storage`), with `keeps_its_law` (`versions`)

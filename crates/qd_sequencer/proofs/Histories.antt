@@ -7,8 +7,8 @@ use Rattle.qd_base.specs.Lawful.{Lawful, LawfulFrom}
 use Rattle.qd_sequencer.specs.Histories.{IsLawfulOver}
 
 lawful_more : (schemas : List Schema) (h : List Entry) (e : Entry) → LawfulFrom schemas h → IsLawfulOver (schemas_from schemas h) e → LawfulFrom schemas (h ++ e ∷ [])
-lawful_more schemas [] e lawful next = (next.changes, next.cells, tt)
-lawful_more schemas (x ∷ h) e lawful next = (lawful.0, lawful.1, lawful_more (fold schemas_step schemas x.ops) h e lawful.2 next)
+lawful_more schemas [] e lawful next = (next.changes, next.cells, next.alone, tt)
+lawful_more schemas (x ∷ h) e lawful next = (lawful.0, lawful.1, lawful.2, lawful_more (fold schemas_step schemas x.ops) h e lawful.3 next)
 
 pub schemas_more : (schemas : List Schema) (h : List Entry) (e : Entry) → schemas_from schemas (h ++ e ∷ []) ≡ fold schemas_step (schemas_from schemas h) e.ops
 schemas_more schemas [] e = refl

@@ -26,7 +26,7 @@ use Rattle.qd_sequencer.specs.Reading.{AreFollowed, AreRead, BreaksOff, IsGood, 
 pub read_on : (at : WalRef) (more : List WalRef) (old mid new : List Schema) (image : Image) (e : Entry) (es : List Entry) → IsGood (image (file_in at)) at old e → mid ≡ fold schemas_step old e.ops → AreRead more mid new image es → AreRead (at ∷ more) old new image (e ∷ es)
 read_on at more old mid new image e es good is read = record {
   spelled = (good.spelled, read.spelled);
-  lawful = (good.lawful.changes, good.lawful.cells, subst (λ (s : List Schema). LawfulFrom s es) is read.lawful);
+  lawful = (good.lawful.changes, good.lawful.cells, good.lawful.alone, subst (λ (s : List Schema). LawfulFrom s es) is read.lawful);
   behind = read.behind ∙ ap (λ (s : List Schema). schemas_from s es) is;
 }
 
@@ -71,7 +71,7 @@ spelled_drop (suc n) (r ∷ refs) (e ∷ h) image p = spelled_drop n refs h imag
 lawful_drop : (n : ℕ) (schemas : List Schema) (h : List Entry) → LawfulFrom schemas h → LawfulFrom (schemas_from schemas (take n h)) (drop n h)
 lawful_drop zero schemas h p = p
 lawful_drop (suc n) schemas [] p = tt
-lawful_drop (suc n) schemas (e ∷ h) p = lawful_drop n (fold schemas_step schemas e.ops) h p.2
+lawful_drop (suc n) schemas (e ∷ h) p = lawful_drop n (fold schemas_step schemas e.ops) h p.3
 
 -- a lawful history that is spelled doesn't break off
 pub no_break : (refs : List WalRef) (h : List Entry) (schemas : List Schema) (image : Image) (file place : ℕ) → AreSpelled refs h image → LawfulFrom schemas h → BreaksOff refs schemas image file place → ⊥
@@ -80,9 +80,9 @@ no_break [] (e ∷ h) schemas image file place p q breaks = breaks
 no_break (r ∷ refs) [] schemas image file place p q breaks = p
 no_break (r ∷ refs) (e ∷ h) schemas image file place p q (inl (inl unread)) = unread.unspelled e p.0
 no_break (r ∷ refs) (e ∷ h) schemas image file place p q (inl (inr bad)) =
-    bad.unlawful (subst (λ (x : Entry). IsLawfulOver schemas x) (one_read (image (file_in r)) r e bad.entry p.0 bad.spelled) (record { changes = q.0; cells = q.1 }))
+    bad.unlawful (subst (λ (x : Entry). IsLawfulOver schemas x) (one_read (image (file_in r)) r e bad.entry p.0 bad.spelled) (record { changes = q.0; cells = q.1; alone = q.2 }))
 no_break (r ∷ refs) (e ∷ h) schemas image file place p q (inr more) =
-    no_break refs h (fold schemas_step schemas e.ops) image file place p.1 q.2
+    no_break refs h (fold schemas_step schemas e.ops) image file place p.1 q.3
     (subst (λ (x : Entry). BreaksOff refs (fold schemas_step schemas x.ops) image file place) (sym (one_read (image (file_in r)) r e more.0 p.0 more.1.spelled)) more.2)
 
 module _ (refs : List WalRef) (n : ℕ) (schemas : List Schema) (h : List Entry) (disk : Disk) (logged : IsLogged refs n schemas h disk) where

@@ -6,7 +6,7 @@ use Rattle.qd_base.specs.declared.op.Entry.{Entry}
 use Rattle.qd_base.specs.declared.part.WalRef.{WalRef}
 use Rattle.qd_base.specs.declared.schema.Schema.{Schema}
 use Rattle.qd_base.specs.declared.limits.TheConstants.{MAX_BATCH_CELLS}
-use Rattle.qd_base.specs.Lawful.{AreLawful, Lawful, cells_of}
+use Rattle.qd_base.specs.Lawful.{AreLawful, Lawful, SetsKeysAlone, cells_of}
 use Rattle.qd_volume.specs.Disk.{Disk, Image}
 use Rattle.qd_durable.specs.Moments.{EachNow}
 use Rattle.qd_seq.specs.Layout.{GivesList}
@@ -21,6 +21,7 @@ AreSpelled refs h image = AllZip (λ (ref : WalRef) (e : Entry). SpellsAt (image
 pub record IsLawfulOver (schemas : List Schema) (e : Entry) : Type 0 where
   pub changes : AreLawful schemas e.ops
   pub cells : cells_of e ≤ MAX_BATCH_CELLS
+  pub alone : SetsKeysAlone e.ops
 
 -- a crash that leaves this image leaves this history
 pub record HoldsHistory (refs : List WalRef) (h : List Entry) (image : Image) : Type 0 where

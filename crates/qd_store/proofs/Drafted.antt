@@ -8,9 +8,9 @@ use Rattle.qd_base.specs.declared.part.Part.{Part}
 use Rattle.qd_base.specs.declared.schema.Schema.{Schema}
 use Rattle.qd_base.specs.Database.{StoredTable}
 use Rattle.qd_base.specs.Lawful.{LawfulFrom}
-use Rattle.qd_base.specs.Replay.{first}
+use Rattle.qd_base.specs.Replay.{first, replay}
 use Rattle.qd_catalog.specs.declared.version.Version.{Version}
-use Rattle.qd_catalog.specs.Versions.{current_n, n_of, version_at, written_of, Versions}
+use Rattle.qd_catalog.specs.Versions.{version_at, written_of, Versions}
 use Rattle.qd_column_format.specs.Laws.{OneColumnIsSpelled}
 use Rattle.qd_column_files.specs.Laws.{OneBlockIsHeld}
 use Rattle.qd_apply.specs.Drafts.{Drafting, Planning}
@@ -29,7 +29,7 @@ use Rattle.qd_versions.specs.Stores as versions
 use Rattle.qd_volume.specs.Disk.{Disk, Image, reads_of}
 use Rattle.qd_store.specs.Damage.{IsDamagedOver, IsDraftDamage, LosesBlock}
 use Rattle.qd_store.specs.Drafting.{AreArrived, ArePartsRead, AreRead, HasArrived, IsArrived, IsArrivedFrom}
-use Rattle.qd_store.specs.Drafts.{Drafted, IsDraftOver, IsDraftedFrom, between, plan_of}
+use Rattle.qd_store.specs.Drafts.{Drafted, IsDraftOver, IsDraftedFrom, between, plan_of, round_of}
 use Rattle.qd_store.specs.Grown.{rows_written}
 use Rattle.qd_store.specs.Prefixes.{IsShown}
 use Rattle.qd_store.specs.Stores.{Book, IsStore}
@@ -38,6 +38,7 @@ use Rattle.qd_store.proofs.Between.{replay_between}
 use Rattle.qd_store.proofs.OldsRead.{none_lost, reads_are, same_cause}
 use Rattle.qd_store.proofs.Fills.{drafted}
 use Rattle.qd_store.proofs.FewRows.{rows_few}
+use Rattle.qd_store.proofs.RoundLists.{between_round, round_few, round_keys, round_some}
 
 -- what is planned of what has arrived
 abbrev pub planning : Drafting → List (List ℕ) → ℕ → Planning
@@ -52,19 +53,16 @@ planning d written split = record {
 }
 
 -- the plan of what has arrived
-planned : (written : List (List ℕ)) (split next : ℕ) (x : Version) (es : List Entry) (upto : ℕ) (arrived : Drafting) (plan : Planning) → HasArrived next x es upto arrived
+planned : (written : List (List ℕ)) (split next : ℕ) (x : Version) (es : List Entry) (arrived : Drafting) (plan : Planning) → HasArrived next x es arrived
     → plan ≡ planning arrived written split → plan ≡ plan_of written split next x es
-planned written split next x es upto arrived plan has is =
-    is
-    ∙ ap (λ (d : Drafting). planning d written split) has.draft
-    ∙ ap (λ (n : ℕ). let p : Planning = record (plan_of written split next x es) { upto = n } in p) (sym has.counted)
+planned written split next x es arrived plan has is = is ∙ ap (λ (d : Drafting). planning d written split) has.draft
 
 -- there is a count for each part
 pub counts_parts : (s : Book) (upto : ℕ) (arrived : Drafting) → IsArrived s.versions.versions upto arrived → (written : List (List ℕ))
     → ((x : Version) → version_at s.versions.versions s.versions.versions.current ≡ Some x → written ≡ rows_written s.versions.versions x.shape) → CountsParts arrived.shape written
-counts_parts s upto arrived (x, es, at, has) written rows =
-    subst (λ (l : List TableParts). CountsParts l written) (sym (ap (λ (d : Drafting). d.shape) has.draft))
-    (subst (CountsParts x.shape) (sym (rows x at)) (counts s.versions.versions x.shape))
+counts_parts s upto arrived (x, es, is) written rows =
+    subst (λ (l : List TableParts). CountsParts l written) (sym (ap (λ (d : Drafting). d.shape) is.has.draft))
+    (subst (CountsParts x.shape) (sym (rows x is.at)) (counts s.versions.versions x.shape))
   where
     counts : (v : Versions) (shape : List TableParts) → CountsParts shape (rows_written v shape)
     counts v [] = refl
@@ -74,23 +72,33 @@ counts_parts s upto arrived (x, es, at, has) written rows =
 
 module _ (v : versions.Store) (law : versions.IsStore v) (written : List (List ℕ)) (split upto : ℕ) (arrived : Drafting) (is : IsArrived v.versions upto arrived) where
   module _ (plan : Planning) (plan_is : plan ≡ planning arrived written split) where
-    pub drafted_over : (few : upto ≤ 2 ^ 30) (more : (n : ℕ) → current_n v.versions ≡ Some n → n < upto) (olds : List OldPart)
+    pub drafted_over : (few : upto ≤ 2 ^ 30) (olds : List OldPart)
         → ((x : Version) → version_at v.versions v.versions.current ≡ Some x → written ≡ rows_written v.versions x.shape)
         → AreRead plan.written plan.split_rows plan.shape plan.tables olds → IsDraftOver v.versions (record { plan = plan; olds = olds })
-    drafted_over few more olds rows read =
+    drafted_over few olds rows read =
         let x = is.0 in
         let es = is.1 in
+        let arrives = is.2 in
         let next = v.versions.next_block in
-        let counted : x.n + length es ≡ upto = is.3.counted in
-        let room : x.n + length es ≤ 2 ^ 30 = omega (arith, counted, few) in
-        let so : plan ≡ plan_of written split next x es = planned written split next x es upto arrived plan is.3 plan_is in
-        let some : 0 < length es = omega (arith, counted, more x.n (ap n_of is.2)) in
+        let most : x.n + length es ≤ upto = arrives.most in
+        let so : plan ≡ plan_of written split next x es = planned written split next x es arrived plan arrives.has plan_is in
         let same : AreRead written split x.shape (plan_of written split next x es).tables olds = subst (λ (p : Planning). AreRead p.written p.split_rows p.shape p.tables olds) so read in (
           x,
-          is.2,
-          drafted written split next x es (record { plan = plan; olds = olds }) (law.current x is.2).sound is.3.lawful some room so same,
-          ap (λ (p : Planning). p.written) so ∙ rows x is.2,
+          arrives.at,
+          drafted written split next x es (record { plan = plan; olds = olds }) (law.current x arrives.at).sound arrives.has.lawful arrives.keys arrives.some (omega (arith, most, few)) so same,
+          ap (λ (p : Planning). p.written) so ∙ rows x arrives.at,
         )
+
+    -- it gives one transaction at least, and none behind the number asked for
+    pub drafted_upto : (plan.base < plan.upto) × (plan.upto ≤ upto)
+    drafted_upto =
+        let arrives = is.2 in
+        let some : 0 < length is.1 = arrives.some in
+        let most : is.0.n + length is.1 ≤ upto = arrives.most in
+        let so = planned written split v.versions.next_block is.0 is.1 arrived plan arrives.has plan_is in
+        let base : plan.base ≡ is.0.n = ap (λ (p : Planning). p.base) so in
+        let number : plan.upto ≡ is.0.n + length is.1 = ap (λ (p : Planning). p.upto) so in
+        (omega (arith, some, base, number), omega (arith, most, number))
 
 -- what a plan's merge reads, of an image
 abbrev pub FilesRead : Result (Vec OldPart Global) LogFault → Planning → Image → Type 0
@@ -99,23 +107,26 @@ FilesRead result plan image = ArePartsRead result plan.split_rows (all_late 0 pl
 -- ---- of a history
 
 module _ (one : OneBlockIsHeld) (spelled : OneColumnIsSpelled) (s : Book) (law : versions.IsStore s.versions) (rows : RowsAreFew) (upto : ℕ) (h : List Entry) (next : root.Version) (disk : Disk) (is : IsStore s h next disk) where
-  pub drafted_from : (few : upto ≤ 2 ^ 30) (more : (n : ℕ) → current_n s.versions.versions ≡ Some n → n < upto) (written : List (List ℕ)) (split : ℕ) (arrived : Drafting) (plan : Planning)
+  pub drafted_from : (few : upto ≤ 2 ^ 30) (written : List (List ℕ)) (split : ℕ) (arrived : Drafting) (plan : Planning)
       → IsArrivedFrom (Ok arrived) s h upto → plan ≡ planning arrived written split
       → (list : Vec OldPart Global)
       → FilesRead (Ok list) plan (reads_of disk)
       → IsDraftedFrom (Ok (record { plan = plan; olds = list.items })) s h upto
-  drafted_from few more written split arrived plan (x, at, has) plan_is list read =
+  drafted_from few written split arrived plan (x, at, has, more) plan_is list read =
       let shown : IsShown h x.n x.shape disk = shown_now s h next disk is x at in
-      let es : List Entry = between h x.n upto in
-      let above : x.n < upto = more x.n (ap n_of at) in
+      let all : List Entry = between h x.n upto in
+      let es : List Entry = round_of all in
+      let to : ℕ = x.n + length es in
+      let some : 0 < length es = round_some all more in
+      let fewer : length es ≤ length all = round_few all in
       let low : x.n ≤ length h = shown.few in
-      let counted : x.n + length es ≡ upto = has.counted in
-      let room : x.n + length es ≤ 2 ^ 30 = omega (arith, counted, few) in
-      let within : upto ≤ length h = omega (arith, counted, low, length-drop x.n (take upto h), length-take upto h) in
-      let so : plan ≡ plan_of written split s.versions.versions.next_block x es = planned written split s.versions.versions.next_block x es upto arrived plan has plan_is in
+      let within : to ≤ length h = omega (arith, fewer, low, length-drop x.n (take upto h), length-take upto h) in
+      let room : to ≤ 2 ^ 30 = omega (arith, few, more, fewer, length-drop x.n (take upto h), length-take upto h) in
+      let so : plan ≡ plan_of written split s.versions.versions.next_block x es = planned written split s.versions.versions.next_block x es arrived plan has plan_is in
       let stands : StandsFor shown.blocks x.shape (first h x.n) = shown.stands in
       let tables : List StoredTable = (plan_of written split s.versions.versions.next_block x es).tables in
-      let files : ArePartsRead (Ok list) split (all_late 0 written split x.shape tables) x.shape (reads_of disk) = subst (λ (p : Planning). FilesRead (Ok list) p (reads_of disk)) so read in (
+      let files : ArePartsRead (Ok list) split (all_late 0 written split x.shape tables) x.shape (reads_of disk) = subst (λ (p : Planning). FilesRead (Ok list) p (reads_of disk)) so read in
+      let behind : replay (first h x.n) es ≡ first h to = ap (replay (first h x.n)) (sym (between_round h x.n upto)) ∙ replay_between h x.n to (omega arith) in (
         x,
         shown.blocks,
         at,
@@ -124,11 +135,12 @@ module _ (one : OneBlockIsHeld) (spelled : OneColumnIsSpelled) (s : Book) (law :
             manifest = (law.current x at).sound;
             stands = stands;
             lawful = subst (λ (l : List Schema). LawfulFrom l es) stands.schemas has.lawful;
-            some = omega (arith, counted, above);
+            keys = round_keys all;
+            some = some;
             room = room;
-            few = subst (All (λ (t : StoredTable). length t.rows < 2 ^ 64)) (sym (replay_between h x.n upto (omega (arith, above))))
-                (All-weaker (λ (t : StoredTable). length t.rows ≤ upto * BLOCKS_PER_TRANSACTION) (λ (t : StoredTable). length t.rows < 2 ^ 64)
-                (λ t le. omega (arith, le, few)) (first h upto) (rows_few rows h upto is.sequence.lawful within));
+            few = subst (All (λ (t : StoredTable). length t.rows < 2 ^ 64)) (sym behind)
+                (All-weaker (λ (t : StoredTable). length t.rows ≤ to * BLOCKS_PER_TRANSACTION) (λ (t : StoredTable). length t.rows < 2 ^ 64)
+                (λ t le. omega (arith, le, room)) (first h to) (rows_few rows h to is.sequence.lawful within));
           };
           written = written;
           split = split;
@@ -141,9 +153,9 @@ module _ (one : OneBlockIsHeld) (spelled : OneColumnIsSpelled) (s : Book) (law :
   pub none_read : (cause : LogFault) (written : List (List ℕ)) (split : ℕ) (arrived : Drafting) (plan : Planning) → IsArrivedFrom (Ok arrived) s h upto → plan ≡ planning arrived written split
       → FilesRead (Err cause) plan (reads_of disk)
       → IsDraftedFrom (Err cause) s h upto
-  none_read cause written split arrived plan (x, at, has) plan_is read =
-      let es : List Entry = between h x.n upto in
-      let so : plan ≡ plan_of written split s.versions.versions.next_block x es = planned written split s.versions.versions.next_block x es upto arrived plan has plan_is in
+  none_read cause written split arrived plan (x, at, has, more) plan_is read =
+      let es : List Entry = round_of (between h x.n upto) in
+      let so : plan ≡ plan_of written split s.versions.versions.next_block x es = planned written split s.versions.versions.next_block x es arrived plan has plan_is in
       by cause (all_late 0 written split x.shape (plan_of written split s.versions.versions.next_block x es).tables) (subst (λ (p : Planning). FilesRead (Err cause) p (reads_of disk)) so read)
     where
       by : (cause : LogFault) (lates : List Late) → ArePartsRead (Err cause) split lates x.shape (reads_of disk) → IsDraftedFrom (Err cause) s h upto
@@ -152,7 +164,7 @@ module _ (one : OneBlockIsHeld) (spelled : OneColumnIsSpelled) (s : Book) (law :
       by fault.Memory lates lost = tt
 
 -- the same of a volume that may tell nothing
-module _ (one : OneBlockIsHeld) (spelled : OneColumnIsSpelled) (s : Book) (law : versions.IsStore s.versions) (rows : RowsAreFew) (upto : ℕ) (few : upto ≤ 2 ^ 30) (more : (n : ℕ) → current_n s.versions.versions ≡ Some n → n < upto)
+module _ (one : OneBlockIsHeld) (spelled : OneColumnIsSpelled) (s : Book) (law : versions.IsStore s.versions) (rows : RowsAreFew) (upto : ℕ) (few : upto ≤ 2 ^ 30)
     (written : List (List ℕ)) (split : ℕ) (arrived : Drafting) (plan : Planning) (plan_is : plan ≡ planning arrived written split) where
   abbrev pub HasTold : Disk → Type 0
   HasTold disk = (h : List Entry) (next : root.Version) → IsStore s h next disk → IsArrivedFrom (Ok arrived) s h upto
@@ -165,7 +177,7 @@ module _ (one : OneBlockIsHeld) (spelled : OneColumnIsSpelled) (s : Book) (law :
   drafted_told list None now same has read = tt
   drafted_told list (Some disk) now same has read =
       let told : FilesRead (Ok list) plan (reads_of disk) = subst (λ (o : Option Disk). IfSome o (λ disk. FilesRead (Ok list) plan (reads_of disk))) same read in
-      λ h next is. drafted_from one spelled s law rows upto h next disk is few more written split arrived plan (has h next is) plan_is list told
+      λ h next is. drafted_from one spelled s law rows upto h next disk is few written split arrived plan (has h next is) plan_is list told
 
   pub undrafted_told : (cause : LogFault) (o now : Option Disk) → now ≡ o → IfSome o HasTold → IfSome now (λ disk. FilesRead (Err cause) plan (reads_of disk)) → IfSome o (DraftsTold (Err cause))
   undrafted_told cause None now same has read = tt
@@ -187,14 +199,14 @@ module _ {T : Type 0} (result : Result T LogFault) (cause : LogFault) (failed : 
   module _ (written : List (List ℕ)) (arrived : Drafting) (plan : Planning) (plan_is : plan ≡ planning arrived written s.limits.split_rows)
       (rows : (x : Version) → version_at s.versions.versions s.versions.versions.current ≡ Some x → written ≡ rows_written s.versions.versions x.shape) where
     in_blocks : (image : Image) (file at : ℕ) → AreArrived (Ok arrived) s upto image → FilesRead (Err (fault.Damaged file at)) plan image → IsDraftDamage s upto image file at
-    in_blocks image file at (x, es, current, spelled, has) loses =
+    in_blocks image file at (x, es, current, round, has) loses =
         let split : ℕ = s.limits.split_rows in
         let next : ℕ = s.versions.versions.next_block in (
           x,
           current,
-          IsDamagedOver.InBlocks es file at spelled has.lawful
+          IsDamagedOver.InBlocks es file at round has.lawful
               (subst (λ (w : List (List ℕ)). LosesBlock split (all_late 0 w split x.shape (plan_of w split next x es).tables) x.shape image file at) (rows x current)
-              (subst (λ (p : Planning). FilesRead (Err (fault.Damaged file at)) p image) (planned written split next x es upto arrived plan has plan_is) loses)),
+              (subst (λ (p : Planning). FilesRead (Err (fault.Damaged file at)) p image) (planned written split next x es arrived plan has plan_is) loses)),
         )
 
     pub reads_damaged : (o now : Option Disk) → now ≡ o → IfSome o (λ disk. AreArrived (Ok arrived) s upto (reads_of disk))

@@ -12,6 +12,7 @@ use Rattle.qd_base.specs.Database.{Database, StoredTable, schemas_of}
 use Rattle.qd_base.specs.Lawful.{AreSchemas, IsSchema, LawfulFrom}
 use Rattle.qd_base.specs.Replay.{replay}
 use Rattle.qd_base.specs.Rows.{Row}
+use Rattle.qd_base.specs.Schemas.{HasNoSetKeys}
 use Rattle.qd_base.proofs.Lists.{each-from_map}
 use Rattle.qd_block.specs.Blocks.{Block}
 use Rattle.qd_catalog.specs.declared.version.Version.{Version}
@@ -30,7 +31,7 @@ use Rattle.qd_versions.specs.Stores.{manifest_in}
 use Rattle.qd_store.specs.Drafting.{number_there, old_there, AreRead, IsReadOf}
 use Rattle.qd_store.specs.Drafts.{plan_of, Drafted, IsDraftInto}
 use Rattle.qd_store.proofs.Fillers.{Fits, filler, filler_fits}
-use Rattle.qd_store.proofs.Growing.{replay_few, AreFew}
+use Rattle.qd_apply.proofs.RowCountLemmas.{replay_few, AreFew}
 use Rattle.qd_store.proofs.PlacedParts.{among_tables, each_placed, number, numbers_are, of_each, place, placed, Placed}
 use Rattle.qd_store.proofs.Serving.{chosen, chosen_are, chosen_serve, fillers, fillers_serve, one_serves, HaveFillers, Serves}
 use Rattle.qd_store.proofs.LateNumbers.{its_number, numbers_apart, numbers_at}
@@ -166,11 +167,11 @@ filled written split next x es olds manifest lawful room read =
 
 -- So transactions that come behind such a version, planned, with what their merge reads, are a draft into it.
 pub drafted : (written : List (List ℕ)) (split next : ℕ) (x : Version) (es : List Entry) (d : Drafted)
-    → IsManifest x.n (manifest_in next x.shape) → LawfulFrom (schemas_in x.shape) es
+    → IsManifest x.n (manifest_in next x.shape) → LawfulFrom (schemas_in x.shape) es → HasNoSetKeys (drop 1 es)
     → 0 < length es → x.n + length es ≤ 2 ^ 30
     → d.plan ≡ plan_of written split next x es → AreRead written split x.shape (plan_of written split next x es).tables d.olds
     → IsDraftInto next x d
-drafted written split next x es d manifest lawful some room plan read =
+drafted written split next x es d manifest lawful keys some room plan read =
     let found = filled written split next x es d.olds manifest lawful room read in (
       es,
       found.0,
@@ -180,6 +181,7 @@ drafted written split next x es d manifest lawful some room plan read =
           manifest = manifest;
           stands = found.2;
           lawful = subst (λ (l : List Schema). LawfulFrom l es) (sym found.3) lawful;
+          keys = keys;
           some = some;
           room = room;
           few = found.5;

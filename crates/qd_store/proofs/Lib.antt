@@ -26,10 +26,10 @@ pub mod RestFillers
 pub mod PlacedParts
 pub mod Serving
 pub mod LateNumbers
-pub mod Growing
 pub mod Fills
 pub mod OldReads
 pub mod OldsRead
+pub mod RoundLists
 pub mod Between
 pub mod Taking
 pub mod FewRows

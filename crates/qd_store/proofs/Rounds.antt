@@ -1,10 +1,11 @@
 -- Drafts over the current version of a store, and what becomes of them when they are merged.
-use Rattle.std.proofs.Common.{◌≡◌, ◌∙◌, ℕ, List, [], All, Some, map, get_or, slice_get, ap, arith, subst, sym}
+use Rattle.std.proofs.Common.{◌≡◌, ◌∙◌, ℕ, ◌<◌, ◌≤◌, List, [], All, Some, Ok, map, get_or, slice_get, ap, arith, subst, sym}
 use Rattle.std.proofs.lemmas.List.{get_or-map, length-map}
 use Rattle.std.proofs.lemmas.Option.{get_or_from_slice_get, slice_get_within}
 use Rattle.qd_base.specs.declared.op.Entry.{Entry}
 use Rattle.qd_base.specs.declared.part.Part.{Part}
 use Rattle.qd_base.specs.Database.{Database}
+use Rattle.qd_base.specs.Replay.{first}
 use Rattle.qd_block.specs.Blocks.{Block}
 use Rattle.qd_catalog.specs.declared.version.Version.{Version}
 use Rattle.qd_catalog.specs.Versions.{Versions, version_at, written_of}
@@ -12,8 +13,10 @@ use Rattle.qd_apply.specs.Drafts.{Planning}
 use Rattle.qd_apply.specs.Laws.{IsGrowth}
 use Rattle.qd_manifest.specs.declared.shape.TableParts.{TableParts}
 use Rattle.qd_versions.specs.declared.published.GrownBlock.{GrownBlock}
-use Rattle.qd_store.specs.Drafts.{Drafted, IsDraft, IsDraftOver, IsMerged, IsMergedInto, IsMergedOver, Merging}
+use Rattle.qd_store.specs.Drafts.{Drafted, IsDraft, IsDraftOver, IsDraftedFrom, IsMerged, IsMergedInto, IsMergedOver, IsNextOf, Merging, between, round_of}
 use Rattle.qd_store.specs.Grown.{IsShownWhole, growth_of, rows_written, written_to}
+use Rattle.qd_store.specs.Stores.{Book}
+use Rattle.qd_store.proofs.RoundLists.{between_round}
 
 -- what the merge of a draft says: what it is of, and behind which parts it puts rows
 abbrev pub Merges : Drafted → Merging → Type 0
@@ -69,3 +72,22 @@ merged_over v d m (x, at, (es, contents, db, is), written) by grows = (
 -- and of as many transactions
 pub merged_upto : (v : Versions) (d : Drafted) (m : Merging) (upto : ℕ) → IsDraftOver v d → Merges d m → d.plan.upto ≡ upto → m.upto ≡ upto
 merged_upto v d m upto (x, at, (es, contents, db, is), written) by same = (by v.next_block x es contents db is).upto ∙ sym (ap (λ (p : Planning). p.upto) is.plan) ∙ same
+
+-- it goes on, and up to where the draft does
+pub merged_bounds : (v : Versions) (d : Drafted) (m : Merging) (upto : ℕ) → IsDraftOver v d → Merges d m → (d.plan.base < d.plan.upto) × (d.plan.upto ≤ upto) → (m.base < m.upto) × (m.upto ≤ upto)
+merged_bounds v d m upto (x, at, (es, contents, db, is), written) by (goes, most) =
+    let made = by v.next_block x es contents db is in
+    let base : m.base ≡ d.plan.base = made.base ∙ sym (ap (λ (p : Planning). p.base) is.plan) in
+    let to : m.upto ≡ d.plan.upto = made.upto ∙ sym (ap (λ (p : Planning). p.upto) is.plan) in
+    (omega (arith, goes, base, to), omega (arith, most, to))
+
+-- ---- of a history
+
+-- what is merged are the history's next transactions, up to where the draft goes
+pub merged_next : (s : Book) (h : List Entry) (upto : ℕ) (d : Drafted) (m : Merging) → IsDraftedFrom (Ok d) s h upto → Merges d m → IsNextOf s h m
+merged_next s h upto d m (x, contents, at, is) by =
+    let next = s.versions.versions.next_block in
+    let es = round_of (between h x.n upto) in
+    let made = by next x es contents (first h x.n) is in
+    let same : between h x.n m.upto ≡ es = ap (between h x.n) made.upto ∙ between_round h x.n upto in
+    (x, contents, at, subst (λ (l : List Entry). IsMerged next x l contents (first h x.n) m) (sym same) made)

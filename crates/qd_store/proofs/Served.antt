@@ -143,7 +143,7 @@ module _ (law : MergingStands) (next : ℕ) (x : Version) (es : List Entry) (con
   followed follows = (
       let few : x.n + length es ≤ 2 ^ 30 = follows.room in
       let room : (x.n + length es) * BLOCKS_PER_TRANSACTION < 2 ^ 64 = omega (arith, few) in
-      law contents written split x.n (manifest_in next x.shape) db es follows.manifest follows.stands follows.lawful room follows.few
+      law contents written split x.n (manifest_in next x.shape) db es follows.manifest follows.stands follows.lawful follows.keys room follows.few
       )
 
   plan_served : MayFollow next x es contents db → AreOldsFor written split x.shape (plan_of written split next x es).tables (old_read contents written split x.shape (plan_of written split next x es).tables)

@@ -205,7 +205,7 @@ module _ {T E : Type 0} (result : Result T E) (old mid new : Book) (before betwe
   ready_here : (e : Entry) → Own mid.sequence.schemas e → IsPrepared mid.sequence.schemas e p → Told before after (Commits result old new (Own old.sequence.schemas))
   ready_here e own ready =
       first_told result (λ x. x ≡ e) (Own old.sequence.schemas) (λ x is. own_here e x own is) old mid new clean versions_same before between after stands
-      (told e (subst (λ (l : List ℕ). SpellsEntry l e) (sym bytes_are) ready.bytes) (record { changes = ready.changes; cells = ready.cells }) ready.left)
+      (told e (subst (λ (l : List ℕ). SpellsEntry l e) (sym bytes_are) ready.bytes) (record { changes = ready.changes; cells = ready.cells; alone = ready.alone }) ready.left)
 
   pub ready_told : (schemas : List Schema) → schemas ≡ mid.sequence.schemas → (e : Entry) × Own schemas e × IsPrepared schemas e p
       → Told before after (Commits result old new (Own old.sequence.schemas))

@@ -1,5 +1,5 @@
 -- Where a draft finds damage, whatever else the volume holds.
-use Rattle.std.specs.Prelude.{◌≡◌, ◌⊎◌, ℕ, List, [], ◌∷◌, map, Some, Result, Ok, Err, slice_get, slice_range}
+use Rattle.std.specs.Prelude.{◌≡◌, ◌⊎◌, ℕ, ◌<◌, List, [], ◌∷◌, length, map, take, Some, Result, Ok, Err, slice_get, slice_range}
 use Rattle.qd_base.specs.declared.op.Entry.{Entry}
 use Rattle.qd_base.specs.declared.part.Part.{Part}
 use Rattle.qd_base.specs.declared.part.WalRef.{WalRef}
@@ -25,6 +25,7 @@ use Rattle.qd_manifest.specs.Spelling.{schemas_in}
 use Rattle.qd_sequencer.specs.Histories.{AreSpelled}
 use Rattle.qd_sequencer.specs.Reading.{BreaksOff}
 use Rattle.qd_volume.specs.Disk.{Image}
+use Rattle.qd_store.specs.Drafts.{round_of}
 use Rattle.qd_store.specs.Grown.{rows_written}
 use Rattle.qd_store.specs.Stores.{Book}
 
@@ -64,12 +65,20 @@ LosesBlock split (late ∷ more) shape image file at =
 
 -- ---- drafts
 
+-- The transactions of the round at some references: those are read from the first one on until the round is known, which is where one
+-- behind it is read, or all are.
+pub record IsRoundAt (refs : List WalRef) (es : List Entry) (image : Image) : Type 0 where
+  pub read : List Entry
+  pub spelled : AreSpelled (take (length read) refs) read image
+  pub round : es ≡ round_of read
+  pub known : (length es < length read) ⊎ (length read ≡ length refs)
+
 -- The damage that a draft over a version finds, in the order in which it is looked for: of the transactions at the references: the
--- first of them that is not spelled, or not lawful over the schemas before it; of the blocks of the parts that they are merged into, by
--- how many rows the files of the version's blocks hold.
+-- first of them that is not spelled, or not lawful over the schemas before it; of the blocks of the parts that those of the round are
+-- merged into, by how many rows the files of the version's blocks hold. What is damaged behind the round isn't looked for.
 pub data IsDamagedOver (written : List (List ℕ)) (split : ℕ) (x : Version) (refs : List WalRef) (image : Image) : (file at : ℕ) → Type 0 where
   InEntries : (file at : ℕ) → BreaksOff refs (schemas_in x.shape) image file at → IsDamagedOver written split x refs image file at
-  InBlocks : (es : List Entry) (file at : ℕ) → AreSpelled refs es image → LawfulFrom (schemas_in x.shape) es
+  InBlocks : (es : List Entry) (file at : ℕ) → IsRoundAt refs es image → LawfulFrom (schemas_in x.shape) es
       → LosesBlock split (all_late 0 written split x.shape (map with_batch (arrivals (schemas_in x.shape) es))) x.shape image file at → IsDamagedOver written split x refs image file at
 
 -- that of a draft of the transactions behind a store's current version, up to a number

@@ -1,10 +1,12 @@
 -- Drafts: what becomes of transactions that are merged into the current version, and how that follows a history.
-use Rattle.std.specs.Prelude.{◌≡◌, ℕ, ◌+◌, ◌^◌, ◌<◌, ◌≤◌, List, All, Some, Result, Ok, Err, length, map, take, drop}
+use Rattle.std.specs.Prelude.{◌≡◌, ℕ, ◌+◌, ◌^◌, ◌<◌, ◌≤◌, Bool, not, List, [], ◌∷◌, All, Some, Result, Ok, Err, length, map, take, drop}
 use Rattle.std.specs.Arc.{arc_value}
+use Rattle.std.specs.List.{list_any, take_while}
 use Rattle.qd_base.specs.declared.op.Entry.{Entry}
 use Rattle.qd_base.specs.Database.{Database, schemas_of}
 use Rattle.qd_base.specs.Lawful.{LawfulFrom}
 use Rattle.qd_base.specs.Replay.{first, replay}
+use Rattle.qd_base.specs.Schemas.{HasNoSetKeys, sets_keys}
 use Rattle.qd_block.specs.Blocks.{Block}
 use Rattle.qd_catalog.specs.declared.version.Version.{Version}
 use Rattle.qd_catalog.specs.Versions.{Versions, version_at}
@@ -40,12 +42,30 @@ pub record Merging : Type 0 where
   pub blocks : List NewBlock
   pub grown : List GrownBlock
 
+-- ---- rounds
+
+-- whether a transaction sets keys: whether any of its changes does
+abbrev pub sets_keys_in : Entry → Bool
+sets_keys_in e = list_any sets_keys e.ops
+
+-- the transactions before the first one that sets keys
+abbrev pub before_keys : List Entry → List Entry
+before_keys es = take_while (λ e. not (sets_keys_in e)) es
+
+-- What one draft takes of transactions: the first one, and those behind it before the next one that sets keys.
+abbrev pub round_of : List Entry → List Entry
+round_of [] = []
+round_of (e ∷ es) = e ∷ before_keys es
+
+-- ---- drafts of some transactions
+
 -- Transactions may follow a version: it has a manifest, and over blocks by their numbers it stands for a database that they go on
--- with lawfully; and there is room. `next` is above the numbers of all blocks so far.
+-- with lawfully; none but the first sets keys; and there is room. `next` is above the numbers of all blocks so far.
 pub record MayFollow (next : ℕ) (x : Version) (es : List Entry) (contents : ℕ → Block) (db : Database) : Type 0 where
   pub manifest : IsManifest x.n (manifest_in next x.shape)
   pub stands : StandsFor contents x.shape db
   pub lawful : LawfulFrom (schemas_of db) es
+  pub keys : HasNoSetKeys (drop 1 es)
   pub some : 0 < length es
   pub room : x.n + length es ≤ 2 ^ 30
   pub few : All (λ t. length t.rows < 2 ^ 64) (replay db es)
@@ -113,9 +133,11 @@ IsMergedOver v m = (x : Version) × (version_at v v.current ≡ Some x) × IsMer
 abbrev pub between : List Entry → ℕ → ℕ → List Entry
 between h from upto = drop from (take upto h)
 
--- The transactions of a history behind the current version, up to a number, are drafted. What the files hold is never damaged.
+-- The round of the transactions of a history behind the current version, up to a number, is drafted. What the files hold is never
+-- damaged.
 abbrev pub IsDraftedFrom : Result Drafted LogFault → Book → List Entry → ℕ → Type 0
-IsDraftedFrom (Ok d) s h upto = (x : Version) × (contents : ℕ → Block) × (version_at s.versions.versions s.versions.versions.current ≡ Some x) × IsDraft s.versions.versions.next_block x (between h x.n upto) contents (first h x.n) d
+IsDraftedFrom (Ok d) s h upto = (x : Version) × (contents : ℕ → Block) × (version_at s.versions.versions s.versions.versions.current ≡ Some x)
+    × IsDraft s.versions.versions.next_block x (round_of (between h x.n upto)) contents (first h x.n) d
 IsDraftedFrom (Err (fault.Damaged file at)) s h upto = ⊥
 IsDraftedFrom (Err fault.Vol) s h upto = Unit {0}
 IsDraftedFrom (Err fault.Memory) s h upto = Unit {0}

@@ -11,18 +11,18 @@ ghost use Rattle.qd_durable.specs.Faults.{CountsVol};
 ghost use Rattle.qd_manifest.specs.declared.shape.TableParts.{TableParts};
 ghost use Rattle.qd_seq.specs.Layout.{AreInSegments};
 ghost use Rattle.qd_store.specs.Damage.{IsDraftDamage, IsPartRead, IsThere};
-ghost use Rattle.qd_store.specs.Drafting.{AreArrived, ArePartsRead, AreRead, AreSomeTaken, AreTaken, AreTimesRead, IsArrived, IsArrivedFrom, IsReadOf};
-ghost use Rattle.qd_store.specs.Drafts.{IsDraftOver, IsDraftedFrom};
+ghost use Rattle.qd_store.specs.Drafting.{AreArrived, ArePartsRead, AreRead, AreSomeTaken, AreTaken, AreTimesRead, IsArrived, IsArrivedFrom, IsReadOf, IsRoundTaken, IsSomeRound, IsTaken};
+ghost use Rattle.qd_store.specs.Drafts.{IsDraftOver, IsDraftedFrom, sets_keys_in};
 ghost use Rattle.qd_store.specs.Grown.{rows_written, written_to};
 ghost use Rattle.qd_store.specs.Stores.{IsStore};
 ghost use Rattle.qd_txnfile.specs.Versions.{Version};
 ghost use Rattle.qd_versions.specs.Reading.{IsPartAt};
 ghost use Rattle.qd_volume.specs.Disk.{reads_of};
-ghost use Rattle.std.specs.Prelude.{◌≡◌, ◌+◌, ◌^◌, ◌<◌, ◌≤◌, [], ◌∷◌, ℕ, List, Some, Err, length, map, IfOk, IfSome};
+ghost use Rattle.std.specs.Prelude.{◌≡◌, ◌+◌, ◌^◌, ◌<◌, ◌≤◌, ℕ, List, Some, Err, length, map, IfOk, IfSome};
 
 use crate::book::Book;
 use qd_apply::{Draft as Arrivals, Late, OldPart, Plan, rows_are_few};
-use qd_base::{Memory, Part, WalRef};
+use qd_base::{Entry, Memory, Part, WalRef};
 use qd_column::Column;
 use qd_column_files::laws::one_block_is_held;
 use qd_column_format::laws::one_column_is_spelled;
@@ -52,7 +52,8 @@ impl Model for Draft {
 }
 
 impl Book {
-    /// Drafts the transactions behind the current version, up to a number.
+    /// Drafts a round of the transactions behind the current version, up to a number: the first one, and those behind it before the
+    /// next one that sets keys.
     pub(crate) fn draft<V: Volume>(
         &self,
         alloc: Global,
@@ -62,7 +63,7 @@ impl Book {
         requires more { (n : ℕ) → current_n self.now.versions.versions ≡ Some n → n < upto }
         requires few { upto ≤ length self.now.sequence.refs }
         ensures over { IfOk result (λ d. IsDraftOver self.now.versions.versions d) }
-        ensures upto { IfOk result (λ d. d.plan.upto ≡ upto) }
+        ensures upto { IfOk result (λ d. (d.plan.base < d.plan.upto) × (d.plan.upto ≤ upto)) }
         ensures split { IfOk result (λ d. d.plan.split_rows ≡ self.now.limits.split_rows) }
         ensures told { IfSome (V.storage volume.old).disk (λ disk. (h : List Entry) (next : Version) → IsStore self.now h next disk → IsDraftedFrom result self.now h upto) }
         ensures damaged { IfSome (V.storage volume.old).disk (λ disk. (file at : ℕ) → result ≡ Err (damage.Damaged file at) → IsDraftDamage self.now upto (reads_of disk) file at) }
@@ -80,7 +81,7 @@ impl Book {
         Ok(Draft { plan, olds })
     }
 
-    /// Reads the transactions behind the current version, up to a number.
+    /// Reads a round of the transactions behind the current version, up to a number.
     fn arrived<V: Volume>(
         &self,
         alloc: Global,
@@ -102,7 +103,7 @@ impl Book {
         let shape = self.versions.shape_of(row);
         let draft = Arrivals::begin(alloc, n, self.versions.next_block(), shape)?;
         let refs = &self.sequencer.refs()[n as usize..upto as usize];
-        take_all(alloc, volume, refs, draft)
+        take_round(alloc, volume, refs, draft)
     }
 
     /// Gives how many rows the files of the blocks of the current version's parts hold.
@@ -224,8 +225,30 @@ impl Book {
     }
 }
 
-/// Takes the transactions at some places, one behind another.
-fn take_all<V: Volume>(
+/// Takes a round of the transactions at some places: the first one, and those behind it before the next one that sets keys. That one
+/// is read here to know it, and read again by the next round.
+fn take_round<V: Volume>(
+    alloc: Global,
+    volume: &mut V,
+    refs: &[WalRef],
+    draft: Arrivals,
+) -> Result<Arrivals, LogFault>
+    requires segments { AreInSegments refs.now }
+    requires some { 0 < length refs.now }
+    requires room { draft.upto + length refs.now < 2 ^ 64 }
+    ensures taken { IfOk result (λ d. IsSomeRound (length refs.now) draft d) }
+    ensures told { IfSome (V.storage volume.old).disk (λ disk. IsRoundTaken result refs.now draft (reads_of disk)) }
+    ensures stays { (V.storage volume.new).disk ≡ (V.storage volume.old).disk }
+    ensures counted { CountsVol (V.storage volume.old).faults (V.storage volume.new).faults result }
+{
+    let first = refs[0];
+    let entry = read_entry(alloc, volume, first)?;
+    let draft = take_entry(alloc, first, &entry, draft)?;
+    take_before_keys(alloc, volume, &refs[1..], draft)
+}
+
+/// Takes the transactions at some places, one behind another, before the first one that sets keys.
+fn take_before_keys<V: Volume>(
     alloc: Global,
     volume: &mut V,
     refs: &[WalRef],
@@ -240,27 +263,34 @@ fn take_all<V: Volume>(
 {
     let mut draft = draft;
     for at in refs {
-        draft = take_next(alloc, volume, *at, draft)?;
+        let entry = read_entry(alloc, volume, *at)?;
+        if sets_keys(&entry) {
+            return Ok(draft);
+        }
+        draft = take_entry(alloc, *at, &entry, draft)?;
     }
     Ok(draft)
 }
 
-/// Takes the transaction at a place.
-fn take_next<V: Volume>(
+/// Says whether a transaction sets keys.
+fn sets_keys(entry: &Entry) -> bool
+    ensures keys { result ≡ sets_keys_in entry.now }
+{
+    entry.ops.as_slice().iter().any(|op| op.sets_keys())
+}
+
+/// Takes the transaction that was read at a place.
+fn take_entry(
     alloc: Global,
-    volume: &mut V,
     at: WalRef,
+    entry: &Entry,
     draft: Arrivals,
 ) -> Result<Arrivals, LogFault>
     requires segment { at.segment < 2 ^ 24 }
     requires room { draft.upto + 1 < 2 ^ 64 }
-    ensures taken { IfOk result (λ d. AreSomeTaken 1 draft d) }
-    ensures told { IfSome (V.storage volume.old).disk (λ disk. AreTaken result (at ∷ []) draft (reads_of disk)) }
-    ensures stays { (V.storage volume.new).disk ≡ (V.storage volume.old).disk }
-    ensures counted { CountsVol (V.storage volume.old).faults (V.storage volume.new).faults result }
+    ensures taken { IsTaken result at draft entry.now }
 {
-    let entry = read_entry(alloc, volume, at)?;
-    match draft.take(alloc, &entry)? {
+    match draft.take(alloc, entry)? {
         Some(next) => Ok(next),
         None => Err(LogFault::Damaged {
             file: segment_file(at.wal, at.segment),

@@ -181,6 +181,8 @@ impl Book {
         ensures full { (result ≡ Err fault.NoRow) ↔ ((current_n self.old.versions.versions ≡ Some merged.now.base) × IsFull self.old.versions.versions) }
         ensures damaged { IfSome (V.storage volume.old).disk (λ disk. (file at : ℕ) → result ≡ Err (fault.Damaged file at) → IsGrownLost self.old.versions.versions merged.now.grown file at (reads_of disk)) }
         ensures unwritten { (file at : ℕ) → result ≡ Err (fault.Damaged file at) → ((V.storage volume.new).disk ≡ (V.storage volume.old).disk) × (self.new ≡ self.old) }
+        ensures unmoved { (n : ℕ) → result ≡ Err (fault.Moved n) →
+            ((V.storage volume.new).disk ≡ (V.storage volume.old).disk) × (self.new ≡ self.old) }
         ensures told { Told (V.storage volume.old).disk (V.storage volume.new).disk (PublishesMerged result self.old self.new merged.now) }
         ensures counted { CountsPublish (V.storage volume.old).faults (V.storage volume.new).faults result }
     {

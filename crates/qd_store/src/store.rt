@@ -220,22 +220,26 @@ impl<V: Volume> Store<V> {
         self.book.end_writer(writer);
     }
 
-    /// Drafts the transactions behind the current version, up to a number: reads them and plans their merge, and reads of the parts that
-    /// rows are merged into, no others, the designated times, and the other columns from the first row on that is written anew: of
-    /// the rows before all late ones nothing else is read where so many stay as they lie as the limits ask. It costs two calls of
-    /// the volume for each transaction and each column of such a part, and up to three more for one of texts, and time and memory
-    /// linear in what it reads, n log n where rows are late, and in the lists of parts.
+    /// Drafts transactions behind the current version, up to a number: the first one, and those behind it before the next one that
+    /// sets keys, since keys hold for rows that come after. So a draft may give fewer than were asked for, and one at least; the next
+    /// one goes on behind these.
+    ///
+    /// It reads them and plans their merge, and reads of the parts that rows are merged into, no others, the designated times, and the
+    /// other columns from the first row on that is written anew: of the rows before all late ones nothing else is read where so many
+    /// stay as they lie as the limits ask. It costs two calls of the volume for each transaction that it reads, which are those that it
+    /// gives and the one that sets keys behind them, and for each column of such a part, and up to three more for one of texts, and
+    /// time and memory linear in what it reads, n log n where rows are late, and in the lists of parts.
     ///
     /// The store and what its volume holds stay as they are. [`LogFault::Damaged`] says what breaks first: the first of the transactions
     /// that isn't spelled, or not lawful behind those before it; or the first block of those that are read whose files were found to
     /// break their layout, or not to be the part's. It comes only where that file is damaged at that byte, and never where `IsStore`
-    /// holds; damage in front of the rows that are read may go unseen. Behind [`LogFault::Vol`] and [`LogFault::Memory`] the call may
-    /// be made again.
+    /// holds; damage in front of the rows that are read, or behind the transactions, may go unseen. Behind [`LogFault::Vol`] and
+    /// [`LogFault::Memory`] the call may be made again.
     pub fn draft(&mut self, alloc: Global, upto: u64) -> Result<Draft, LogFault>
         requires more { (n : ℕ) → current_n self.old.store.versions.versions ≡ Some n → n < upto }
         requires few { upto ≤ length self.old.store.sequence.refs }
         ensures over { IfOk result (λ d. IsDraftOver self.old.store.versions.versions d) }
-        ensures upto { IfOk result (λ d. d.plan.upto ≡ upto) }
+        ensures upto { IfOk result (λ d. (d.plan.base < d.plan.upto) × (d.plan.upto ≤ upto)) }
         ensures split { IfOk result (λ d. d.plan.split_rows ≡ self.old.store.limits.split_rows) }
         ensures told { IfSome self.old.storage.disk (λ disk. (h : List Entry) (next : Version) → IsStore self.old.store h next disk → IsDraftedFrom result self.old.store h upto) }
         ensures damaged { IfSome self.old.storage.disk (λ disk. (file at : ℕ) → result ≡ Err (damage.Damaged file at) → IsDraftDamage self.old.store upto (reads_of disk) file at) }
@@ -255,16 +259,16 @@ impl<V: Volume> Store<V> {
     }
 
     /// Publishes a merge, whose transactions are the next ones of the history, and gives the row of its version: it is live and the
-    /// current one then. It reads what the rows that go behind those of parts go on with, writes the files of the new blocks and those
-    /// rows, two writes and two syncs for each file, and then the version, and costs time and memory linear in them and in the lists
-    /// of parts.
+    /// current one then. It reads what the rows that go behind those of parts go on with, where that isn't kept since these grew last;
+    /// it writes the files of the new blocks and those rows, two writes and two syncs for each file, and then the version, and costs
+    /// time and memory linear in them, in the texts that SYMBOL columns of blocks that grow have named, and in the lists of parts.
     ///
     /// At each moment a crash leaves a whole store with the history, and the version that it might have left before, or the new one;
     /// after an `Ok` only that. After an `Err` the versions are as before. [`PublishFault::Moved`] comes exactly where the current
-    /// version isn't of as many transactions as the one that was merged into, and then [`PublishFault::NoRow`], exactly where all 64
-    /// rows are live. [`PublishFault::Damaged`] comes only where the files of a block that rows are put behind are damaged at that byte,
-    /// and never where `IsStore` holds; what the volume holds is as before then. Behind [`PublishFault::Vol`] and
-    /// [`PublishFault::Memory`] the call may be made again.
+    /// version isn't of as many transactions as the one that was merged into; the store and what its volume holds are as before then.
+    /// Else [`PublishFault::NoRow`] comes exactly where all 64 rows are live. [`PublishFault::Damaged`] comes only where the files of a
+    /// block that rows are put behind are damaged at that byte, and never where `IsStore` holds; the store and what its volume holds
+    /// are as before then. Behind [`PublishFault::Vol`] and [`PublishFault::Memory`] the call may be made again.
     pub fn publish(&mut self, alloc: Global, merged: &Merged) -> Result<u8, PublishFault>
         requires few { merged.now.upto ≤ length self.old.store.sequence.refs }
         requires over { current_n self.old.store.versions.versions ≡ Some merged.now.base → IsMergedOver self.old.store.versions.versions merged.now }
@@ -276,6 +280,8 @@ impl<V: Volume> Store<V> {
         ensures full { (result ≡ Err fault.NoRow) ↔ ((current_n self.old.store.versions.versions ≡ Some merged.now.base) × IsFull self.old.store.versions.versions) }
         ensures damaged { IfSome self.old.storage.disk (λ disk. (file at : ℕ) → result ≡ Err (fault.Damaged file at) → IsGrownLost self.old.store.versions.versions merged.now.grown file at (reads_of disk)) }
         ensures unwritten { (file at : ℕ) → result ≡ Err (fault.Damaged file at) → (self.new.storage.disk ≡ self.old.storage.disk) × (self.new.store ≡ self.old.store) }
+        ensures unmoved { (n : ℕ) → result ≡ Err (fault.Moved n) →
+            (self.new.storage.disk ≡ self.old.storage.disk) × (self.new.store ≡ self.old.store) }
         ensures told { Told self.old.storage.disk self.new.storage.disk (PublishesMerged result self.old.store self.new.store merged.now) }
         ensures counted { CountsPublish self.old.storage.faults self.new.storage.faults result }
     {

@@ -15,11 +15,11 @@ use qd_volume::Volume;
 use std::alloc::Global;
 use std::marker::Model;
 
-/// Of how many blocks it is kept at most.
-pub(crate) const MAX_KEPT: usize = 16;
+/// Of how many blocks it is kept at most what rows behind theirs go on with.
+pub const MAX_KEPT: usize = 16;
 
 /// How many texts the columns of such a block have named at most.
-pub(crate) const MAX_KEPT_TEXTS: u64 = 65_536;
+pub const MAX_KEPT_TEXTS: u64 = 65_536;
 
 /// What rows behind those of a block go on with.
 #[derive(Drop)]

@@ -20,6 +20,7 @@ mod undoing;
 mod writing;
 
 pub use fault::PublishFault;
+pub use keeping::{MAX_KEPT, MAX_KEPT_TEXTS};
 pub use laws::{
     damaged_gives_no_store, other_files_leave_tails, other_files_leave_versions,
     what_is_known_is_given,

@@ -55,11 +55,14 @@ pub const MAX_SHOWN: u64 = 1_073_741_824;
 /// The versions of a store: the durable root, and the catalogue of live versions with their blocks. It must be
 /// the only one that writes to the version files of its volume, and to the files of blocks.
 ///
-/// It keeps what rows behind those of 16 blocks go on with, of those that grew last, where they have named 65,536 texts at most: a
-/// publication that goes on behind them reads nothing.
+/// It keeps what rows behind those of the blocks that grew last go on with, of [`MAX_KEPT`] of them at most, which have
+/// named [`MAX_KEPT_TEXTS`] texts at most: a publication that puts rows behind those of such a block doesn't read it.
 ///
-/// Contracts see the root, the catalogue, and what is kept. What that says of a told volume are the definitions `IsRooted` and
-/// `KeepsTails`.
+/// Contracts see the root, the catalogue, and what is kept. What that says of a told volume are the definitions
+/// `IsRooted` and `KeepsTails`.
+///
+/// [`MAX_KEPT`]: crate::MAX_KEPT
+/// [`MAX_KEPT_TEXTS`]: crate::MAX_KEPT_TEXTS
 #[derive(Drop)]
 pub struct VersionStore {
     root: TxnFile,
@@ -184,11 +187,12 @@ impl VersionStore {
     /// Publishes a version of `n` transactions, with the blocks that are new in it and the rows that go behind
     /// those of the current version's parts, and gives its row: it is live and current then.
     ///
-    /// It reads what the rows go on with first, as [`qd_column_files::read_tail`] says, or copies it, where it was kept since they grew last, in
-    /// time and memory linear in the texts that their SYMBOL columns have named; and takes all memory of its own, some 100
-    /// bytes a new block, and time and memory linear in the shape. A call of the volume follows for what a failed
-    /// publication left, two for each file of a new block, for whose bytes memory is taken a column at a time,
-    /// three for each file of a block that grows, and at most seven for the version files.
+    /// It finds what the rows go on with first: it reads that, as [`qd_column_files::read_tail`] says, or copies it where
+    /// it was kept since the block grew last, in time and memory linear in the texts that SYMBOL columns have named.
+    /// Then it takes all memory of its own, some 100 bytes a new block, and time and memory linear in the shape. A call
+    /// of the volume follows for what a failed publication left, two for each file of a new block, for whose bytes
+    /// memory is taken a column at a time, three for each file of a block that grows, and at most seven for the version
+    /// files.
     ///
     /// At every moment a crash leaves what it might have left before, or the new version with all of its new
     /// blocks and the rows behind older ones; after an `Ok` only that. Blocks that grow stay as they were for older

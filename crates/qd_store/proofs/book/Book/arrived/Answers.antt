@@ -11,8 +11,8 @@ use Rattle.qd_store.proofs.Arrived.{arrived_over, arrived_read, arrived_told, nu
 use Rattle.qd_store.proofs.Committing.{the_current}
 use Rattle.qd_store.proofs.book.Book.arrived.Goals as goal
 
-pub take_all-requires-clause-segments : goal.take_all-requires-clause-segments
-take_all-requires-clause-segments g c = All-take (λ (at : WalRef). at.segment < 2 ^ 24) _ _ (All-drop (λ (at : WalRef). at.segment < 2 ^ 24) _ _ c.refs.ensures.segments)
+pub take_round-requires-clause-segments : goal.take_round-requires-clause-segments
+take_round-requires-clause-segments g c = All-take (λ (at : WalRef). at.segment < 2 ^ 24) _ _ (All-drop (λ (at : WalRef). at.segment < 2 ^ 24) _ _ c.refs.ensures.segments)
 
 pub returns-clause-arrived : goal.returns-clause-arrived
 returns-clause-arrived g c =
@@ -22,12 +22,12 @@ returns-clause-arrived g c =
     let here : version_at c.args.self.now.versions.versions c.args.self.now.versions.versions.current ≡ Some x.0 = subst (λ (s : Book). version_at s.versions.versions s.versions.versions.current ≡ Some x.0) c.self.view_is x.1 in
     let below = c.requires.more x.0.n (ap n_of here) in
     let number = number_here v c.current-row.result c.current-row.ensures.row x.0 x.1 c.n_of.result c.unwrap_or-n.result c.n_of.ensures.n c.unwrap_or-n.ensures in
-    subst (λ (s : Book). IfOk c.take_all.result (λ d. IsArrived s.versions.versions c.args.upto d)) c.self.view_is
+    subst (λ (s : Book). IfOk c.take_round.result (λ d. IsArrived s.versions.versions c.args.upto d)) c.self.view_is
     (arrived_over x.0 c.unwrap_or-n.result c.shape_of-shape.result.now number
     (tables_here v c.current-row.result c.current-row.ensures.row x.0 x.1 c.shape_of-shape.result.now c.shape_of-shape.ensures.shape)
-    v.next_block c.next_block.result c.in_ok-draft.draft c.next_block.ensures.next c.in_ok-draft.ensures.begun c.take_all.result c.refs.result.now c.self.inside.sequencer.refs c.args.upto c.refs.ensures.list
-    (omega (arith, c.requires.few, ap (λ (s : Book). length s.sequence.refs) c.self.view_is)) (omega (arith, below))
-    v refl x.1 c.take_all.ensures.taken)
+    v.next_block c.next_block.result c.in_ok-draft.draft c.next_block.ensures.next c.in_ok-draft.ensures.begun c.take_round.result c.refs.result.now c.self.inside.sequencer.refs c.args.upto c.refs.ensures.list
+    (omega (arith, c.requires.few, ap (λ (s : Book). length s.sequence.refs) c.self.view_is)) below
+    v refl x.1 c.take_round.ensures.taken)
 
 pub returns-clause-told : goal.returns-clause-told
 returns-clause-told g c =
@@ -38,12 +38,12 @@ returns-clause-told g c =
     let below = c.requires.more x.0.n (ap n_of here) in
     let number = number_here v c.current-row.result c.current-row.ensures.row x.0 x.1 c.n_of.result c.unwrap_or-n.result c.n_of.ensures.n c.unwrap_or-n.ensures in
     let old = (g.V.Volume.storage c.args.volume.now).disk in
-    subst (λ (s : Book). IfSome old (λ disk. (h : List Entry) (next : Version) → IsStore s h next disk → IsArrivedFrom c.take_all.result s h c.args.upto)) c.self.view_is
+    subst (λ (s : Book). IfSome old (λ disk. (h : List Entry) (next : Version) → IsStore s h next disk → IsArrivedFrom c.take_round.result s h c.args.upto)) c.self.view_is
     (arrived_told x.0 c.unwrap_or-n.result c.shape_of-shape.result.now number
     (tables_here v c.current-row.result c.current-row.ensures.row x.0 x.1 c.shape_of-shape.result.now c.shape_of-shape.ensures.shape)
-    v.next_block c.next_block.result c.in_ok-draft.draft c.next_block.ensures.next c.in_ok-draft.ensures.begun c.take_all.result c.refs.result.now c.self.inside.sequencer.refs c.args.upto c.refs.ensures.list
-    (omega (arith, c.requires.few, ap (λ (s : Book). length s.sequence.refs) c.self.view_is)) (omega (arith, below))
-    inside refl refl x.1 c.one_entry_is_read.ensures old c.take_all.ensures.told)
+    v.next_block c.next_block.result c.in_ok-draft.draft c.next_block.ensures.next c.in_ok-draft.ensures.begun c.take_round.result c.refs.result.now c.self.inside.sequencer.refs c.args.upto c.refs.ensures.list
+    (omega (arith, c.requires.few, ap (λ (s : Book). length s.sequence.refs) c.self.view_is)) below
+    inside refl refl x.1 c.one_entry_is_read.ensures old c.take_round.ensures.told)
 
 pub returns-clause-read : goal.returns-clause-read
 returns-clause-read g c =
@@ -54,9 +54,9 @@ returns-clause-read g c =
     let below = c.requires.more x.0.n (ap n_of here) in
     let number = number_here v c.current-row.result c.current-row.ensures.row x.0 x.1 c.n_of.result c.unwrap_or-n.result c.n_of.ensures.n c.unwrap_or-n.ensures in
     let old = (g.V.Volume.storage c.args.volume.now).disk in
-    subst (λ (s : Book). IfSome old (λ disk. AreArrived c.take_all.result s c.args.upto (reads_of disk))) c.self.view_is
+    subst (λ (s : Book). IfSome old (λ disk. AreArrived c.take_round.result s c.args.upto (reads_of disk))) c.self.view_is
     (arrived_read x.0 c.unwrap_or-n.result c.shape_of-shape.result.now number
     (tables_here v c.current-row.result c.current-row.ensures.row x.0 x.1 c.shape_of-shape.result.now c.shape_of-shape.ensures.shape)
-    v.next_block c.next_block.result c.in_ok-draft.draft c.next_block.ensures.next c.in_ok-draft.ensures.begun c.take_all.result c.refs.result.now c.self.inside.sequencer.refs c.args.upto c.refs.ensures.list
-    (omega (arith, c.requires.few, ap (λ (s : Book). length s.sequence.refs) c.self.view_is)) (omega (arith, below))
-    inside refl refl x.1 old c.take_all.ensures.told)
+    v.next_block c.next_block.result c.in_ok-draft.draft c.next_block.ensures.next c.in_ok-draft.ensures.begun c.take_round.result c.refs.result.now c.self.inside.sequencer.refs c.args.upto c.refs.ensures.list
+    (omega (arith, c.requires.few, ap (λ (s : Book). length s.sequence.refs) c.self.view_is)) below
+    inside refl refl x.1 old c.take_round.ensures.told)

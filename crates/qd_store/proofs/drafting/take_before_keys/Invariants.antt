@@ -1,7 +1,7 @@
 use Rattle.std.proofs.Common.{◌≡◌, ◌+◌, drop, Some}
 use Rattle.qd_volume.specs.Disk.{Disk, reads_of}
 use Rattle.qd_store.proofs.Taking.{Goes, Leads}
-use Rattle.qd_store.proofs.drafting.take_all.Given as goal
+use Rattle.qd_store.proofs.drafting.take_before_keys.Given as goal
 
 abbrev pub invariant-loop-at : goal.invariant-loop-at
 invariant-loop-at g l = record {

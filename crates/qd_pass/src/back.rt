@@ -96,7 +96,7 @@ impl<'r, R: Wait, V: Volume + Drop> PassBack<'r, R, V> {
         ensures fixed { table_in self.new ≡ table_in self.old }
     {
         match stmt {
-            Stmt::Create(_) | Stmt::Insert(_) => self.write(alloc, stmt),
+            Stmt::Create(_) | Stmt::Insert(_) | Stmt::Alter(_) => self.write(alloc, stmt),
             Stmt::Query(_) | Stmt::Show(..) => self.answer(alloc, stmt),
         }
     }
@@ -157,9 +157,9 @@ impl<R: Wait, V: Volume + Drop> Backend for PassBack<'_, R, V> {
         reply_of(done)
     }
 
-    /// Commits CREATE TABLE and INSERT in one hold of the lock, and answers a query and SHOW PARTITIONS over the current version, which
-    /// is pinned without the lock meanwhile. A block is read in a hold of its own, and kept while no newer version is shown and the
-    /// session itself doesn't write or apply.
+    /// Commits CREATE TABLE, INSERT and ALTER TABLE in one hold of the lock, and answers a query and SHOW PARTITIONS over the current
+    /// version, which is pinned without the lock meanwhile. A block is read in a hold of its own, and kept while no newer version is
+    /// shown and the session itself doesn't write or apply.
     fn sql(&mut self, alloc: Global, text: &Txt) -> Result<Reply, Memory>
         requires short { length text.now ≤ MAX_QUERY_BYTES }
         ensures handled { Handles AllowedShared (back_shown self.old) (back_shown self.new) 0 (request.Sql text.now) result }

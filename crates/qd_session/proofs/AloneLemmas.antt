@@ -12,7 +12,7 @@ use Rattle.qd_meaning.specs.Write.{write}
 use Rattle.qd_session.specs.Allowed.{SaysBatch}
 use Rattle.qd_session.specs.Legal.{EndsByBye, IsLasting, MayLackClock, MayWantMemory}
 use Rattle.qd_session.specs.Looks.{Extends, IsStill, Look}
-use Rattle.qd_session.specs.Alone.{AllowedAlone, MayLeave, MayPend, SaysOwn}
+use Rattle.qd_session.specs.Alone.{AllowedAlone, MayLeave, MayPend, SaysOwn, StaysApplied}
 use Rattle.qd_session.specs.Timing.{clock_refusal, want_of_memory}
 use Rattle.qd_session.proofs.RuleLemmas.{allowed-ends, allowed-lacks, allowed-lasts, allowed-wants, first-append}
 
@@ -57,8 +57,15 @@ alone-ends = record {
   only_end = λ history before now time asked a. allowed-ends.only_end history before now time asked a.0;
 }
 
+-- where nothing changes, what is applied stays
+still-applied : (asked : Request) (before now : Look) → IsStill before now → StaysApplied asked before.known now.known
+still-applied request.Apply before now still = let same = still.known in omega (arith, same)
+still-applied (request.Write text) before now still = still.known
+still-applied (request.Sql text) before now still = still.known
+still-applied request.End before now still = still.known
+
 pub alone-wants : MayWantMemory AllowedAlone
-alone-wants history before now time asked on still = (allowed-wants history before now time asked on still, still.known, still.sequenced, still-refused history before now time asked _ _ still)
+alone-wants history before now time asked on still = (allowed-wants history before now time asked on still, still-applied asked before now still, still.sequenced, still-refused history before now time asked _ _ still)
 
 pub alone-lacks : MayLackClock AllowedAlone
 alone-lacks history before now time text lacks still risen = (allowed-lacks history before now time text lacks still risen, still.known, still.sequenced, still-refused history before now time (request.Write text) _ _ still)

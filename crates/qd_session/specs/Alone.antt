@@ -1,5 +1,5 @@
 -- The rule of a backend whose one session alone writes and applies.
-use Rattle.std.specs.Prelude.{◌≡◌, ℕ, ◌+◌, ◌⊎◌, List, Option, Some, None, Ok}
+use Rattle.std.specs.Prelude.{◌≡◌, ℕ, ◌+◌, ◌≤◌, ◌⊎◌, List, Option, Some, None, Ok}
 use Rattle.qd_base.specs.Codes.{number_of}
 use Rattle.qd_base.specs.declared.code.Code.TheVariants as code
 use Rattle.qd_base.specs.declared.op.Entry.{Entry}
@@ -16,12 +16,18 @@ use Rattle.qd_session.specs.Asking.{asks_for}
 use Rattle.qd_sql_ast.specs.Kinds.{IsWrite}
 use Rattle.qd_session.specs.Looks.{Look}
 
+-- How many transactions are applied behind a request whose reply doesn't say it: as many as before, or behind an apply that failed no
+-- fewer.
+abbrev pub StaysApplied : Request → (before now : ℕ) → Type 0
+StaysApplied request.Apply before now = before ≤ now
+StaysApplied asked before now = now ≡ before
+
 -- Only an apply changes what is applied, to what its reply says; and a query is over just that.
-abbrev pub IsOfLastApply : (before now : Look) → Reply → Type 0
-IsOfLastApply before now (reply.Applied n) = now.known ≡ n
-IsOfLastApply before now (reply.Rows n table) = (now.known ≡ before.known) × (n ≡ before.known)
-IsOfLastApply before now (reply.QueryRefused n number place) = (now.known ≡ before.known) × (n ≡ before.known)
-IsOfLastApply before now given = now.known ≡ before.known
+abbrev pub IsOfLastApply : (before now : Look) → Request → Reply → Type 0
+IsOfLastApply before now asked (reply.Applied n) = now.known ≡ n
+IsOfLastApply before now asked (reply.Rows n table) = (now.known ≡ before.known) × (n ≡ before.known)
+IsOfLastApply before now asked (reply.QueryRefused n number place) = (now.known ≡ before.known) × (n ≡ before.known)
+IsOfLastApply before now asked given = StaysApplied asked before.known now.known
 
 -- only an acknowledged write is one transaction more
 abbrev pub sequenced_behind : ℕ → Reply → ℕ
@@ -57,4 +63,4 @@ MayPend (Some h) before now time asked given = (e : Entry) → now.pending ≡ S
 -- The rule of the product, and what is exact where one session alone writes and applies.
 abbrev pub AllowedAlone : Option (List Entry) → (before now : Look) → (time : ℕ) → Request → Reply → Type 0
 AllowedAlone history before now time asked given =
-    Allowed history before now time asked given × IsOfLastApply before now given × CountsAlone before now given × MayPend history before now time asked given
+    Allowed history before now time asked given × IsOfLastApply before now asked given × CountsAlone before now given × MayPend history before now time asked given

@@ -6,6 +6,7 @@ use Rattle.atomic_table.specs.Seated.{TableId}
 use Rattle.qd_base.specs.declared.op.Entry.{Entry}
 use Rattle.qd_base.specs.Database.{Database}
 use Rattle.qd_base.specs.Replay.{after, first}
+use Rattle.qd_apply.specs.Drafts.{Planning}
 use Rattle.qd_block.specs.Blocks.{Block}
 use Rattle.qd_catalog.specs.declared.version.Version as catalog
 use Rattle.qd_catalog.specs.Versions.{current_n, n_of}
@@ -19,7 +20,7 @@ use Rattle.qd_score_model.specs.Machine.{AllPresent}
 use Rattle.qd_score_model.specs.Machine as board
 use Rattle.qd_store.specs.declared.fault.PublishFault.{PublishFault}
 use Rattle.qd_store.specs.Calls.{IsPublished}
-use Rattle.qd_store.specs.Drafts.{Drafted, Extends, IsDraftedFrom, IsMerged, IsMergedInto, IsMergedOver, IsNextOf, Merging, between}
+use Rattle.qd_store.specs.Drafts.{Drafted, Extends, IsDraftOver, IsDraftedFrom, IsMerged, IsMergedInto, IsMergedOver, IsNextOf, Merging, between}
 use Rattle.qd_store.specs.declared.fault.PublishFault.TheVariants as publish
 use Rattle.qd_store.specs.Faults.{IsUndamaged}
 use Rattle.qd_store.specs.Merges.{PublishesMerged, next_version}
@@ -27,7 +28,7 @@ use Rattle.qd_store.specs.Owned.{Store}
 use Rattle.qd_store.specs.Stores.{Book, IsStore}
 use Rattle.qd_txnfile.specs.Versions.{Version}
 use Rattle.qd_volume.specs.Disk.{Disk}
-use Rattle.qd_store.proofs.Rounds.{Merges, merged_into, merged_upto}
+use Rattle.qd_store.proofs.Rounds.{Merges, merged_into, merged_next, merged_upto}
 use Rattle.qd_store_backend.specs.Backs.{IsTold, current, n_in}
 use Rattle.qd_store_backend.proofs.Told.{told_of}
 use Rattle.qd_shared.specs.declared.rounds.RoundFault.{RoundFault}
@@ -116,6 +117,28 @@ calls_end now found left c (h, held, may) = (
   },
 )
 
+-- ---- a draft
+
+-- it goes on behind the current version
+pub draft_goes : (s : Book) (d : Drafted) → IsDraftOver s.versions.versions d → d.plan.base < d.plan.upto → n_in (current s) < d.plan.upto
+draft_goes s d (x, at, (es, contents, db, is), written) goes =
+    let base : d.plan.base ≡ n_in (current s) = ap (λ (p : Planning). p.base) is.plan ∙ sym (ap n_in at) in
+    omega (arith, base, goes)
+
+-- one of a desk's transactions up to a number is one of all
+pub drafted_of : (d : Desk) (most upto : ℕ) (draft : Drafted) → IsDraftOver d.owned.store.versions.versions draft → n_in (current d.owned.store) < draft.plan.upto → draft.plan.upto ≤ upto → upto ≤ most
+    → IfSome d.history (λ h. IsDraftedFrom (Ok draft) d.owned.store h upto) → IsDraftOf d most draft
+drafted_of d most upto draft over more few all told = record {
+  over = over;
+  more = more;
+  within = omega (arith, few, all);
+  told = by d.history told;
+}
+  where
+    by : (o : Option (List Entry)) → IfSome o (λ h. IsDraftedFrom (Ok draft) d.owned.store h upto) → IfSome o (λ h. (k : ℕ) × IsDraftedFrom (Ok draft) d.owned.store h k)
+    by None told = tt
+    by (Some h) told = (upto, told)
+
 -- ---- the next of a desk
 
 live_now : (o : Option catalog.Version) (n : ℕ) → n_of o ≡ Some n → (x : catalog.Version) × (o ≡ Some x) × (x.n ≡ n)
@@ -143,12 +166,12 @@ next_here found d m next shown history is x at base = subst (λ (o : Option (Lis
 -- ---- a pass knows a merge
 
 -- of what it has drafted
-pub round_of : (p : Pass) (found left : Desk) (draft : Drafted) (m : Merging) (next upto : ℕ) → (view_of p).noted ≡ versions_in left → (view_of p).seen ≡ items_in left → history_of p ≡ found.history → OnlyCalls found left
-    → IsDraftOf found upto draft → next ≡ found.owned.store.versions.versions.next_block → n_in (current found.owned.store) < upto → upto ≤ length (items_in found) → Merges draft m → IfSome (history_of p) (λ h. length (view_of p).seen ≡ length h) → IsRound p m next
-round_of p found left draft m next upto noted seen history calls d is more few merges count =
+pub round_of : (p : Pass) (found left : Desk) (draft : Drafted) (m : Merging) (next : ℕ) → (view_of p).noted ≡ versions_in left → (view_of p).seen ≡ items_in left → history_of p ≡ found.history → OnlyCalls found left
+    → IsDraftOf found (length (items_in found)) draft → next ≡ found.owned.store.versions.versions.next_block → Merges draft m → IfSome (history_of p) (λ h. length (view_of p).seen ≡ length h) → IsRound p m next
+round_of p found left draft m next noted seen history calls d is merges count =
     let s = found.owned.store in
     let over = merged_into s.versions.versions draft m d.over merges in
-    let number : m.upto ≡ upto = merged_upto s.versions.versions draft m upto d.over merges d.number in
+    let number : m.upto ≡ draft.plan.upto = merged_upto s.versions.versions draft m draft.plan.upto d.over merges refl in
     let x = over.0 in
     let at : current s ≡ Some x = over.1 in
     let base : m.base ≡ x.n = over.2.3.base in
@@ -158,25 +181,25 @@ round_of p found left draft m next upto noted seen history calls d is more few m
       noted = ap (λ (l : List Row). board.version_at l s.versions.versions.current) (noted ∙ ap (λ (b : Book). map version_of b.versions.versions.versions) calls.store) ∙ on_board found s.versions.versions.current x at;
       is = record {
         into = subst (λ (b : ℕ). IsMergedInto b x m) (sym is) over.2;
-        told = subst (λ (o : Option (List Entry)). IfSome o (λ h. (contents : ℕ → Block) × IsMerged next x (between h x.n m.upto) contents (first h x.n) m)) (sym history) (by found.history x at number d.told);
+        told = subst (λ (o : Option (List Entry)). IfSome o (λ h. (contents : ℕ → Block) × IsMerged next x (between h x.n m.upto) contents (first h x.n) m)) (sym history) (by found.history x at d.told);
       };
       count = count;
-      within = (let all : length (view_of p).seen ≡ length (items_in found) = ap length (seen ∙ calls_items found left calls) in omega (arith, all, number, few));
-      more = (let shown : n_in (current s) ≡ x.n = ap n_in at in omega (arith, base, shown, more, number));
+      within = (let all : length (view_of p).seen ≡ length (items_in found) = ap length (seen ∙ calls_items found left calls) in let few = d.within in omega (arith, all, number, few));
+      more = (let shown : n_in (current s) ≡ x.n = ap n_in at in let more = d.more in omega (arith, base, shown, more, number));
     }
   where
     one : (o : Option catalog.Version) (x y : catalog.Version) → o ≡ Some x → o ≡ Some y → y ≡ x
     one o x y a b = let e : Some y ≡ Some x = sym b ∙ a in cc
 
-    by : (o : Option (List Entry)) (x : catalog.Version) → current found.owned.store ≡ Some x → m.upto ≡ upto → IfSome o (λ h. IsDraftedFrom (Ok draft) found.owned.store h upto)
+    by : (o : Option (List Entry)) (x : catalog.Version) → current found.owned.store ≡ Some x → IfSome o (λ h. (upto : ℕ) × IsDraftedFrom (Ok draft) found.owned.store h upto)
         → IfSome o (λ h. (contents : ℕ → Block) × IsMerged next x (between h x.n m.upto) contents (first h x.n) m)
-    by None x at number told = tt
-    by (Some h) x at number (y, contents, there, drafted) = (
-      contents,
-      subst (λ (v : catalog.Version). IsMerged next v (between h v.n m.upto) contents (first h v.n) m) (one (current found.owned.store) x y at there)
-          (subst (λ (k : ℕ). IsMerged next y (between h y.n k) contents (first h y.n) m) (sym number)
-          (subst (λ (b : ℕ). IsMerged b y (between h y.n upto) contents (first h y.n) m) (sym is) (merges found.owned.store.versions.versions.next_block y (between h y.n upto) contents (first h y.n) drafted))),
-    )
+    by None x at told = tt
+    by (Some h) x at (upto, drafted) =
+        let (y, contents, there, merged) = merged_next found.owned.store h upto draft m drafted merges in (
+          contents,
+          subst (λ (v : catalog.Version). IsMerged next v (between h v.n m.upto) contents (first h v.n) m) (one (current found.owned.store) x y at there)
+              (subst (λ (b : ℕ). IsMerged b y (between h y.n m.upto) contents (first h y.n) m) (sym is) merged),
+        )
 
 -- ---- it holds it still when it takes the lock again
 

@@ -12,7 +12,7 @@ use Rattle.qd_score_model.specs.Machine.{version_at}
 use Rattle.qd_store.specs.declared.fault.PublishFault.{PublishFault}
 use Rattle.qd_store.specs.declared.fault.PublishFault.TheVariants as publish
 use Rattle.qd_store.specs.Drafts.{Drafted, IsDraftOver, IsDraftedFrom, IsMerged, IsMergedInto, IsMergedOver, IsNextOf, Merging, between}
-use Rattle.qd_store_backend.specs.Backs.{current}
+use Rattle.qd_store_backend.specs.Backs.{current, n_in}
 use Rattle.qd_shared.specs.declared.rounds.RoundFault.{RoundFault}
 use Rattle.qd_shared.specs.declared.rounds.RoundFault.TheVariants as fault
 use Rattle.qd_shared.specs.Desks.{Desk}
@@ -59,13 +59,14 @@ pub record OnlyCalls (old new : Desk) : Type 0 where
   pub removed : new.removed ≡ old.removed
   pub faults : old.owned.storage.faults ≤ new.owned.storage.faults
 
--- The transactions behind the current version are drafted, up to a number.
-pub record IsDraftOf (d : Desk) (upto : ℕ) (draft : Drafted) : Type 0 where
+-- A round of the transactions behind the current version is drafted: one more is shown then at least, and no more than a number.
+pub record IsDraftOf (d : Desk) (most : ℕ) (draft : Drafted) : Type 0 where
   pub over : IsDraftOver d.owned.store.versions.versions draft
-  pub number : draft.plan.upto ≡ upto
-  pub told : IfSome d.history (λ h. IsDraftedFrom (Ok draft) d.owned.store h upto)
+  pub more : n_in (current d.owned.store) < draft.plan.upto
+  pub within : draft.plan.upto ≤ most
+  pub told : IfSome d.history (λ h. (upto : ℕ) × IsDraftedFrom (Ok draft) d.owned.store h upto)
 
--- A merge is of the transactions behind the current version.
+-- A merge is of transactions behind the current version.
 pub record IsNext (d : Desk) (m : Merging) : Type 0 where
   pub over : IsMergedOver d.owned.store.versions.versions m
   pub told : IfSome d.history (λ h. IsNextOf d.owned.store h m)

@@ -1,5 +1,5 @@
--- An apply: the transactions behind the current version are merged, and shown by a version that takes its place. A purge: what no
--- version lists any more is removed.
+-- An apply: transactions behind the current version are merged, and shown by a version that takes its place. A purge: what no version
+-- lists any more is removed.
 use Rattle.std.specs.Prelude.{◌≡◌, ◌≢◌, ◌⊎◌, ℕ, ◌+◌, ◌-◌, ◌^◌, ◌<◌, ◌≤◌, List, [], length, Contains, None, IfSome, Result, Ok, Err}
 use mathlib.Core.List.{IsPrefix}
 use Rattle.qd_catalog.specs.Versions.{version_at}
@@ -76,8 +76,7 @@ pub record Applies (result : Result ℕ RoundFault) (old new : Pass) : Type 0 wh
 -- What it begins with: all are shown; or some of those that aren't are drafted; or a fault.
 abbrev pub IsBegun : Result Begun RoundFault → (found left : Desk) → Type 0
 IsBegun (Ok (begun.Shown n)) found left = (n ≡ length (items_in found)) × (n_in (current found.owned.store) ≡ n)
-IsBegun (Ok (begun.Drafted draft next)) found left =
-    IsDraftOf found draft.plan.upto draft × (next ≡ found.owned.store.versions.versions.next_block) × (n_in (current found.owned.store) < draft.plan.upto) × (draft.plan.upto ≤ length (items_in found))
+IsBegun (Ok (begun.Drafted draft next)) found left = IsDraftOf found (length (items_in found)) draft × (next ≡ found.owned.store.versions.versions.next_block)
 IsBegun (Err f) found left = IsDraftFault f found left
 
 pub record BeginsRound (result : Result Begun RoundFault) (old new : Pass) : Type 0 where

@@ -290,12 +290,13 @@ impl<V: Volume + Drop> Desk<V> {
             && self.store.extends(merged)
     }
 
-    /// Drafts the first `upto` transactions, as [`Store::draft`] does.
+    /// Drafts a round of the first `upto` transactions, as [`Store::draft`] does.
     pub(crate) fn draft(&mut self, alloc: Global, upto: u64) -> Result<Draft, RoundFault>
         requires few { upto ≤ length self.old.owned.store.sequence.refs }
         requires more { n_in (current self.old.owned.store) < upto }
         ensures over { IfOk result (λ d. IsDraftOver self.old.owned.store.versions.versions d) }
-        ensures number { IfOk result (λ d. d.plan.upto ≡ upto) }
+        ensures more { IfOk result (λ d. n_in (current self.old.owned.store) < d.plan.upto) }
+        ensures most { IfOk result (λ d. d.plan.upto ≤ upto) }
         ensures told { IfOk result (λ d. IfSome self.old.history (λ h. IsDraftedFrom (Ok d) self.old.owned.store h upto)) }
         ensures store { self.new.owned.store ≡ self.old.owned.store }
         ensures history { self.new.history ≡ self.old.history }
@@ -310,7 +311,7 @@ impl<V: Volume + Drop> Desk<V> {
         }
     }
 
-    /// Up to which transaction a round goes that isn't the last one: so far that its bytes are few, but no less than one further.
+    /// Up to which transaction a round goes at most: so far that its bytes are few, but no less than one further.
     fn round_end(&self) -> u64
         requires more { n_in (current self.now.owned.store) < length self.now.owned.store.sequence.refs }
         ensures more { n_in (current self.now.owned.store) < result }

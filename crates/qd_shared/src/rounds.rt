@@ -277,7 +277,7 @@ impl<V: Volume + Drop> Shared<V> {
     /// meanwhile, the next round begins with what is left. Each version that isn't the current one and that nobody has pinned is let go.
     ///
     /// A round takes [`Store::draft`](qd_store::Store::draft), the merge and [`Store::publish`](qd_store::Store::publish), over transactions
-    /// of 16 MiB or one that is larger. After an `Err` no fewer are shown than before. `NoRow` comes only where each row but the current
+    /// of 16 MiB or one that is larger, and ends before the next one that sets keys. After an `Err` no fewer are shown than before. `NoRow` comes only where each row but the current
     /// one was found pinned, and never to a Sole pass without a pin; all may be asked again.
     pub fn catch_up<R: Wait>(
         &self,

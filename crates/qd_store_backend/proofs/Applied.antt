@@ -19,7 +19,7 @@ use Rattle.qd_store_backend.specs.declared.parts.Round.{Round}
 use Rattle.qd_store_backend.specs.Replies.{RepliesWith}
 use Rattle.qd_store_backend.specs.Rounds.{number_in}
 use Rattle.qd_store_backend.proofs.Leaving.{left_before, pends_by, told_at}
-use Rattle.qd_store_backend.proofs.Handled.{IsQuiet, extends_same, own_same, quiet_grows, quiet_own}
+use Rattle.qd_store_backend.proofs.Handled.{extends_same, own_same}
 
 -- how many transactions there are, and what may have been left behind them, are as they were
 module _ {E : Type 0} (old new : Parts) (r : Result ℕ E) (shows : ShowsAll r old new) where
@@ -43,19 +43,22 @@ module _ (old new : Back) (is : IsLeftOf new.parts.history new.parts.owned new.l
   refused_pends : (clock clock' : Timeline) (number place : ℕ) → MayPend new.parts.history (look_at clock (back_shown old)) (look_at clock' (back_shown new)) 0 request.Apply (reply.Refused number place)
   refused_pends clock clock' number place = pends_by new.parts.history _ _ 0 request.Apply (reply.Refused number place) (λ h at e there. inl (stays_left h at e there))
 
-quiet_applied : (old new : Back) (e : LogFault) → new.before ≡ old.before → ShowsAll (Err e) old.parts new.parts → IsQuiet old new
-quiet_applied old new e before shows = record { count = same_count old.parts new.parts (Err e) shows; shown = shows.shown; told = shows.told; before = before }
-
 -- an apply that ends in a fault, or finds damage
 failed_answers : (old new : Back) (e : LogFault) → new.before ≡ old.before → ShowsAll (Err e) old.parts new.parts → old.parts.owned.storage.faults ≤ new.parts.owned.storage.faults → (r : Reply) → done_in r ≡ []
     → ((clock clock' : Timeline) → AllowedAlone new.parts.history (look_at clock (back_shown old)) (look_at clock' (back_shown new)) 0 request.Apply r)
     → Answers AllowedAlone (back_shown old) (back_shown new) 0 request.Apply r
 failed_answers old new e before shows faults r none allowed =
-    let q = quiet_applied old new e before shows in
+    let count = same_count old.parts new.parts (Err e) shows in
     record {
-      grows = quiet_grows old new q faults;
+      grows = record {
+        history = extends_same old.parts.history new.parts.history shows.told;
+        sequenced = omega (arith, count);
+        known = shows.shown.0;
+        faults = faults;
+      };
       allowed = λ clock clock' later. allowed clock clock';
-      own = subst (λ (l : List ℕ). (back_shown new).own ≡ (back_shown old).own ++ l) (sym none) (quiet_own old new q);
+      own = subst (λ (l : List ℕ). (back_shown new).own ≡ (back_shown old).own ++ l) (sym none)
+          (ap (λ b. range_with_len (b + 1) (length new.parts.owned.store.sequence.refs - b)) before ∙ own_same old.before _ _ count);
     }
 
 pub applied_handled : {E : Type 0} (old new : Back) (r : Result ℕ LogFault) (given : Result Reply E) → new.before ≡ old.before → IsBack old → ShowsAll r old.parts new.parts
@@ -77,12 +80,12 @@ applied_handled old new (Ok n) given before kept shows sound vol faults left tol
     })
 applied_handled old new (Err log.Vol) given before kept shows sound vol faults left told told_now leaves is =
     subst (Handles AllowedAlone (back_shown old) (back_shown new) 0 request.Apply) (sym is)
-    (failed_answers old new log.Vol before shows faults _ refl (λ clock clock'. (inr (refl, refl, vol refl), shows.shown, same_count old.parts new.parts _ shows, refused_pends old new left kept told told_now shows.told leaves clock clock' _ _)))
+    (failed_answers old new log.Vol before shows faults _ refl (λ clock clock'. (inr (refl, refl, vol refl), shows.shown.0, same_count old.parts new.parts _ shows, refused_pends old new left kept told told_now shows.told leaves clock clock' _ _)))
 applied_handled old new (Err (log.Damaged file at)) given before kept shows sound vol faults left told told_now leaves is =
     subst (Handles AllowedAlone (back_shown old) (back_shown new) 0 request.Apply) (sym is)
-    (failed_answers old new (log.Damaged file at) before shows faults (reply.Damaged file at) refl (λ clock clock'. (shows.told ∙ sound file at refl, shows.shown, same_count old.parts new.parts _ shows, damaged_pends old new left kept told told_now shows.told leaves clock clock' file at)))
+    (failed_answers old new (log.Damaged file at) before shows faults (reply.Damaged file at) refl (λ clock clock'. (shows.told ∙ sound file at refl, shows.shown.0, same_count old.parts new.parts _ shows, damaged_pends old new left kept told told_now shows.told leaves clock clock' file at)))
 applied_handled old new (Err log.Memory) (Ok r) before kept shows sound vol faults left told told_now leaves is = absurd is
-applied_handled old new (Err log.Memory) (Err e) before kept shows sound vol faults left told told_now leaves is = failed_answers old new log.Memory before shows faults want_of_memory refl (λ clock clock'. (inl (refl, refl), shows.shown, same_count old.parts new.parts _ shows, refused_pends old new left kept told told_now shows.told leaves clock clock' _ _))
+applied_handled old new (Err log.Memory) (Err e) before kept shows sound vol faults left told told_now leaves is = failed_answers old new log.Memory before shows faults want_of_memory refl (λ clock clock'. (inl (refl, refl), shows.shown.0, same_count old.parts new.parts _ shows, refused_pends old new left kept told told_now shows.told leaves clock clock' _ _))
 
 -- ---- a round, by the number that it shows
 

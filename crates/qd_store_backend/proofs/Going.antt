@@ -63,16 +63,21 @@ committed_goes_on old p left done kept w writer same n is =
 
 -- ---- an apply
 
-applied_within : (r : Result ℕ LogFault) (old new : Parts) → ShowsAll r old new → n_in (current old.owned.store) ≤ length old.owned.store.sequence.refs → n_in (current new.owned.store) ≤ length new.owned.store.sequence.refs
-applied_within (Ok n) old new s within =
-    let all = s.shown.0 in let shown = s.shown.1 in let same : length new.owned.store.sequence.refs ≡ length old.owned.store.sequence.refs = ap (λ (q : Sequence). length q.refs) s.sequence in omega (arith, all, shown, same)
-applied_within (Err fault) old new s within =
-    let shown = s.shown in let same : length new.owned.store.sequence.refs ≡ length old.owned.store.sequence.refs = ap (λ (q : Sequence). length q.refs) s.sequence in omega (arith, shown, same, within)
+applied_within : (r : Result ℕ LogFault) (old new : Parts) → ShowsAll r old new → n_in (current new.owned.store) ≤ length new.owned.store.sequence.refs
+applied_within (Ok n) old new s =
+    let all = s.shown.0 in
+    let shown = s.shown.1 in
+    let same : length new.owned.store.sequence.refs ≡ length old.owned.store.sequence.refs = ap (λ (q : Sequence). length q.refs) s.sequence in
+    omega (arith, all, shown, same)
+applied_within (Err fault) old new s =
+    let within = s.shown.1 in
+    let same : length new.owned.store.sequence.refs ≡ length old.owned.store.sequence.refs = ap (λ (q : Sequence). length q.refs) s.sequence in
+    omega (arith, within, same)
 
 pub applied_back : (old : Back) (p : Parts) (left : Option Entry) (r : Result ℕ LogFault) → IsBack old → ShowsAll r old.parts p → IsAlone p → IsLeftOf p.history p.owned left → IsBack (record { parts = p; before = old.before; writer = old.writer; left = left })
 applied_back old p left r kept shows alone is = record {
   since = subst (λ (s : Sequence). old.before ≤ length s.refs) (sym shows.sequence) kept.since;
-  within = applied_within r old.parts p shows kept.within;
+  within = applied_within r old.parts p shows;
   usual = subst AreUsual (sym shows.limits) kept.usual;
   alone = alone;
   writer = subst (λ (s : Sequence). IfSome old.writer (λ n. is_kept s.writers n ≡ true)) (sym shows.sequence) kept.writer;

@@ -4,29 +4,29 @@ use Rattle.std.proofs.lemmas.List.Elements.{All-get_or}
 use Rattle.qd_base.specs.declared.op.Entry.{Entry}
 use Rattle.qd_catalog.specs.declared.version.Version as catalog
 use Rattle.qd_catalog.specs.Versions.{Sweeps, Versions, current_n, n_of, version_at}
-use Rattle.qd_base.specs.Replay.{first}
 use Rattle.qd_durable.specs.Moments.{Told}
-use Rattle.qd_io.specs.Ends.{Counts}
+use Rattle.qd_io.specs.Ends.{Counts, HasRisen}
 use Rattle.qd_io.specs.declared.fault.IoFault.{IoFault}
 use Rattle.qd_io.specs.declared.fault.IoFault.TheVariants as io
+use Rattle.qd_sequencer.specs.Sequences.{Sequence}
 use Rattle.qd_store.specs.declared.fault.PublishFault.{PublishFault}
 use Rattle.qd_store.specs.declared.fault.PublishFault.TheVariants as publish
 use Rattle.qd_store.specs.Calls.{Stands}
 use Rattle.qd_store.specs.Damage.{IsDraftDamage}
-use Rattle.qd_store.specs.Drafts.{Drafted, IsDraftedFrom, IsMerged, IsMergedOver, IsNextOf, Merging, between}
+use Rattle.qd_store.specs.Drafts.{Drafted, IsDraftOver, IsMergedOver, IsNextOf, Merging}
 use Rattle.qd_durable.specs.declared.fault.LogFault.{LogFault}
 use Rattle.qd_durable.specs.declared.fault.LogFault.TheVariants as log
 use Rattle.qd_store.specs.Faults.{IsMoved, IsUndamaged}
 use Rattle.qd_store.specs.Merges.{PublishesMerged, next_version}
 use Rattle.qd_store.specs.Owned.{Store}
 use Rattle.qd_store.specs.Stores.{IsStore, Book}
-use Rattle.qd_store.proofs.Rounds.{Merges}
+use Rattle.qd_store.proofs.Rounds.{Merges, merged_bounds, merged_into}
 use Rattle.qd_txnfile.specs.Versions.{Version}
 use Rattle.qd_versions.specs.Publishing.{IsFull, IsGrownLost}
 use Rattle.qd_volume.specs.Calls.{Storage}
 use Rattle.qd_volume.specs.Disk.{Disk, Image, reads_of}
-use Rattle.qd_store_backend.specs.Backs.{IsDamageTold, IsGrowthDamaged, IsRoundDamaged, IsTailDamage, IsTold, LeavesNoOther, current}
-use Rattle.qd_store_backend.specs.Rounds.{fault_of, IsNextFrom, IsOfVolume, IsOnlyOne, IsSwept, StaysTold}
+use Rattle.qd_store_backend.specs.Backs.{IsAlone, IsDamageTold, IsGrowthDamaged, IsRoundDamaged, IsTailDamage, IsTold, LeavesNoOther, Parts, ShowsAll, ShowsNext, current, n_in}
+use Rattle.qd_store_backend.specs.Rounds.{fault_of, IsOfVolume, IsOnlyOne, IsSwept, StaysTold}
 use Rattle.qd_store_backend.proofs.Leaving.{leaves_both, leaves_here, swept_leaves}
 use Rattle.qd_store_backend.proofs.Told.{told_of}
 
@@ -147,10 +147,6 @@ failed_told old new cause m told h (disk, next, is, stands) merged =
 
 -- ---- drafts
 
-pub drafted : (d : Drafted) (m : Merging) (s : Book) (h : List Entry) (upto : ℕ) → Merges d m → m.upto ≡ upto → IsDraftedFrom (Ok d) s h upto → IsNextFrom (Ok m) s h
-drafted d m s h upto merges same (x, contents, at, is) =
-    (x, contents, at, subst (λ (k : ℕ). IsMerged s.versions.versions.next_block x (between h x.n k) contents (first h x.n) m) (sym same) (merges s.versions.versions.next_block x (between h x.n upto) contents (first h x.n) is))
-
 -- what follows from one history follows from each
 abbrev pub FromEach : (List Entry → Type 0) → Book → Option Disk → Type 0
 FromEach P s o = IfSome o (λ disk. (h : List Entry) (next : Version) → IsStore s h next disk → P h)
@@ -171,7 +167,7 @@ damage_from publish.Memory answer file at is same = cc
 
 module _ (old : Store) (m : Merging) (result : Result ℕ PublishFault) (cause : PublishFault) (failed : result ≡ Err cause) (answer : LogFault) (from : answer ≡ fault_of cause) where
   module _ (file at : ℕ) (answered : answer ≡ log.Damaged file at) where
-    published : result ≡ Err (publish.Damaged file at)
+    pub published : result ≡ Err (publish.Damaged file at)
     published = failed ∙ ap Err (damage_from cause answer file at from answered)
 
     text_lost : (image : Image) → IsGrownLost old.store.versions.versions m.grown file at image → IsTailDamage old.store file at image
@@ -200,6 +196,91 @@ pub untold : (o : Option (List Entry)) (owned : Store) → IfSome o (IsTold owne
 untold None owned told never = refl
 untold (Some h) owned told never = absurd (never h told)
 
--- that of a draft of all transactions is one of a round
-pub draft_damaged : (owned : Store) (upto : ℕ) → upto ≡ length owned.store.sequence.refs → (file at : ℕ) → IsDamageTold owned (IsDraftDamage owned.store upto) file at → IsRoundDamaged owned file at
-draft_damaged owned upto all file at damaged = inl (subst (λ (n : ℕ). IsDamageTold owned (IsDraftDamage owned.store n) file at) all damaged)
+-- that of a draft of all transactions behind the current version is one of a round over the store, which stays as it is
+pub draft_damaged : (old new : Store) → new.store ≡ old.store → new.storage.disk ≡ old.storage.disk → (upto : ℕ) → upto ≡ length old.store.sequence.refs
+    → (file at : ℕ) → IsDamageTold old (IsDraftDamage old.store upto) file at → IsRoundDamaged new file at
+draft_damaged old new store disk upto all file at damaged = inl
+    (subst (λ (s : Book). IfSome new.storage.disk (λ d. IsDraftDamage s (length s.sequence.refs) (reads_of d) file at)) (sym store)
+    (subst (λ (o : Option Disk). IfSome o (λ d. IsDraftDamage old.store (length old.store.sequence.refs) (reads_of d) file at)) (sym disk)
+    (subst (λ (n : ℕ). IsDamageTold old (IsDraftDamage old.store n) file at) all damaged)))
+
+-- ---- rounds
+
+-- a round shows more, and no more than was asked for
+pub merged_on : (s : Book) (d : Drafted) (m : Merging) (upto : ℕ) → IsDraftOver s.versions.versions d → Merges d m → (d.plan.base < d.plan.upto) × (d.plan.upto ≤ upto) → (n_in (current s) < m.upto) × (m.upto ≤ upto)
+merged_on s d m upto over merges bounds =
+    let (x, at, into) = merged_into s.versions.versions d m over merges in
+    let base : m.base ≡ n_in (current s) = into.3.base ∙ sym (ap n_in at) in
+    let b = merged_bounds s.versions.versions d m upto over merges bounds in
+    let goes = b.0 in
+    (omega (arith, goes, base), b.1)
+
+pub shown_next : (old mid new : Book) (m : Merging) → n_in (current old) < m.upto → current new ≡ Some (record { n = m.upto; shape = m.shape }) → n_in (current old) < n_in (current new)
+shown_next old mid new m on is = let same : n_in (current new) ≡ m.upto = ap n_in is in omega (arith, on, same)
+
+-- what rounds keep of a source, and what they change
+pub record Rounded (old new : Parts) : Type 0 where
+  pub alone : IsAlone new
+  pub shown : n_in (current old.owned.store) ≤ n_in (current new.owned.store)
+  pub sequence : new.owned.store.sequence ≡ old.owned.store.sequence
+  pub limits : new.owned.store.limits ≡ old.owned.store.limits
+  pub told : new.history ≡ old.history
+  pub damages : new.damages ≡ old.damages
+  pub stays : StaysTold old.owned new.owned
+  pub left : LeavesNoOther old.owned new.owned
+  pub faults : old.owned.storage.faults ≤ new.owned.storage.faults
+
+pub rounded_here : (p : Parts) → IsAlone p → Rounded p p
+rounded_here p alone = record {
+  alone = alone;
+  shown = omega arith;
+  sequence = refl;
+  limits = refl;
+  told = refl;
+  damages = refl;
+  stays = λ h is. is;
+  left = leaves_here p.owned;
+  faults = omega arith;
+}
+
+-- behind one more, and behind all, or behind one that failed
+module _ (a b : Parts) (r : Rounded a b) where
+  same_count : length b.owned.store.sequence.refs ≡ length a.owned.store.sequence.refs
+  same_count = ap (λ (s : Sequence). length s.refs) r.sequence
+
+  pub rounded_next : (T E : Type 0) (done : T) (c : Parts) → ShowsNext {T = T} {E = E} (Ok done) b c → IsAlone c → StaysTold b.owned c.owned → LeavesNoOther b.owned c.owned → b.owned.storage.faults ≤ c.owned.storage.faults → Rounded a c
+  rounded_next T E done c s alone stays left faults =
+      let shown = r.shown in
+      let more = s.shown in
+      let before = r.faults in
+      record {
+        alone = alone;
+        shown = omega (arith, shown, more);
+        sequence = s.sequence ∙ r.sequence;
+        limits = s.limits ∙ r.limits;
+        told = s.told ∙ r.told;
+        damages = s.damages ∙ r.damages;
+        stays = λ h is. stays h (r.stays h is);
+        left = leaves_both a.owned b.owned c.owned r.stays r.left left;
+        faults = omega (arith, before, faults);
+      }
+
+  pub rounds_done : (E : Type 0) (n : ℕ) → n ≡ length a.owned.store.sequence.refs → n_in (current b.owned.store) ≡ n → ShowsAll {E = E} (Ok n) a b
+  rounds_done E n all shown = record { shown = (all, shown); sequence = r.sequence; limits = r.limits; told = r.told; damages = r.damages }
+
+  module _ (T E : Type 0) (fault : E) (c : Parts) (s : ShowsNext {T = T} (Err fault) b c) where
+    pub rounds_failed : n_in (current b.owned.store) ≤ length b.owned.store.sequence.refs → ShowsAll (Err fault) a c
+    rounds_failed within =
+        let shown = r.shown in
+        let same = s.shown in
+        record {
+          shown = (omega (arith, shown, same), omega (arith, same, within, same_count));
+          sequence = s.sequence ∙ r.sequence;
+          limits = s.limits ∙ r.limits;
+          told = s.told ∙ r.told;
+          damages = s.damages ∙ r.damages;
+        }
+
+  pub rounds_risen : (now : ℕ) → HasRisen b.owned.storage.faults now → HasRisen a.owned.storage.faults now
+  rounds_risen now (inl less) = let before = r.faults in inl (omega (arith, before, less))
+  rounds_risen now (inr last) = inr last

@@ -1,5 +1,5 @@
 -- What a backend over a store keeps, and what it shows of it.
-use Rattle.std.specs.Prelude.{◌≡◌, ◌⊎◌, ℕ, ◌+◌, ◌-◌, ◌≤◌, true, List, [], ◌∷◌, ◌++◌, length, map, Option, Some, None, IfSome, Result, Ok, Err}
+use Rattle.std.specs.Prelude.{◌≡◌, ◌⊎◌, ℕ, ◌+◌, ◌-◌, ◌<◌, ◌≤◌, true, List, [], ◌∷◌, ◌++◌, length, map, Option, Some, None, IfSome, Result, Ok, Err}
 use Rattle.std.specs.List.{range_with_len}
 use Rattle.qd_base.specs.declared.op.Entry.{Entry}
 use Rattle.qd_base.specs.declared.limits.Limits.{Limits}
@@ -114,7 +114,7 @@ IsDamageTold owned Damage file at = IfSome owned.storage.disk (λ disk. Damage (
 abbrev pub IsPartDamaged : Store → ℕ → ℕ → Type 0
 IsPartDamaged owned file at = IsDamageTold owned (IsPartDamage owned.store) file at
 
--- that of a draft of all transactions
+-- that of a draft of the transactions that aren't shown
 abbrev pub IsDraftDamaged : Store → ℕ → ℕ → Type 0
 IsDraftDamaged owned file at = IsDamageTold owned (IsDraftDamage owned.store (length owned.store.sequence.refs)) file at
 
@@ -258,18 +258,25 @@ AreToldSchemas p = IfSome p.history (λ h. p.owned.store.sequence.schemas ≡ sc
 abbrev pub AreToldCount : Parts → Type 0
 AreToldCount p = IfSome p.history (λ h. length p.owned.store.sequence.refs ≡ length h)
 
--- All transactions are shown, or the source is as it was.
+-- All transactions are shown; or no fewer than before, and no more than there are.
 abbrev pub IsShownBehind : {E : Type 0} → Result ℕ E → Parts → Parts → Type 0
 IsShownBehind (Ok n) old new = (n ≡ length old.owned.store.sequence.refs) × (n_in (current new.owned.store) ≡ n)
-IsShownBehind (Err fault) old new = n_in (current new.owned.store) ≡ n_in (current old.owned.store)
-
--- the answer of a round up to a number
-abbrev pub shown_by : {T E : Type 0} → Result T E → ℕ → Result ℕ E
-shown_by (Ok done) upto = Ok upto
-shown_by (Err fault) upto = Err fault
+IsShownBehind (Err fault) old new = (n_in (current old.owned.store) ≤ n_in (current new.owned.store)) × (n_in (current new.owned.store) ≤ length old.owned.store.sequence.refs)
 
 pub record ShowsAll {E : Type 0} (result : Result ℕ E) (old new : Parts) : Type 0 where
   pub shown : IsShownBehind result old new
+  pub sequence : new.owned.store.sequence ≡ old.owned.store.sequence
+  pub limits : new.owned.store.limits ≡ old.owned.store.limits
+  pub told : new.history ≡ old.history
+  pub damages : new.damages ≡ old.damages
+
+-- A round shows more transactions than before, or as many.
+abbrev pub IsShownNext : {T E : Type 0} → Result T E → Parts → Parts → Type 0
+IsShownNext (Ok done) old new = n_in (current old.owned.store) < n_in (current new.owned.store)
+IsShownNext (Err fault) old new = n_in (current new.owned.store) ≡ n_in (current old.owned.store)
+
+pub record ShowsNext {T E : Type 0} (result : Result T E) (old new : Parts) : Type 0 where
+  pub shown : IsShownNext result old new
   pub sequence : new.owned.store.sequence ≡ old.owned.store.sequence
   pub limits : new.owned.store.limits ≡ old.owned.store.limits
   pub told : new.history ≡ old.history

@@ -121,7 +121,7 @@ impl<V: Volume> StoreBack<V> {
         ensures damaged { (file : ℕ) (at : ℕ) → result ≡ Ok (reply.Damaged file at) → IsPartDamaged self.old.parts.owned file at }
     {
         match stmt {
-            Stmt::Create(_) | Stmt::Insert(_) => self.write(alloc, stmt),
+            Stmt::Create(_) | Stmt::Insert(_) | Stmt::Alter(_) => self.write(alloc, stmt),
             Stmt::Query(_) | Stmt::Show(..) => self.answer(alloc, stmt),
         }
     }
@@ -183,9 +183,9 @@ impl<V: Volume> Backend for StoreBack<V> {
         reply_of(done)
     }
 
-    /// Commits CREATE TABLE and INSERT, and answers a query and SHOW PARTITIONS over the current version. A block is read from the
-    /// volume once, and kept until the next apply or until 256 others were asked for. Damage is answered only where the files of a
-    /// part of that version are damaged at that byte.
+    /// Commits CREATE TABLE, INSERT and ALTER TABLE, and answers a query and SHOW PARTITIONS over the current version. A block is read
+    /// from the volume once, and kept until the next apply or until 256 others were asked for. Damage is answered only where the files
+    /// of a part of that version are damaged at that byte.
     fn sql(&mut self, alloc: Global, text: &Txt) -> Result<Reply, Memory>
         requires short { length text.now ≤ MAX_QUERY_BYTES }
         ensures handled { Handles AllowedAlone (back_shown self.old) (back_shown self.new) 0 (request.Sql text.now) result }
@@ -201,13 +201,14 @@ impl<V: Volume> Backend for StoreBack<V> {
         }
     }
 
-    /// Makes all transactions the current version, in one round, and removes the blocks that it doesn't list any more, until none is
-    /// left, the volume fails or there is no memory. Damage is answered only where a draft of the transactions finds it.
+    /// Makes all transactions the current version, in rounds, of which each ends before the next transaction that sets keys; then it
+    /// removes the blocks that the version doesn't list any more, until none is left, the volume fails or there is no memory. Where a
+    /// round fails, those before it are shown. Damage is answered only where the next round finds it in what is left.
     fn apply(&mut self, alloc: Global) -> Result<Reply, Memory>
         ensures handled { Handles AllowedAlone (back_shown self.old) (back_shown self.new) 0 request.Apply result }
         ensures one_writer { GoesOn self.old self.new }
         ensures damaged { (file : ℕ) (at : ℕ) → result ≡ Ok (reply.Damaged file at)
-            → IsRoundDamaged self.old.parts.owned file at }
+            → IsRoundDamaged self.new.parts.owned file at }
     {
         one_entry_is_read();
         self.parts.is_told();

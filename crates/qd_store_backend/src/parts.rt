@@ -1,6 +1,6 @@
 //! The current version of a store, as a source of the parts of tables.
-ghost use Rattle.std.specs.Prelude.{◌≡◌, ◌≢◌, ◌≤◌, ℕ, [], Err, None, length, IfErr, IfOk, IfSome, OnErr, OnOk};
-ghost use Rattle.qd_store_backend.specs.Backs.{current, kept_of, n_in, shape_in, shown_by, source_of, AreToldCount, AreToldSchemas, CommitsTo, IsAlone, IsRoundDamaged, IsLastDamage, IsTold, IsToldWhole, LeavesNoOther, LeavesOwn, ShowsAll};
+ghost use Rattle.std.specs.Prelude.{◌≡◌, ◌<◌, ◌≤◌, ℕ, [], Err, None, length, IfErr, IfOk, IfSome, OnErr, OnOk};
+ghost use Rattle.qd_store_backend.specs.Backs.{current, kept_of, n_in, shape_in, source_of, AreToldCount, AreToldSchemas, CommitsTo, IsAlone, IsRoundDamaged, IsLastDamage, IsTold, IsToldWhole, LeavesNoOther, LeavesOwn, ShowsAll, ShowsNext};
 ghost use Rattle.qd_store_backend.specs.Rounds.{IsSwept, StaysTold, number_in};
 ghost use Rattle.qd_sequencer.specs.Sequences.{IsAsBefore, chosen};
 ghost use Rattle.qd_durable.specs.declared.fault.LogFault.TheVariants as fault;
@@ -157,10 +157,11 @@ impl<V: Volume> StoreParts<V> {
         Ok(done)
     }
 
-    /// Makes all transactions the current version, lets the one before go, and removes the blocks that no version lists any more,
-    /// as far as the volume lets it. It gives the number of the transactions, and how the removal went.
+    /// Makes all transactions the current version, in rounds, and removes the blocks that no version lists any more, as far as the
+    /// volume lets it. It gives the number of the transactions, and how the removal went.
     ///
-    /// The draft, its merge and its publication are one round. After an `Err` the current version is the one before.
+    /// The draft, its merge and its publication are a round, which lets the version before go, and ends before the next transaction
+    /// that sets keys. After an `Err` the current version is the one of the last round.
     pub(crate) fn show_all(&mut self, alloc: Global) -> Result<Round, LogFault>
         requires alone { IsAlone self.old }
         ensures alone { IsAlone self.new }
@@ -168,7 +169,7 @@ impl<V: Volume> StoreParts<V> {
         ensures swept { IfOk result (λ round. IsSwept round.swept self.old.owned self.new.owned) }
         ensures left { LeavesNoOther self.old.owned self.new.owned }
         ensures sound { (file : ℕ) (at : ℕ) → result ≡ Err (fault.Damaged file at) → self.old.history ≡ None }
-        ensures damaged { (file : ℕ) (at : ℕ) → result ≡ Err (fault.Damaged file at) → IsRoundDamaged self.old.owned file at }
+        ensures damaged { (file : ℕ) (at : ℕ) → result ≡ Err (fault.Damaged file at) → IsRoundDamaged self.new.owned file at }
         ensures vol { result ≡ Err fault.Vol → HasRisen self.old.owned.storage.faults self.new.owned.storage.faults }
         ensures faults { self.old.owned.storage.faults ≤ self.new.owned.storage.faults }
     {
@@ -177,7 +178,7 @@ impl<V: Volume> StoreParts<V> {
         Ok(Round { upto, swept })
     }
 
-    /// Makes all transactions the current version, where it isn't that of all of them, and gives their number.
+    /// Makes all transactions the current version, in as many rounds as it takes, and gives their number.
     fn show_new(&mut self, alloc: Global) -> Result<u64, LogFault>
         requires alone { IsAlone self.old }
         ensures alone { IsAlone self.new }
@@ -185,29 +186,28 @@ impl<V: Volume> StoreParts<V> {
         ensures stays { StaysTold self.old.owned self.new.owned }
         ensures left { LeavesNoOther self.old.owned self.new.owned }
         ensures sound { (file : ℕ) (at : ℕ) → result ≡ Err (fault.Damaged file at) → self.old.history ≡ None }
-        ensures damaged { (file : ℕ) (at : ℕ) → result ≡ Err (fault.Damaged file at) → IsRoundDamaged self.old.owned file at }
+        ensures damaged { (file : ℕ) (at : ℕ) → result ≡ Err (fault.Damaged file at) → IsRoundDamaged self.new.owned file at }
         ensures vol { result ≡ Err fault.Vol → HasRisen self.old.owned.storage.faults self.new.owned.storage.faults }
         ensures faults { self.old.owned.storage.faults ≤ self.new.owned.storage.faults }
     {
-        let upto = self.store.hist_len();
-        if upto == self.store.version_n() {
-            return Ok(upto);
+        let upto = self.all_n();
+        'rounds: while self.shown_n() < upto {
+            self.show_next(alloc, upto)?;
         }
-        self.show(alloc, upto)?;
         Ok(upto)
     }
 
-    /// Makes transactions up to a number the current version, and lets the one before go.
-    fn show(&mut self, alloc: Global, upto: u64) -> Result<(), LogFault>
+    /// Makes a round of the transactions behind the current version, up to a number, the current version, and lets the one before go.
+    fn show_next(&mut self, alloc: Global, upto: u64) -> Result<(), LogFault>
         requires alone { IsAlone self.old }
         requires all { upto ≡ length self.old.owned.store.sequence.refs }
-        requires more { n_in (current self.old.owned.store) ≢ upto }
+        requires more { n_in (current self.old.owned.store) < upto }
         ensures alone { IsAlone self.new }
-        ensures shows { ShowsAll (shown_by result upto) self.old self.new }
+        ensures shows { ShowsNext result self.old self.new }
         ensures stays { StaysTold self.old.owned self.new.owned }
         ensures left { LeavesNoOther self.old.owned self.new.owned }
         ensures sound { (file : ℕ) (at : ℕ) → result ≡ Err (fault.Damaged file at) → self.old.history ≡ None }
-        ensures damaged { (file : ℕ) (at : ℕ) → result ≡ Err (fault.Damaged file at) → IsRoundDamaged self.old.owned file at }
+        ensures damaged { (file : ℕ) (at : ℕ) → result ≡ Err (fault.Damaged file at) → IsRoundDamaged self.new.owned file at }
         ensures vol { result ≡ Err fault.Vol → HasRisen self.old.owned.storage.faults self.new.owned.storage.faults }
         ensures faults { self.old.owned.storage.faults ≤ self.new.owned.storage.faults }
     {
@@ -239,11 +239,20 @@ impl<V: Volume> StoreParts<V> {
         sweep_queue(&mut self.store)
     }
 
-    /// Gives how many transactions the current version shows, in constant time.
+    /// Gives how many transactions the current version shows, in constant time: no more than there are.
     pub(crate) fn shown_n(&self) -> u64
         ensures n { result ≡ n_in (current self.now.owned.store) }
+        ensures within { result ≤ length self.now.owned.store.sequence.refs }
     {
+        self.store.keeps_its_law();
         self.store.version_n()
+    }
+
+    /// Gives how many transactions there are, in constant time.
+    fn all_n(&self) -> u64
+        ensures n { result ≡ length self.now.owned.store.sequence.refs }
+    {
+        self.store.hist_len()
     }
 
     /// Gives the store back.

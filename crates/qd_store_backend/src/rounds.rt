@@ -1,6 +1,6 @@
-//! A round: the transactions behind the current version of a store are merged, and shown in place of it.
+//! A round: transactions behind the current version of a store are merged, and shown in place of it.
 ghost use Rattle.std.specs.Prelude.{◌≡◌, ◌≢◌, ◌<◌, ◌≤◌, ℕ, Err, List, Some, length, IfOk, IfSome};
-ghost use Rattle.qd_store_backend.specs.Backs.{current, IsDamageTold, IsGrowthDamaged, IsTold, LeavesNoOther};
+ghost use Rattle.qd_store_backend.specs.Backs.{current, n_in, IsDamageTold, IsGrowthDamaged, IsTold, LeavesNoOther};
 ghost use Rattle.qd_store_backend.specs.Rounds.{fault_of, IsNextFrom, IsOfVolume, IsOnlyOne, IsSwept, IsTurned, StaysTold};
 ghost use Rattle.qd_base.specs.declared.op.Entry.{Entry};
 ghost use Rattle.qd_catalog.specs.Versions.{current_n};
@@ -17,8 +17,9 @@ use qd_store::{Merged, PublishFault, Store};
 use qd_volume::Volume;
 use std::alloc::Global;
 
-/// Merges the transactions behind the current version, up to a number. It costs what [`Store::draft`] and the merge cost; after an `Err`
-/// the store is as it was, and the call may be made again, but behind damage, which is no whole store's.
+/// Merges transactions behind the current version, up to a number: those of one round, which ends before the next transaction that
+/// sets keys, as [`Store::draft`] says. It costs what that and the merge cost; after an `Err` the store is as it was, and the call may
+/// be made again, but behind damage, which is no whole store's.
 pub fn next_of<V: Volume>(
     store: &mut Store<V>,
     alloc: Global,
@@ -27,7 +28,7 @@ pub fn next_of<V: Volume>(
     requires more { (n : ℕ) → current_n store.old.store.versions.versions ≡ Some n → n < upto }
     requires few { upto ≤ length store.old.store.sequence.refs }
     ensures over { IfOk result (λ m. IsMergedOver store.old.store.versions.versions m) }
-    ensures upto { IfOk result (λ m. m.upto ≡ upto) }
+    ensures upto { IfOk result (λ m. (n_in (current store.old.store) < m.upto) × (m.upto ≤ upto)) }
     ensures told { IfSome store.old.storage.disk (λ disk. (h : List Entry) (next : Version) → IsStore store.old.store h next disk → IsNextFrom result store.old.store h) }
     ensures store { store.new.store ≡ store.old.store }
     ensures damaged { (file : ℕ) (at : ℕ) → result ≡ Err (damage.Damaged file at) → IsDamageTold store.old (IsDraftDamage store.old.store upto) file at }
@@ -55,6 +56,7 @@ pub(crate) fn turn_to<V: Volume>(
     ensures told { (h : List Entry) → IsTold store.old h → IsNextOf store.old.store h merged.now → IsTold store.new h }
     ensures left { LeavesNoOther store.old store.new }
     ensures damaged { (file : ℕ) (at : ℕ) → result ≡ Err (damage.Damaged file at) → IsGrowthDamaged store.old file at }
+    ensures unwritten { (file : ℕ) (at : ℕ) → result ≡ Err (damage.Damaged file at) → (store.new.storage.disk ≡ store.old.storage.disk) × (store.new.store ≡ store.old.store) }
     ensures whole { (h : List Entry) → IsTold store.old h → (file : ℕ) (at : ℕ) → result ≢ Err (damage.Damaged file at) }
     ensures counted { CountsVol store.old.storage.faults store.new.storage.faults result }
 {

@@ -238,20 +238,20 @@ applies-all h from (q ∷ requests) (reply.Damaged file at ∷ replies) upto r =
 applies-all h from (q ∷ requests) (reply.Bye ∷ replies) upto r = subst (λ (n : ℕ). AppliesAll n replies) r.4.2 (applies-all h r.0 requests replies upto r.5)
 
 -- each query is over the last apply
-answers-last : (h : Option (List Entry)) (from : Look) (requests : List Request) (replies : List Reply) (upto : Look) → LegalRun AllowedAlone h from requests replies upto → AnswersLast from.known replies
+answers-last : (h : Option (List Entry)) (from : Look) (requests : List Request) (replies : List Reply) (upto : Look) → LegalRun AllowedAlone h from requests replies upto → AnswersLast from.known requests replies
 answers-last h from [] [] upto r = tt
 answers-last h from [] (t ∷ replies) upto r = absurd r
 answers-last h from (q ∷ requests) [] upto r = absurd r
 answers-last h from (q ∷ requests) (reply.Applied m ∷ replies) upto r =
-    subst (λ (n : ℕ). AnswersLast n replies) r.4.1 (answers-last h r.0 requests replies upto r.5)
+    subst (λ (n : ℕ). AnswersLast n requests replies) r.4.1 (answers-last h r.0 requests replies upto r.5)
 answers-last h from (q ∷ requests) (reply.Rows m table ∷ replies) upto r =
-    (r.4.1.1, subst (λ (n : ℕ). AnswersLast n replies) r.4.1.0 (answers-last h r.0 requests replies upto r.5))
+    (r.4.1.1, subst (λ (n : ℕ). AnswersLast n requests replies) r.4.1.0 (answers-last h r.0 requests replies upto r.5))
 answers-last h from (q ∷ requests) (reply.QueryRefused m number place ∷ replies) upto r =
-    (r.4.1.1, subst (λ (n : ℕ). AnswersLast n replies) r.4.1.0 (answers-last h r.0 requests replies upto r.5))
-answers-last h from (q ∷ requests) (reply.Done m ∷ replies) upto r = subst (λ (n : ℕ). AnswersLast n replies) r.4.1 (answers-last h r.0 requests replies upto r.5)
-answers-last h from (q ∷ requests) (reply.Refused number place ∷ replies) upto r = subst (λ (n : ℕ). AnswersLast n replies) r.4.1 (answers-last h r.0 requests replies upto r.5)
-answers-last h from (q ∷ requests) (reply.Damaged file at ∷ replies) upto r = subst (λ (n : ℕ). AnswersLast n replies) r.4.1 (answers-last h r.0 requests replies upto r.5)
-answers-last h from (q ∷ requests) (reply.Bye ∷ replies) upto r = subst (λ (n : ℕ). AnswersLast n replies) r.4.1 (answers-last h r.0 requests replies upto r.5)
+    (r.4.1.1, subst (λ (n : ℕ). AnswersLast n requests replies) r.4.1.0 (answers-last h r.0 requests replies upto r.5))
+answers-last h from (q ∷ requests) (reply.Done m ∷ replies) upto r = (r.0.known, r.4.1, answers-last h r.0 requests replies upto r.5)
+answers-last h from (q ∷ requests) (reply.Refused number place ∷ replies) upto r = (r.0.known, r.4.1, answers-last h r.0 requests replies upto r.5)
+answers-last h from (q ∷ requests) (reply.Damaged file at ∷ replies) upto r = (r.0.known, r.4.1, answers-last h r.0 requests replies upto r.5)
+answers-last h from (q ∷ requests) (reply.Bye ∷ replies) upto r = (r.0.known, r.4.1, answers-last h r.0 requests replies upto r.5)
 
 -- what is left behind the others: what may have been before these replies, none of which acknowledges a write, or a write that failed
 module _ (h : List Entry) (e : Entry) where

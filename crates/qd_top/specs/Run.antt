@@ -20,7 +20,7 @@ use Rattle.qd_gen.specs.Generated.{input as generated}
 use Rattle.qd_print.specs.Printed.{reply_bytes}
 use Rattle.qd_score_model.specs.Kept.{RisesWithin}
 use Rattle.qd_gen.specs.Quieted.{without_done}
-use Rattle.qd_session.specs.Alone.{AllowedAlone, LeavesOpen, SaysOwn}
+use Rattle.qd_session.specs.Alone.{AllowedAlone, LeavesOpen, SaysOwn, StaysApplied}
 use Rattle.qd_session.specs.Legal.{Legal, done_numbers}
 use Rattle.qd_session.specs.Looks.{Extends, Look}
 use Rattle.qd_session.specs.Session.{IsBad, IsClean, IsWaiting, IsWrittenUpTo, PutTo, TakenFrom, refusal}
@@ -94,13 +94,16 @@ AppliesAll n (reply.Done m ∷ replies) = AppliesAll (n + 1) replies
 AppliesAll n (reply.Applied m ∷ replies) = (m ≡ n) × AppliesAll n replies
 AppliesAll n (given ∷ replies) = AppliesAll n replies
 
--- Each query is answered over just what the last apply before it gave, which was n before these replies.
-abbrev pub AnswersLast : ℕ → List Reply → Type 0
-AnswersLast n [] = Unit {0}
-AnswersLast n (reply.Applied m ∷ replies) = AnswersLast m replies
-AnswersLast n (reply.Rows m table ∷ replies) = (m ≡ n) × AnswersLast n replies
-AnswersLast n (reply.QueryRefused m number place ∷ replies) = (m ≡ n) × AnswersLast n replies
-AnswersLast n (given ∷ replies) = AnswersLast n replies
+-- Each query is answered over just what the last apply before it gave, which was n before these replies; or behind an apply that failed
+-- over what that left, which is no less.
+abbrev pub AnswersLast : ℕ → List Request → List Reply → Type 0
+AnswersLast n [] [] = Unit {0}
+AnswersLast n [] (given ∷ replies) = ⊥
+AnswersLast n (asked ∷ requests) [] = ⊥
+AnswersLast n (asked ∷ requests) (reply.Applied m ∷ replies) = AnswersLast m requests replies
+AnswersLast n (asked ∷ requests) (reply.Rows m table ∷ replies) = (m ≡ n) × AnswersLast n requests replies
+AnswersLast n (asked ∷ requests) (reply.QueryRefused m number place ∷ replies) = (m ≡ n) × AnswersLast n requests replies
+AnswersLast n (asked ∷ requests) (given ∷ replies) = (m : ℕ) × StaysApplied asked n m × AnswersLast m requests replies
 
 -- A request says this transaction, and was answered that the volume failed, or that no memory was found.
 abbrev pub IsFailedWrite : List Entry → (sequenced : ℕ) → Request → Reply → Entry → Type 0
@@ -124,7 +127,7 @@ pub record Replied (before after : Store) (requests : List Request) (replies : L
   pub legal : Legal AllowedAlone after.history (look_of before) (look_of after) requests replies
   pub own : IsOwn before after replies
   pub applies : AppliesAll before.sequenced replies
-  pub answers : AnswersLast before.applied replies
+  pub answers : AnswersLast before.applied requests replies
   pub left : LeavesOwn after.history before after requests replies
 
 -- A run over frames: the bytes taken from the input, the requests that they spell and how they end, and the replies, one

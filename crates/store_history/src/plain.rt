@@ -1,5 +1,5 @@
 //! The plain replay of transactions: tables whose rows stand in one list, changed one by one as the written meaning has it.
-use qd_base::{Cell, Col, Duplicate, Entry, Memory, Op, Row, RowList, Schema, same_name};
+use qd_base::{Cell, Col, Duplicate, Entry, KeyList, Memory, Op, Row, RowList, Schema, same_name};
 use qd_reference::put_all;
 use std::alloc::Global;
 
@@ -43,6 +43,7 @@ impl Plain {
             Op::Create { schema } => self.create(alloc, schema),
             Op::AddColumn { table, col } => self.widen(alloc, table.bytes(), col),
             Op::Insert { table, rows } => self.insert(alloc, table.bytes(), rows),
+            Op::SetKeys { table, keys } => self.rekey(table.bytes(), keys),
         }
     }
 
@@ -60,6 +61,16 @@ impl Plain {
             if same_name(table.schema.name.bytes(), name) {
                 table.rows = wider(alloc, &table.rows, col)?;
                 table.schema.cols.push(col.copy()?)?;
+            }
+        }
+        Ok(())
+    }
+
+    /// Sets the deduplication keys of a table, for rows that come after.
+    fn rekey(&mut self, name: &[u8], keys: &KeyList) -> Result<(), Memory> {
+        for table in &mut self.tables {
+            if same_name(table.schema.name.bytes(), name) {
+                table.schema.keys = keys.copy()?;
             }
         }
         Ok(())

@@ -37,7 +37,7 @@ impl From<PublishFault> for RoundFault {
     }
 }
 
-/// Drafts and merges the transactions behind the current version, up to a number.
+/// Drafts and merges the transactions behind the current version, up to a number, or before the next one that sets keys.
 pub fn merge_up_to<V: Volume>(
     alloc: Global,
     store: &mut Store<V>,
@@ -47,15 +47,15 @@ pub fn merge_up_to<V: Volume>(
     requires few { upto ≤ length store.old.store.sequence.refs }
     ensures store { store.new.store ≡ store.old.store }
     ensures over { IfOk result (λ m. IsMergedOver store.old.store.versions.versions m) }
-    ensures upto { IfOk result (λ m. m.upto ≡ upto) }
+    ensures upto { IfOk result (λ m. m.upto ≤ upto) }
 {
     let draft = store.draft(alloc, upto)?;
     let merged = draft.merge(alloc)?;
     Ok(merged)
 }
 
-/// Drafts, merges and publishes the transactions behind the current version, up to a number. It does nothing where they are
-/// shown already, or where there are fewer.
+/// Drafts, merges and publishes the transactions behind the current version, up to a number, or before the next one that sets
+/// keys. It does nothing where they are shown already, or where there are fewer.
 pub fn round<V: Volume>(
     alloc: Global,
     store: &mut Store<V>,

@@ -103,9 +103,12 @@ fn schema_of<V: Volume>(
     Ok(Some(Box::new(alloc, schema)?))
 }
 
-/// Whether two tables look alike: their names, and the names and kinds of their columns.
+/// Whether two tables look alike: their names, their keys, and the names and kinds of their columns.
 fn look_alike(a: &Schema, b: &Schema) -> bool {
     if a.name.bytes() != b.name.bytes() || a.cols.len() != b.cols.len() {
+        return false;
+    }
+    if a.keys.as_slice() != b.keys.as_slice() {
         return false;
     }
     for (x, y) in a.cols.as_slice().iter().zip(b.cols.as_slice()) {

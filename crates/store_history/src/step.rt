@@ -24,6 +24,7 @@ pub enum StoreStep {
     /// `end WRITER`: forgets a writer.
     End(u32),
     /// `round N`: drafts, merges and publishes the transactions behind the current version, up to a number; `round` up to the last.
+    /// The first of them aside, a transaction that sets keys ends the round in front of it.
     Round(Option<u64>),
     /// `twice N`: merges them twice, publishes one merge, and then the other one.
     Twice(u64),

@@ -114,7 +114,7 @@ fn is_small_write(stmt: &Stmt) -> bool
     ensures writes { OnTrue result (IsWrite stmt.now) }
 {
     match stmt {
-        Stmt::Create(_) => true,
+        Stmt::Create(_) | Stmt::Alter(_) => true,
         Stmt::Insert(insert) => insert.tuples.len() < MANY,
         Stmt::Query(_) | Stmt::Show(..) => false,
     }

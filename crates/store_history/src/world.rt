@@ -479,6 +479,21 @@ impl World {
         hold(!failed, "a fault of a device that doesn't fail")
     }
 
+    /// Makes rounds until all transactions are shown. Each of them shows more.
+    fn show_all(&mut self, scratch: &mut String) -> Result<(), Trouble> {
+        for _ in self.shown..self.record.len() {
+            let before = self.shown;
+            if before < self.record.len() {
+                self.expect(&StoreStep::Round(None), scratch)?;
+                hold(before < self.shown, "a round that shows nothing new")?;
+            }
+        }
+        hold(
+            self.shown == self.record.len(),
+            "a version of fewer transactions",
+        )
+    }
+
     /// Compares a store with the plain replay as it stands, when all is applied, and when the older versions are gone. No call fails.
     pub fn finish(&mut self, scratch: &mut String) -> Result<(), Trouble> {
         self.switch.mend();
@@ -486,12 +501,8 @@ impl World {
             return Ok(());
         }
         self.expect(&StoreStep::Check, scratch)?;
-        self.expect(&StoreStep::Round(None), scratch)?;
+        self.show_all(scratch)?;
         self.expect(&StoreStep::Check, scratch)?;
-        hold(
-            self.shown == self.record.len(),
-            "a version of fewer transactions",
-        )?;
         if let Held::Store(store) = &mut self.held {
             retire_others(store);
         }

@@ -93,7 +93,7 @@ fn commit<V: Volume>(
     Ok(parsed)
 }
 
-/// Drafts, merges and publishes all transactions.
+/// Drafts, merges and publishes all transactions: a load sets no keys, so they are one round.
 pub fn show_all<V: Volume>(
     rt: &impl Clock,
     alloc: Global,

@@ -1,7 +1,7 @@
 use Rattle.std.proofs.Common.{ℕ, Err, Ok, ap, refl}
 use Rattle.qd_volume.specs.Calls.{Storage}
 use Rattle.qd_store_backend.proofs.Leaving.{turned_leaves}
-use Rattle.qd_store_backend.proofs.Turns.{failed_told, never_damaged, of_volume, rows_damaged, turned_told}
+use Rattle.qd_store_backend.proofs.Turns.{failed_told, never_damaged, of_volume, published, rows_damaged, turned_told}
 use Rattle.qd_store_backend.proofs.rounds.turn_to.Goals as goal
 
 pub of_publish-requires : goal.of_publish-requires
@@ -24,6 +24,11 @@ returns-in-Err-clause-left g c =
 pub returns-in-Err-clause-damaged : goal.returns-in-Err-clause-damaged
 returns-in-Err-clause-damaged g c file at damaged =
     rows_damaged c.args.store.now c.args.merged.now c.publish.result c.in-Err.cause c.in-Err.is c.of_publish.result c.of_publish.ensures.fault file at (let e = damaged in cc) c.publish.ensures.damaged
+
+pub returns-in-Err-clause-unwritten : goal.returns-in-Err-clause-unwritten
+returns-in-Err-clause-unwritten g c file at damaged =
+    c.publish.ensures.unwritten file at
+    (published c.args.store.now c.args.merged.now c.publish.result c.in-Err.cause c.in-Err.is c.of_publish.result c.of_publish.ensures.fault file at (let e = damaged in cc))
 
 pub returns-in-Err-clause-whole : goal.returns-in-Err-clause-whole
 returns-in-Err-clause-whole g c h told file at damaged =

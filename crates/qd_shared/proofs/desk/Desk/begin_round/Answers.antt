@@ -1,7 +1,8 @@
-use Rattle.std.proofs.Common.{◌≡◌, ◌≢◌, ◌∙◌, ◌<◌, ℕ, length, IfSome, Ok, refl, sym, subst, arith}
-use Rattle.qd_store.specs.Drafts.{IsDraftedFrom}
+use Rattle.std.proofs.Common.{◌≡◌, ◌≢◌, ◌∙◌, ◌<◌, length, refl, sym, arith}
 use Rattle.qd_store_backend.specs.Backs.{current, n_in}
+use Rattle.qd_shared.specs.Desks.{items_in}
 use Rattle.qd_shared.proofs.Items.{items_count}
+use Rattle.qd_shared.proofs.Merging.{drafted_of}
 use Rattle.qd_shared.proofs.Showing.{more_of}
 use Rattle.qd_shared.proofs.desk.Desk.begin_round.Goals as goal
 
@@ -26,11 +27,5 @@ returns-clause-begun g c =
     let d = c.args.self.now in
     let all = items_count d.owned.store.sequence.refs d.history in
     let e = c.in-Ok.ensures in
-    let upto : c.in-Ok.draft.plan.upto ≡ c.round_end-upto.result = e.number in
-    let more = c.round_end-upto.ensures.more in
-    let few = c.round_end-upto.ensures.few in (
-      record { over = e.over; number = refl; told = subst (λ (n : ℕ). IfSome d.history (λ h. IsDraftedFrom (Ok c.in-Ok.draft) d.owned.store h n)) (sym upto) e.told },
-      c.next_block-next_block.ensures,
-      omega (arith, upto, more),
-      omega (arith, upto, few, all),
-    )
+    let few = c.round_end-upto.ensures.few in
+    (drafted_of d (length (items_in d)) c.round_end-upto.result c.in-Ok.draft e.over e.more e.most (omega (arith, few, all)) e.told, c.next_block-next_block.ensures)

@@ -11,7 +11,7 @@ end_round-requires-clause-round g c =
     let b = c.in-Ok-Drafted.ensures.begins in
     let is : c.in-Ok-Drafted.field-0 ≡ begun.Drafted c.in-Ok-Drafted.draft c.in-Ok-Drafted.next_block = search in
     let d = subst (λ x. IsBegun (Ok x) b.found b.left) is b.begun in
-    round_of c.begin_round.new.pass b.found b.left c.in-Ok-Drafted.draft c.in-Ok.merged c.in-Ok-Drafted.next_block c.in-Ok-Drafted.draft.plan.upto b.holds.noted b.holds.seen b.history b.calls d.0 d.1 d.2 d.3 c.in-Ok.ensures.merged b.passes.count
+    round_of c.begin_round.new.pass b.found b.left c.in-Ok-Drafted.draft c.in-Ok.merged c.in-Ok-Drafted.next_block b.holds.noted b.holds.seen b.history b.calls d.0 d.1 c.in-Ok.ensures.merged b.passes.count
 
 pub returns-in-Ok : goal.returns-in-Ok
 returns-in-Ok g c =

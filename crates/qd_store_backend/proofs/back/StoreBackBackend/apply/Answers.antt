@@ -2,7 +2,7 @@ use Rattle.std.proofs.Common.{refl, subst}
 use Rattle.qd_base.specs.declared.request.Request.TheVariants as request
 use Rattle.qd_session.specs.Alone.{AllowedAlone}
 use Rattle.qd_session.specs.Legal.{Handles}
-use Rattle.qd_store_backend.specs.Backs.{Back, GoesOn, IsRoundDamaged, back_shown, left_of}
+use Rattle.qd_store_backend.specs.Backs.{Back, GoesOn, back_shown, left_of}
 use Rattle.qd_store_backend.specs.Rounds.{number_in}
 use Rattle.qd_store_backend.proofs.Applied.{applied_handled, replied_damage, sound_number, vol_number}
 use Rattle.qd_store_backend.proofs.Going.{applied_back, applied_goes_on}
@@ -32,8 +32,4 @@ returns-clause-one_writer g c =
     subst (λ (b : Back). GoesOn b new) c.self.view_is (applied_goes_on old c.show_all-done.new.self (left_of c.left_behind-self-inside.result.history) (number_in c.show_all-done.result) c.show_all-done.ensures.shows)
 
 pub returns-clause-damaged : goal.returns-clause-damaged
-returns-clause-damaged g c =
-    let i = c.self.inside in
-    let old : Back = record { parts = i.parts; before = i.before; writer = i.writer; left = left_of i.left.history } in
-    λ file at is.
-    subst (λ (b : Back). IsRoundDamaged b.parts.owned file at) c.self.view_is (c.show_all-done.ensures.damaged file at (replied_damage c.show_all-done.result c.reply_with.result file at c.reply_with.ensures.reply is))
+returns-clause-damaged g c file at is = c.show_all-done.ensures.damaged file at (replied_damage c.show_all-done.result c.reply_with.result file at c.reply_with.ensures.reply is)

@@ -1,4 +1,4 @@
-use Rattle.std.proofs.Common.{◌≡◌, inr, None, Err, List, length, sym, subst, ◌∙◌, ap}
+use Rattle.std.proofs.Common.{◌≡◌, ◌<◌, inr, None, Err, List, length, sym, subst, ap, rules}
 use Rattle.std.proofs.lemmas.Result.{err_from_is_err_and}
 use Rattle.qd_base.specs.Lawful.{AreSchemas}
 use Rattle.qd_durable.specs.declared.fault.LogFault.{LogFault}
@@ -7,11 +7,11 @@ use Rattle.qd_manifest.specs.declared.shape.TableParts.{TableParts}
 use Rattle.qd_manifest.specs.Spelling.{schemas_in}
 use Rattle.qd_store.proofs.OldsRead.{same_cause}
 use Rattle.qd_store.proofs.MergedVersion.{may_over}
-use Rattle.qd_store_backend.specs.Backs.{IsGrowthDamaged, IsRoundDamaged, LeavesNoOther, Parts}
+use Rattle.qd_store_backend.specs.Backs.{LeavesNoOther, Parts, current, n_in}
 use Rattle.qd_store_backend.specs.Rounds.{StaysTold}
 use Rattle.qd_store_backend.proofs.Leaving.{leaves_same, leaves_still, told_next, told_still}
-use Rattle.qd_store_backend.proofs.Turns.{draft_damaged, rows_same, untold}
-use Rattle.qd_store_backend.proofs.parts.StoreParts.show.Goals as goal
+use Rattle.qd_store_backend.proofs.Turns.{draft_damaged, rows_same, shown_next, untold}
+use Rattle.qd_store_backend.proofs.parts.StoreParts.show_next.Goals as goal
 
 pub schemas_of-requires : goal.schemas_of-requires
 schemas_of-requires g c =
@@ -58,9 +58,8 @@ returns-in_err-turn_to-clause-damaged g c file at damaged =
     let r = c.from_residual-in_err-turn_to.result in
     let p = err_from_is_err_and r c.from_residual-in_err-turn_to.ensures.1 in
     let same = same_cause r c.in_err-turn_to.field-0.0 (log.Damaged file at) (subst (λ (f : LogFault). r ≡ Err f) p.2 p.1) damaged in
-    inr
-    (subst (λ (p : Parts). IsGrowthDamaged p.owned file at) c.self.view_is
-    (rows_same c.self.inside.store c.next_of.new.store c.next_of.ensures.store c.next_of.ensures.stays file at (c.in_err-turn_to.ensures.damaged file at (ap Err same))))
+    let unwritten = c.in_err-turn_to.ensures.unwritten file at (ap Err same) in
+    inr (rows_same c.turn_to.new.store c.next_of.new.store (sym unwritten.1) (sym unwritten.0) file at (c.in_err-turn_to.ensures.damaged file at (ap Err same)))
 
 pub returns-in_err-turn_to-clause-sound : goal.returns-in_err-turn_to-clause-sound
 returns-in_err-turn_to-clause-sound g c file at damaged =
@@ -77,5 +76,16 @@ returns-in_err-merged-clause-damaged g c file at damaged =
     let p = err_from_is_err_and r c.from_residual.ensures.1 in
     let same = same_cause r c.in_err-merged.field-0.0 (log.Damaged file at) (subst (λ (f : LogFault). r ≡ Err f) p.2 p.1) damaged in
     let all : c.args.upto ≡ length c.self.inside.store.store.sequence.refs = subst (λ (p : Parts). c.args.upto ≡ length p.owned.store.sequence.refs) (sym c.self.view_is) c.requires.all in
-    subst (λ (p : Parts). IsRoundDamaged p.owned file at) c.self.view_is
-    (draft_damaged c.self.inside.store c.args.upto all file at (c.in_err-merged.ensures.damaged file at (ap Err same)))
+    draft_damaged c.self.inside.store c.next_of.new.store c.next_of.ensures.store c.next_of.ensures.stays c.args.upto all file at (c.in_err-merged.ensures.damaged file at (ap Err same))
+
+pub returns-clause-shows : goal.returns-clause-shows
+returns-clause-shows g c =
+    let on : n_in (current c.self.inside.store.store) < n_in (current c.turn_to.new.store.store) =
+    shown_next c.self.inside.store.store c.next_of.new.store.store c.turn_to.new.store.store c.in_ok-merged.merged c.in_ok-merged.ensures.upto.0 c.in_ok-turn_to.ensures.turned in
+    record {
+      shown = subst (λ (p : Parts). n_in (current p.owned.store) < n_in (current c.turn_to.new.store.store)) c.self.view_is on;
+      sequence = search rules;
+      limits = search rules;
+      told = search rules;
+      damages = search rules;
+    }

@@ -1,8 +1,9 @@
 #!/usr/bin/env python3
 """Lets each call of the system that the program makes fail in turn, and looks at its answers and at what the folder has.
 
-Two sessions of `tsdb run --dir FOLDER` are made, one over a new folder and one over a store in which a batch waits to be applied. Each
-commits batches of two partitions, some of them late and one with a new column, applies, which removes blocks, asks, and ends. The library
+Three sessions of `tsdb run --dir FOLDER` are made, one over a new folder and two over a store in which a batch waits to be applied. Each
+commits batches of two partitions, some of them late and one with a new column, applies, which removes blocks, asks, and ends. In the third
+one keys are set between batches, so that an apply goes in two rounds, and rows replace others. The library
 `faults.c`, which is compiled and stands before the C library, counts the calls on files and on the standard ends, from the first one of
 the program to the last. With N calls, these runs are made:
 - for each call one in which it fails with EIO, one with ENOSPC, one with EINTR, and, where it reads or writes two bytes or more, one in
@@ -12,9 +13,9 @@ the program to the last. With N calls, these runs are made:
 
 Where the calls are interrupted or do half, the replies have to be those of the session without a fault. Else it ends with status 5 and no
 byte, with 0, or, where its standard input or output failed, with 3 or 4 and fewer replies; each reply is the right one or `E 52 0`, which
-stands as if its request hadn't been made. A second run, in which nothing fails, has to find all acknowledged batches in their order, no
-fewer applied ones than a reply told of, and at most one batch more, of those that were answered by `E 52 0` behind the last acknowledged
-one, or not answered; it commits and applies once more.
+stands as if its request hadn't been made, but that an apply may have shown the batches before the keys. A second run, in which nothing
+fails, has to find all acknowledged batches in their order, no fewer applied ones than a reply told of, and at most one batch more, of
+those that were answered by `E 52 0` behind the last acknowledged one, or not answered; it commits and applies once more.
 
 It prints for each kind of fault how many runs had which end; it ends with 1 where a run was wrong.
 
@@ -45,18 +46,35 @@ APPLY, SELECT = b"A\n", query("SELECT v FROM t")
 START, MINUTE, DAY = 1_704_067_200_000_000_000, 60_000_000_000, 86_400_000_000_000
 
 
+# the batch that is none: it sets keys; and batches whose rows have the times of others, which they replace behind it
+KEYS, AS_OF = 10, {11: 1, 12: 4}
+
+
 def time_of(number):
     """The time of a batch's row: every third one is late, and the days take turns."""
+    number = AS_OF.get(number, number)
     return START + number * MINUTE + number % 2 * DAY - (number % 3 == 0) * 10 * MINUTE
 
 
 def line(number):
+    if number == KEYS:
+        return query("ALTER TABLE t DEDUP ENABLE UPSERT KEYS(timestamp)")
     more = ",w=1i" if number == 4 else ""
     return batch(f"t v={number}i{more} {time_of(number)}\n".encode())
 
 
+def table(numbers):
+    """The numbers of the rows that batches leave, in order of time."""
+    found = []
+    for at, number in enumerate(numbers):
+        if KEYS in numbers[:at]:
+            found = [each for each in found if time_of(each) != time_of(number)]
+        found += [number] if number != KEYS else []
+    return sorted(found, key=time_of)
+
+
 def rows(numbers):
-    text = b"v\n" + b"".join(b"%d\n" % number for number in sorted(numbers, key=time_of))
+    text = b"v\n" + b"".join(b"%d\n" % number for number in table(numbers))
     return b"R %d %d\n" % (len(numbers), len(text)) + text
 
 
@@ -77,6 +95,7 @@ class Session:
 SESSIONS = [
     Session("a new folder", [1, APPLY, 2, SELECT, APPLY, 3, 4, APPLY, SELECT, 5]),
     Session("a store", [SELECT, 4, APPLY, 5, SELECT, 6, APPLY, 7, APPLY, SELECT], [1, 2, 3], [1, 2]),
+    Session("keys", [4, KEYS, 11, APPLY, SELECT, 12, APPLY, SELECT], [1, 2, 3], [1, 2]),
 ]
 
 
@@ -85,6 +104,7 @@ class Told:
 
     def __init__(self, session):
         self.there, self.shown, self.maybe, self.known = list(session.there), list(session.shown), [], len(session.shown)
+        self.may_show = []
 
     def takes(self, request, reply):
         """Whether a reply is a right one, which is taken in."""
@@ -96,10 +116,15 @@ class Told:
             self.maybe = []
             return reply == b"K %d\n" % len(self.there)
         if reply == FULL:
+            # of an apply that fails the rounds before may be shown
+            ends = [at for at, each in enumerate(self.there) if each == KEYS and at > len(self.shown)]
+            self.may_show += [self.there[:at] for at in ends] if request == APPLY else []
             return True
         if request == APPLY:
-            self.shown, self.known = list(self.there), len(self.there)
+            self.shown, self.known, self.may_show = list(self.there), len(self.there), []
             return reply == b"A %d\n" % len(self.there)
+        self.shown = next((each for each in self.may_show if reply == answer(each)), self.shown)
+        self.known, self.may_show = len(self.shown), []
         return reply == answer(self.shown)
 
     def leaves(self, request):

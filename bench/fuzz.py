@@ -307,7 +307,7 @@ REFUSED_AS_WRITE = {14, 17, 18, 19, 20, 32, 33, 34, 35, 36, 39}
 def sentence(rng, symbol, depth, above=None):
     """The words of a text that the grammar gives, with few of those ways that go deep."""
     if symbol in SHOWN:
-        is_table = symbol == "name" and above in ("source", "statement", "insert") and rng.random() < 0.9
+        is_table = symbol == "name" and above in ("source", "statement", "insert", "alter") and rng.random() < 0.9
         return [rng.choice(NAMES_OF_TABLES if is_table else SHOWN[symbol])]
     if symbol not in plain_sql.RULES:
         return [symbol[1:-1] if symbol.startswith("'") else rng.choice((symbol, symbol, symbol.lower()))]
@@ -730,10 +730,11 @@ def pg(program, rng, found, until, place):
 
 STORE = [*(query(text) for text in TABLES), b"A\n",
          batch(b"t,k=z v=5i,n=1i 1703980800000000000\nt,k=a s=\"late\" 1704067200500000000\nnew,a=b c=t 0\n"), b"A\n",
-         batch(b"t v=6i 1704067201000000000\nother x=1i 5\n"), query("INSERT INTO u (ts, k, x) VALUES ('2024-01-01T00:00:02', 'b', 9)")]
+         batch(b"t v=6i 1704067201000000000\nother x=1i 5\n"), query("ALTER TABLE t DEDUP ENABLE UPSERT KEYS(ts, k)"),
+         query("INSERT INTO u (ts, k, x) VALUES ('2024-01-01T00:00:02', 'b', 9)"), query("ALTER TABLE u ADD COLUMN y SYMBOL")]
 ASKS = [query(text) for text in ("t", "u", "SELECT count(), sum(v), min(w), max(w) FROM t", "new", "SHOW PARTITIONS FROM t",
                                  "t LATEST ON ts PARTITION BY k")]
-USE = [*ASKS, b"A\n", *ASKS, query("other"), batch(b"t v=8i 1704067199000000000\nu2 y=1i 1\n"), b"A\n", *ASKS, query("u2")]
+USE = [*ASKS, b"A\n", *ASKS, query("other"), query("ALTER TABLE u DEDUP DISABLE"), batch(b"t v=8i 1704067199000000000\nu2 y=1i 1\n"), b"A\n", *ASKS, query("u2")]
 VALUES_OF_BYTE = [lambda b: b ^ 1, lambda b: b ^ 128, lambda b: 0, lambda b: 255, lambda b: (b + 1) % 256]
 
 

@@ -9,7 +9,7 @@ import re
 WORD, QUOTED, TEXT, NUMBER, STRIDE, BAD = "word", "quoted", "text", "number", "stride", "bad"
 RESERVED = set("ALIGN AND AS ASC ASOF BY CREATE DESC FALSE FILL FROM IN INSERT INTO IS JOIN LATEST LIMIT LT NOT NULL ON OR ORDER PARTITION "
                "SAMPLE SELECT SHOW TABLE TRUE VALUES WHERE".split())
-NOT_BUILT = set("ALTER DELETE DROP EXPLAIN REFRESH TRUNCATE UPDATE VACUUM WITH".split())
+NOT_BUILT = set("DELETE DROP EXPLAIN REFRESH TRUNCATE UPDATE VACUUM WITH".split())
 MOST, MOST_OF_STRIDE, NESTING = 2**63 - 1, 1_000_000, 256
 
 PIECES = re.compile(rb"""(?P<gap>[ \t\r\n]|--[^\n]*)|(?P<word>[A-Za-z_][A-Za-z0-9_]*)|(?P<digits>[0-9][A-Za-z0-9_]*)|(?P<quoted>"[^"]+")"""
@@ -68,7 +68,7 @@ def tokens(text):
 
 GRAMMAR = """
 text = statement | statement ';'
-statement = query | create | insert | SHOW PARTITIONS FROM name
+statement = query | create | insert | alter | SHOW PARTITIONS FROM name
 create = CREATE TABLE name '(' columns ')' TIMESTAMP '(' name ')' PARTITION BY unit wal dedup
 columns = column_of | columns ',' column_of
 column_of = name kind
@@ -79,6 +79,7 @@ dedup = | DEDUP UPSERT KEYS names
 names = '(' name_list ')'
 name_list = name | name_list ',' name
 insert = INSERT INTO name VALUES tuples | INSERT INTO name names VALUES tuples
+alter = ALTER TABLE name ADD COLUMN column_of | ALTER TABLE name DEDUP ENABLE UPSERT KEYS names | ALTER TABLE name DEDUP DISABLE
 tuples = tuple | tuples ',' tuple
 tuple = '(' literals ')'
 literals = literal | literals ',' literal
@@ -196,7 +197,7 @@ def refused(text):
     """The code and the place with which a text of SQL is refused without a look at tables, or None."""
     found = tokens(text)
     words = [token.word() for token in found[:2]]
-    if found and (words[0] in NOT_BUILT or words[0] == "CREATE" and len(found) > 1 and words[1] != "TABLE"):
+    if found and (words[0] in NOT_BUILT or words[0] in ("CREATE", "ALTER") and len(found) > 1 and words[1] != "TABLE"):
         return 40, 0
     stop = stops_at(found)
     if stop is not None:

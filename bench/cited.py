@@ -19,19 +19,13 @@ import os
 import re
 import sys
 
+from contracts import WORD, contracts, read
+
 TOP = os.path.join(os.path.dirname(os.path.abspath(__file__)), "..")
-WORD = re.compile(r"[A-Za-z_][\w-]*")
 GHOST_USE = re.compile(r"^\s*ghost use Rattle\.(\w+)\.specs\.(\w+)\.\{([^}]*)\};", re.M)
 SPEC_USE = re.compile(r"^use Rattle\.(\w+)\.specs\.(\w+)\.\{([^}]*)\}", re.M)
 DEFINED = re.compile(r"^(?:(?:abbrev|unfoldable|record|data) )*(pub )?(?:(?:abbrev|unfoldable|record|data) )*([A-Za-z_][\w-]*)(?= .*:)", re.M)
 PUB_USE = re.compile(r"^pub use ([\w:]+?)(?:::\{([^}]*)\})?;", re.M)
-FUNCTION = re.compile(r"^(\s*)(pub )?(?:const |unsafe )*fn (\w+)")
-BLOCK = re.compile(r"^(pub )?(?:unsafe )?(impl|trait)\b(.*)$")
-
-
-def read(path):
-    with open(path, encoding="utf-8") as file:
-        return file.read()
 
 
 def given_out(crate):
@@ -45,38 +39,6 @@ def given_out(crate):
         if os.path.basename(path) == "lib.rt":
             names.update(re.findall(r"^pub (?:const |unsafe )*(?:fn|struct|enum|trait|type) (\w+)", text, re.M))
     return names
-
-
-def block_name(kind, rest):
-    """The type or the trait that a block is of: `impl<T> Trait for Name<T>` is of Name, and `trait Name: ..` of Name."""
-    rest = re.sub(r"^<(?:[^<>]|<[^<>]*>)*>", "", rest.strip()).strip()
-    if kind == "impl" and " for " in rest:
-        rest = rest.split(" for ", 1)[1]
-    words = WORD.findall(rest)
-    return words[0] if words else ""
-
-
-def contracts(path):
-    """(name, line, is public, block, clauses) for each function: the block is the impl or trait around it, or None."""
-    lines = read(path).split("\n")
-    block = None
-    n = 0
-    while n < len(lines):
-        if lines[n] == "}":
-            block = None
-        found = BLOCK.match(lines[n])
-        if found and not lines[n].endswith("}"):
-            public, kind, rest = found.groups()
-            block = (kind, bool(public), " for " in rest, block_name(kind, rest.split("{")[0]))
-        found = FUNCTION.match(lines[n])
-        if found:
-            indent, public, name = found.groups()
-            first = n
-            while n < len(lines) and lines[n] not in (indent + "{", indent + "{}") and not lines[n].endswith((";", "{", "{}")):
-                n += 1
-            clauses = re.search(r"\b(?:requires|ensures)\b.*", "\n".join(lines[first : n + 1]), re.S)
-            yield name, first + 1, bool(public), block, clauses.group(0) if clauses else ""
-        n += 1
 
 
 def is_public(name, public, block, names):

@@ -1,8 +1,9 @@
 #!/usr/bin/env python3
 """Draws the ways of a write and of a query, docs/write.svg and docs/query.svg: what each step does, and the crates that do it.
 
-usage: docs/pictures.py [--check]      --check changes nothing, and ends with 1 where a picture isn't what would be drawn, or names a
-crate that isn't in crates.txt
+usage: docs/pictures.py [--check]      --check changes nothing, and ends with 1 where a picture isn't what would be drawn
+
+It also ends with 1 where a step names a crate that isn't in crates.txt.
 """
 import html
 import os
@@ -14,8 +15,8 @@ WIDTH, HEIGHT, ACROSS, DOWN, EDGE = 196, 92, 44, 56, 20
 COLOURS = {"outside": "#ffffff", "sessions": "#dfe9f7", "language": "#e4f3e0", "query": "#fbeed3", "rows": "#f7e0e6", "store": "#e9e2f5",
            "base": "#e8e8e8"}
 
-# A picture: its rows of steps, from left to right. A step: its title, what it does in two lines, its crates and its layer; a row begins with
-# its name. Behind each row but the last an arrow goes down to the next one, with what it says.
+# A picture: its rows, each with its name and its steps from left to right. A step: its title, what it does in two lines, its crates and its
+# layer. From the last step of a row an arrow goes down to the first one of the next row.
 WRITE = [
     ("acknowledged", [
         ("bytes", "a batch of lines, or", "INSERT, CREATE, ALTER", "", "outside"),

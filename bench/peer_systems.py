@@ -6,6 +6,7 @@ microseconds. Servers listen on 127.0.0.1 alone, and end with the process that s
 """
 import ctypes
 import datetime
+import hashlib
 import json
 import os
 import pwd
@@ -135,8 +136,20 @@ class System:
         self.folder, self.options, self.took = os.path.join(folder, "store"), options, 0
 
     @classmethod
-    def missing(cls):
+    def missing(cls, options):
+        """What of it isn't there."""
         return [program for program in cls.programs if not shutil.which(program)]
+
+    @classmethod
+    def remedy(cls):
+        """What to do where something is missing."""
+        return f"--install installs {', '.join(cls.packages)}"
+
+    @classmethod
+    def version(cls, options):
+        """Its version: that of its package, where the system tells."""
+        told = subprocess.run(["dpkg-query", "-W", "-f", "${Version}", cls.packages[0]], capture_output=True, text=True)
+        return told.stdout if told.returncode == 0 and told.stdout else "of another origin"
 
     def begin(self, senders):
         """Makes an empty store with its tables, for so many senders."""
@@ -189,10 +202,11 @@ def lines_of_q(rows):
 
 
 class FrameWriter:
-    """A session of the program that is fed."""
+    """A session of the program that is fed, once it answers."""
 
     def __init__(self, session):
         self.session = session
+        self.show()
 
     def write(self, frame):
         number_in(self.session.ask(frame)[1], b"K")
@@ -222,6 +236,19 @@ class Program(System):
     }
 
     session = server = None
+
+    @classmethod
+    def missing(cls, options):
+        return [] if os.access(options.program, os.X_OK) else [options.program]
+
+    @classmethod
+    def remedy(cls):
+        return "build it by `rt run -- run < stdin` in crates/tsdb, or name it by --program"
+
+    @classmethod
+    def version(cls, options):
+        with open(options.program, "rb") as file:
+            return f"SHA-256 {hashlib.sha256(file.read()).hexdigest()[:16]}"
 
     def begin(self, senders):
         if senders > 1:
@@ -293,7 +320,7 @@ HOSTS = "WITH RECURSIVE h(host) AS (SELECT min(host) FROM t UNION ALL SELECT (SE
 class Sqlite(System):
     """SQLite, in the process of each sender and of this script."""
 
-    name, durable, packages = "SQLite", True, ("sqlite3",)
+    name, durable = "SQLite", True
     about = "journal_mode=WAL, synchronous=FULL: each commit syncs its log; a library in the sender's process, which binds values, so no text is read"
     SQL = {
         "all": "SELECT count(*), sum(v), min(v), max(v) FROM t",
@@ -307,6 +334,10 @@ class Sqlite(System):
     INDEX = "CREATE INDEX t_host_at ON t (host, at)"
 
     database = None
+
+    @classmethod
+    def version(cls, options):
+        return sqlite3.sqlite_version
 
     def connection(self):
         """A connection with the settings."""
@@ -500,15 +531,26 @@ class Postgres(Server):
         return found[-1] if found else shutil.which(name)
 
     @classmethod
-    def missing(cls):
+    def missing(cls, options):
         return [name for name in ("initdb", "postgres") if not cls.tool(name)]
 
+    @classmethod
+    def version(cls, options):
+        return subprocess.run([cls.tool("postgres"), "--version"], capture_output=True, text=True, check=True).stdout.split()[-1].strip("()")
+
     def configure(self):
-        if not os.listdir(self.folder):
-            made = subprocess.run([self.tool("initdb"), "-D", self.folder, "-U", "bench", "-A", "trust", "-E", "UTF8", "--locale=C", "--no-sync"],
+        """Copies an empty cluster, which is made once for all stores."""
+        made = os.path.join(self.options.folder, "cluster")
+        if not os.path.isdir(made):
+            os.makedirs(made)
+            self.own(made)
+            done = subprocess.run([self.tool("initdb"), "-D", made, "-U", "bench", "-A", "trust", "-E", "UTF8", "--locale=C", "--no-sync"],
                                   capture_output=True, text=True, cwd="/", **self.run_as())
-            if made.returncode:
-                raise ValueError(f"initdb: {made.stderr[-300:]}")
+            if done.returncode:
+                shutil.rmtree(made)
+                raise ValueError(f"initdb: {done.stderr[-300:]}")
+        if not os.listdir(self.folder):
+            subprocess.run(["cp", "-a", made + "/.", self.folder], check=True)
 
     def words(self):
         settings = {"listen_addresses": HOST, "port": self.port, "unix_socket_directories": "", "shared_buffers": "1GB", "max_wal_size": "4GB",
@@ -774,7 +816,7 @@ class ClickHouse(HttpServer):
     }
 
     @classmethod
-    def missing(cls):
+    def missing(cls, options):
         return [] if cls.server() else list(cls.programs)
 
     @staticmethod

@@ -16,38 +16,43 @@ was started anew behind the pages of its files were dropped from memory, and war
 compared, row by row, with what this script works out by plain loops.
 
 All is done ROUNDS times, by one system after the other in each round; medians are printed, and where an answer was wrong or something
-failed that in their place. It ends with 1 then. --svg writes a plot.
+failed that in their place. It ends with 1 then. --keep writes all that was measured into a file, behind each row, with what the machine is
+and what else it did meanwhile; `kept.py` makes a table and a plot of that.
 
-usage: peers.py [--install] [--rows N] [--rounds N] [--systems NAME,..] [--only WORDS] [--indexed] [--svg FILE] [--folder PATH]
+usage: peers.py [--install] [--rows N] [--rounds N] [--systems NAME,..] [--only WORDS] [--indexed] [--keep FILE] [--folder PATH]
                 [--program PATH]
---install first installs the missing packages by apt-get, as root. --only takes the loads and the questions in whose words the regular
-expression is found. --indexed makes the index of SQLite and PostgreSQL before the rows come, which otherwise is made behind a load's
-time. --folder is a folder on the file system to measure; all is made in one below it and removed. As root PostgreSQL runs as the user
-postgres, who has to be let into that folder. Build the program first: run `rt run -- run < stdin` in crates/tsdb.
+--install first installs the missing packages by apt-get, as root. Where a system isn't there nothing is measured; --systems takes those
+that it names. --only takes the loads and the questions in whose words the regular expression is found. --indexed makes the index of SQLite
+and PostgreSQL before the rows come, which otherwise is made behind a load's time. --folder is a folder on the file system to measure; all
+is made in one below it and removed. As root PostgreSQL runs as the user postgres, who has to be let into that folder. Build the program
+first: run `rt run -- run < stdin` in crates/tsdb.
 """
 import argparse
 import contextlib
+import datetime
 import multiprocessing
 import os
 import re
 import shutil
 import signal
-import statistics
 import subprocess
 import sys
 import tempfile
 import time
 import traceback
 
-from machine import Machine
-from peer_systems import BEGIN, DAY, END, HOUR, NEXT_DAY, PER_REQUEST, QUESTIONS, SYSTEMS, end_all, forget, micros
-from plot import plot
-from program import parsed
-from store import probe
+from kept import NUMBER, RATE, TIME, TITLES, Kept
+from machine import Machine, described
+from peer_systems import BEGIN, DAY, END, HOUR, NEXT_DAY, PER_REQUEST, QUESTIONS, SYSTEMS, dies_with_parent, end_all, forget, micros
+from program import PROGRAM
+from store import sync_time
 
 LATE, OTHERS = 7, 10  # of ten rows that one is late
 ASKS = 3  # the last of which is warm
+LONGEST = 3_600  # seconds for which one is waited
 SIGNALS = (signal.SIGINT, signal.SIGTERM, signal.SIGHUP)
+WIDE = 58  # of the words of a printed row
+FILLING, DISK, MEMORY = "its store is filled", "bytes on the disk, a row", "MB of memory at most, while asked"
 FORKED = multiprocessing.get_context("fork")
 WORDS = {"all": "count, sum, min, max of all", "hours": "samples of 1h by host", "last": "last row of each host", "day": "one host, one day",
          "kinds": "by a SYMBOL of 4, with max", "joined": "ASOF JOIN, aggregated", "matches": "ASOF JOIN, its rows"}
@@ -133,6 +138,7 @@ class Sender:
     @staticmethod
     def serve(pipe, system, requests):
         """Says that it is ready, and does each step that it is told: what it says behind one is the moment, or what failed."""
+        dies_with_parent()
         for each in SIGNALS:
             signal.signal(each, signal.SIG_IGN if each == signal.SIGINT else signal.SIG_DFL)
         try:
@@ -156,7 +162,12 @@ class Sender:
 
     def heard(self):
         """What it said, once it has."""
-        said = self.pipe.recv()
+        if not self.pipe.poll(LONGEST):
+            raise ValueError(f"a sender said nothing for {LONGEST} s")
+        try:
+            said = self.pipe.recv()
+        except EOFError:
+            raise ValueError("a sender has ended") from None
         if isinstance(said, str):
             raise ValueError(said)
         return said
@@ -217,6 +228,7 @@ def measure_load(options, kind, rows, requests, senders):
         system = kind(place, options)
         try:
             system.begin(senders)
+            os.sync()  # so that no load pays for what was written before
             acknowledged, seen = fed(system, requests, senders)
             system.read()
             checked(system.ask("all")[1], rows.answer("all"))
@@ -226,29 +238,27 @@ def measure_load(options, kind, rows, requests, senders):
 
 
 class Measured:
-    """What was measured of each system, by what was measured: lists of pairs, or the words of what failed."""
+    """What is measured, kept row by row."""
 
-    def __init__(self):
-        self.found, self.failed = {}, {}
+    def __init__(self, options, about):
+        self.kept, self.path = Kept(about), options.keep
 
-    def add(self, what, kind, work):
-        """Adds what the work gives, unless something failed before."""
-        if (what, kind.name) in self.failed:
+    def add(self, words, kind, work):
+        """Adds the two numbers that the work gives, unless something failed before."""
+        if self.kept.failure(words, kind.name):
             return
         try:
-            self.found.setdefault((what, kind.name), []).append(work())
+            self.kept.add(words, kind.name, work())
         except Exception as fault:
-            self.failed[what, kind.name] = "WRONG" if isinstance(fault, Wrong) else "failed"
-            print(f"{kind.name}, {what}: {self.failed[what, kind.name]}: {fault}", file=sys.stderr, flush=True)
+            self.kept.fail(words, kind.name, f"{'WRONG' if isinstance(fault, Wrong) else 'failed'}: {fault or type(fault).__name__}")
+            print(f"{kind.name}, {words}: {self.kept.failure(words, kind.name)}", file=sys.stderr, flush=True)
 
-    def medians(self, what, kind):
-        """The medians of both numbers, or None."""
-        pairs = self.found.get((what, kind.name))
-        return None if (what, kind.name) in self.failed or not pairs else tuple(map(statistics.median, zip(*pairs)))
-
-    def cell(self, what, kind, form):
-        medians = self.medians(what, kind)
-        return self.failed.get((what, kind.name), "-") if medians is None else form(*medians)
+    def end(self, of, words):
+        """Ends a row, and prints it."""
+        self.kept.list(of, words)
+        print(f"{words:<{WIDE}}" + "".join(f" {self.kept.cell(of, words, system):>18}" for system in self.kept.systems), flush=True)
+        if self.path:
+            self.kept.write(self.path)
 
 
 def loads(options):
@@ -274,7 +284,7 @@ def measure_loads(options, kinds, rows, measured):
         for number in range(options.rounds):
             for kind in in_turn(kinds, number):
                 measured.add(words, kind, lambda: measure_load(options, kind, rows, requests[kind], senders))
-        print_row(words, kinds, measured, lambda acknowledged, seen: f"{acknowledged / 1e6:.3g} / {seen / 1e6:.3g}")
+        measured.end(RATE, words)
 
 
 def filled(kind, place, options, rows):
@@ -316,65 +326,56 @@ def measure_questions(options, kinds, rows, measured):
         systems = []
         for kind in kinds:
             place = stack.enter_context(placed(options))
-            measured.add("its store", kind, lambda: systems.append(filled(kind, place, options, rows)) or (0, 0))
-        print_head("ms, warm / cold", kinds)
+            measured.add(FILLING, kind, lambda: systems.append(filled(kind, place, options, rows)) or (0, 0))
+        print_head(TIME, kinds)
         for question in questions:
             wanted = rows.answer(question)
             for number in range(options.rounds):
                 for system in in_turn(systems, number):
                     if question not in system.lacks:
                         measured.add(WORDS[question], type(system), lambda: asked(system, question, wanted))
-            print_row(WORDS[question], kinds, measured, lambda warm, cold: f"{warm * 1e3:.1f} / {cold * 1e3:.1f}")
+            measured.end(TIME, WORDS[question])
         for system in systems:
-            measured.add("bytes on the disk, a row", type(system), lambda: (system.size() / (len(rows.t) + len(rows.q)),) * 2)
+            measured.add(DISK, type(system), lambda: (system.size() / (len(rows.t) + len(rows.q)),) * 2)
             if system.took:
-                measured.add("MB of memory at most", type(system), lambda: (system.took,) * 2)
-        for words in ("bytes on the disk, a row", "MB of memory at most"):
-            print_row(words, kinds, measured, lambda number, _: f"{number:,.0f}")
+                measured.add(MEMORY, type(system), lambda: (system.took,) * 2)
+        print_head(NUMBER, kinds)
+        for words in (DISK, MEMORY):
+            measured.end(NUMBER, words)
 
 
-def titled(kind):
-    return kind.name + ("" if kind.durable else " *")
+def print_head(of, kinds):
+    print(f"\n{TITLES[of]:<{WIDE}}" + "".join(f"{kind.name + ('' if kind.durable else ' *'):>19}" for kind in kinds), flush=True)
 
 
-def print_head(words, kinds):
-    print(f"\n{words:<40}" + "".join(f"{titled(kind):>19}" for kind in kinds), flush=True)
-
-
-def print_row(words, kinds, measured, form):
-    print(f"{words:<40}" + "".join(f"{measured.cell(words, kind, form):>19}" for kind in kinds), flush=True)
-
-
-def install(kinds):
+def install(kinds, options):
     """Installs the packages of which a program is missing; no service is started."""
-    packages = [package for kind in kinds if kind.missing() for package in kind.packages]
+    packages = [package for kind in kinds if kind.missing(options) for package in kind.packages]
     if packages:
-        unasked = dict(os.environ, DEBIAN_FRONTEND="noninteractive", SYSTEMD_OFFLINE="1")
+        unasked = dict(os.environ, DEBIAN_FRONTEND="noninteractive", SYSTEMD_OFFLINE="1", RUNLEVEL="1")
         subprocess.run(["apt-get", "update"], check=True, env=unasked, stdout=subprocess.DEVNULL)
         subprocess.run(["apt-get", "install", "-y", "--no-install-recommends", "--no-upgrade", *packages], check=True, env=unasked, stdout=subprocess.DEVNULL)
 
 
-def version(packages):
-    """The versions of packages, where the system tells."""
-    if not packages or not shutil.which("dpkg-query"):
-        return ""
-    told = subprocess.run(["dpkg-query", "-W", "-f", "${Version}", packages[0]], capture_output=True, text=True)
-    return f" ({packages[0]} {told.stdout})" if told.returncode == 0 and told.stdout else ""
-
-
-def there(options):
-    """The systems to measure. Says of each what it is, or what is missing."""
-    kinds = []
-    for kind in SYSTEMS:
-        if options.systems and kind.name.lower() not in options.systems.lower().split(","):
-            continue
-        missing = kind.missing()
-        if missing:
-            print(f"{kind.name}: not there: {', '.join(missing)}; --install installs {', '.join(kind.packages)}")
-            continue
-        print(f"{kind.name}{version(kind.packages)}: {'durable' if kind.durable else 'NOT DURABLE'}: {kind.about}; seen {kind.showing}")
-        kinds.append(kind)
+def chosen(parser, options):
+    """The systems to measure, all of which are there."""
+    names = [name.strip().lower() for name in options.systems.split(",") if name.strip()]
+    unknown = set(names) - {kind.name.lower() for kind in SYSTEMS}
+    if unknown:
+        parser.error(f"no system {', '.join(sorted(unknown))}; there are {', '.join(kind.name for kind in SYSTEMS)}")
+    kinds = [kind for kind in SYSTEMS if not names or kind.name.lower() in names]
+    if options.install:
+        install(kinds, options)
+    missing = [f"{kind.name}: {', '.join(kind.missing(options))}; {kind.remedy()}" for kind in kinds if kind.missing(options)]
+    if missing:
+        parser.error("\n".join(["not there:", *missing]))
     return kinds
+
+
+def about(kind, options):
+    """What is said of a system."""
+    return {"name": kind.name, "version": kind.version(options), "durable": kind.durable, "about": kind.about, "showing": kind.showing,
+            "lacks": [WORDS[question] for question in kind.lacks]}
 
 
 def ended(*_):
@@ -392,27 +393,32 @@ def main():
     parser.add_argument("--systems", default="")
     parser.add_argument("--only", default="")
     parser.add_argument("--indexed", action="store_true")
-    parser.add_argument("--svg")
+    parser.add_argument("--keep")
     parser.add_argument("--folder", default=tempfile.gettempdir())
-    options = parsed(parser)
+    parser.add_argument("--program", default=PROGRAM)
+    options = parser.parse_args()
     for each in SIGNALS:
         signal.signal(each, ended)
-    if options.install:
-        install([kind for kind in SYSTEMS if not options.systems or kind.name.lower() in options.systems.lower().split(",")])
-    machine, measured, rows = Machine(), Measured(), Rows(options.rows)
-    kinds = there(options)
-    print(f"{len(rows.t):,} rows of t, {len(rows.q):,} of q; medians of {options.rounds}; * is not durable; the index of SQLite and PostgreSQL is made "
-          f"{'before the rows come' if options.indexed else 'behind the load'}")
+    kinds = chosen(parser, options)
+    machine, rows, began = Machine(), Rows(options.rows), datetime.datetime.now(datetime.timezone.utc)
+    measured = Measured(options, {
+        "whole": False, "date": f"{began:%Y-%m-%d}", "rounds": options.rounds, "t": len(rows.t), "q": len(rows.q),
+        "index": "before the rows come" if options.indexed else "behind the load", "only": options.only, "shares": None,
+        "machine": described(options.folder), "sync": sync_time(options.folder), "systems": [about(kind, options) for kind in kinds]})
+    kept = measured.kept
+    for system in kept.systems:
+        print(f"{system['name']} ({system['version']}): {'durable' if system['durable'] else 'NOT DURABLE'}: {system['about']}; rows are seen {system['showing']}")
+    print(f"{kept.origin()} * is not durable")
     with all_placed(options):
-        print_head("millions of rows/s, acknowledged / seen", kinds)
+        print_head(RATE, kinds)
         measure_loads(options, kinds, rows, measured)
         measure_questions(options, kinds, rows, measured)
-        probe(options.folder)
-    print(machine)
-    if options.svg:
-        with open(options.svg, "w") as file:
-            file.write(plot(kinds, [words for words, *_ in loads(options)], list(WORDS.values()), measured.medians))
-    return 1 if measured.failed else 0
+    kept.about["whole"] = not options.only and kinds == SYSTEMS
+    kept.about["shares"] = machine.shares()
+    print(f"\n{machine}\n{kept.warning()}")
+    if options.keep:
+        kept.write(options.keep)
+    return 1 if any(kept.about["failed"].values()) else 0
 
 
 if __name__ == "__main__":

@@ -60,6 +60,9 @@ class Plot:
         if medians:
             first, second = (scale(each * factor) for each in medians)
             self.bar(LEFT, y, first, number)
+            if first < second:
+                middle = y + BAR / 2 - 1
+                self.put(f'<line x1="{LEFT + max(first, 1):.1f}" x2="{LEFT + second:.1f}" y1="{middle:.1f}" y2="{middle:.1f}" stroke="#bbb"/>')
             self.put(f'<line x1="{LEFT + second:.1f}" x2="{LEFT + second:.1f}" y1="{y - 0.5:.1f}" y2="{y + BAR - 1.5:.1f}" stroke="#111" stroke-width="2"/>')
             end = LEFT + max(first, second)
         self.words(end + 5, y + 8, told, NOTE)
@@ -89,7 +92,7 @@ def plot(kept):
         whole.panel("Millions of rows a second, acknowledged (line: seen by queries)", "rate", 1e-6, lambda rate: rate / marks[-1] * ROOM, marks)
     if times := whole.numbers("time", 1e3):
         low, high = math.floor(math.log10(min(times))), math.ceil(math.log10(max(times)))
-        whole.panel("Milliseconds, warm (line: cold)", "time", 1e3, lambda time: (math.log10(time) - low) / max(high - low, 1) * ROOM,
+        whole.panel("Milliseconds, warm (line: cold), on a scale of equal factors", "time", 1e3, lambda time: (math.log10(time) - low) / max(high - low, 1) * ROOM,
                     [10.0 ** power for power in range(low, high + 1)])
     whole.words(LEFT, whole.top + 6, f"medians of {kept.about['rounds']}; {kept.about['t']:,} rows of six values; {kept.about['date']}", NOTE)
     whole.top += 20

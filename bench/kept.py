@@ -116,6 +116,11 @@ class Kept:
                 f"{machine['processors']} processors ({machine['model']}), {machine['memory in GB']} GB, {machine['system']}, {machine['file system']}, "
                 f"a write and its sync {about['sync']:,.0f} microseconds; the index of SQLite and PostgreSQL is made {about['index']}.")
 
+    @staticmethod
+    def words(system):
+        """What is said of a system."""
+        return f"{'durable' if system['durable'] else 'not durable'}: {system['about']}; rows are seen {system['showing']}"
+
     def markdown(self):
         """The table."""
         heads = [system["name"] + ("" if system["durable"] else ", not durable") for system in self.systems]
@@ -126,8 +131,7 @@ class Kept:
                 lines.append(f"| **{title}** |" + " |" * len(heads))
             lines += [f"| {words} | " + " | ".join(self.cell(kind, words, system) for system in self.systems) + " |" for words in self.rows(kind)]
         lines += ["", self.origin(), ""]
-        lines += [f"- **{system['name']}** ({system['version']}), {'durable' if system['durable'] else 'not durable'}: {system['about']}; rows are seen {system['showing']}."
-                  for system in self.systems]
+        lines += [f"- **{system['name']}** ({system['version']}), {self.words(system)}." for system in self.systems]
         return "\n".join(lines) + "\n"
 
 

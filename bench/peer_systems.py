@@ -29,6 +29,7 @@ BEGIN, END = 1_706_313_600_000, 1_707_177_600_000  # of the rows: 2024-01-27 to 
 HOUR = 3_600_000
 SECONDS = 600  # that anything may take
 PAUSE = 0.02
+QUIET_SECONDS = 5  # for which the files of a system stay as they are before it counts as settled
 PER_REQUEST = 10_000  # rows, where no load says another number
 PDEATHSIG = 1  # of prctl(2)
 EPOCH = datetime.datetime(1970, 1, 1)
@@ -131,6 +132,7 @@ class System:
     programs = ()  # that have to be there
     lacks = ()  # questions that it has no query for
     showing = "at once"  # when acknowledged rows are seen
+    to_settle = False  # whether it is filled to be asked, and no load is measured
 
     def __init__(self, folder, options):
         self.folder, self.options, self.took = os.path.join(folder, "store"), options, 0
@@ -655,6 +657,8 @@ bind-address = "{host}:{second_port}"
   dir = "{folder}/data"
   wal-dir = "{folder}/wal"
   wal-fsync-delay = "0s"
+  cache-snapshot-write-cold-duration = "{cold}"
+  compact-full-write-cold-duration = "{cold_full}"
   query-log-enabled = false
 [monitor]
   store-enabled = false
@@ -686,9 +690,23 @@ class Influx(HttpServer):
         "kinds": lambda at, values, tag: (tag, *values),
     }
 
+    AS_IT_COMES, SOON = ("10m", "4h"), ("1s", "1s")  # how long nothing has to come before all is written as columns, and before these are joined
+
     def configure(self):
+        cold, cold_full = self.SOON if self.to_settle else self.AS_IT_COMES
         with open(os.path.join(self.folder, "influx.conf"), "w") as file:
-            file.write(INFLUX.format(host=HOST, folder=self.folder, port=self.port, second_port=self.second_port))
+            file.write(INFLUX.format(host=HOST, folder=self.folder, port=self.port, second_port=self.second_port, cold=cold, cold_full=cold_full))
+
+    def settle(self):
+        """Waits until it has written all rows as columns, and joined these."""
+        until, found, same = time.monotonic() + SECONDS, None, 0
+        while same < QUIET_SECONDS:
+            if time.monotonic() > until:
+                raise ValueError("its files don't come to rest")
+            time.sleep(1)
+            now = [(path, os.path.getsize(path)) for path in files_of(self.folder) if path.endswith((".tsm", ".wal", ".tmp"))]
+            is_done = now == found and not any(size for path, size in now if not path.endswith(".tsm"))
+            found, same = now, same + 1 if is_done else 0
 
     def words(self):
         return ["influxd", "run", "-config", os.path.join(self.folder, "influx.conf")]
@@ -719,7 +737,8 @@ class Victoria(HttpServer):
     """VictoriaMetrics, fed by lines over HTTP. Its values are floating point, and its times milliseconds."""
 
     name, durable, packages, programs, lacks = "VictoriaMetrics", False, ("victoria-metrics",), ("victoria-metrics",), ("joined", "matches")
-    about = "rows are acknowledged in memory and written some seconds later, which no setting changes; lines over HTTP; no cache of answers (nocache=1); it has no ASOF join"
+    about = ("rows are acknowledged in memory and synced about a second later, which no setting changes; lines over HTTP; no cache of answers "
+             "(nocache=1); it has no ASOF join")
     showing = "behind /internal/force_flush"
     ping = "/health"
     ALL = ("count_over_time", "sum_over_time", "min_over_time", "max_over_time")
@@ -751,8 +770,20 @@ class Victoria(HttpServer):
         most = self.one("max(max_over_time(t_w[10d])) by (dc)", "max_over_time")
         return f"union(sum({self.rolled(self.ALL[:2], self.SPAN)}) by (dc, rollup), {most})", at_end
 
+    def settle(self):
+        """Has it join its files."""
+        self.asked(post("/internal/force_flush"))
+        self.asked(post("/internal/force_merge"))
+        until = time.monotonic() + SECONDS
+        time.sleep(QUIET_SECONDS)  # it begins behind its answer
+        while b"vm_active_force_merges 0" not in self.asked(get("/metrics"))[1]:
+            if time.monotonic() > until:
+                raise ValueError("its merges don't end")
+            time.sleep(1)
+
     def words(self):
-        return ["victoria-metrics", f"-storageDataPath={self.folder}", f"-httpListenAddr={HOST}:{self.port}", "-retentionPeriod=100y", "-loggerLevel=ERROR"]
+        return ["victoria-metrics", f"-storageDataPath={self.folder}", f"-httpListenAddr={HOST}:{self.port}", "-retentionPeriod=100y",
+                "-loggerLevel=ERROR"]
 
     def writer(self):
         return HttpWriter(self.port, post("/internal/force_flush"))

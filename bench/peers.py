@@ -290,6 +290,7 @@ def measure_loads(options, kinds, rows, measured):
 def filled(kind, place, options, rows):
     """A store with all rows, closed, as it is best asked."""
     system = kind(place, options)
+    system.to_settle = True
     try:
         system.begin(1)
         of_q = [rows.q[first:first + PER_REQUEST] for first in range(0, len(rows.q), PER_REQUEST)]
@@ -298,6 +299,7 @@ def filled(kind, place, options, rows):
         system.settle()
     finally:
         system.close()
+    system.to_settle = False
     return system
 
 
@@ -327,6 +329,9 @@ def measure_questions(options, kinds, rows, measured):
         for kind in kinds:
             place = stack.enter_context(placed(options))
             measured.add(FILLING, kind, lambda: systems.append(filled(kind, place, options, rows)) or (0, 0))
+            if failure := measured.kept.failure(FILLING, kind.name):
+                for question in questions:
+                    measured.kept.fail(WORDS[question], kind.name, failure)
         print_head(TIME, kinds)
         for question in questions:
             wanted = rows.answer(question)
@@ -407,7 +412,7 @@ def main():
         "machine": described(options.folder), "sync": sync_time(options.folder), "systems": [about(kind, options) for kind in kinds]})
     kept = measured.kept
     for system in kept.systems:
-        print(f"{system['name']} ({system['version']}): {'durable' if system['durable'] else 'NOT DURABLE'}: {system['about']}; rows are seen {system['showing']}")
+        print(f"{system['name']} ({system['version']}), {kept.words(system)}")
     print(f"{kept.origin()} * is not durable")
     with all_placed(options):
         print_head(RATE, kinds)

@@ -49,6 +49,7 @@ from store import sync_time
 
 LATE, OTHERS = 7, 10  # of ten rows that one is late
 ASKS = 3  # the last of which is warm
+LEAST = 2_000  # rows, so that each host has some on each day: systems differ in what the sum of no rows is
 LONGEST = 3_600  # seconds for which one is waited
 SIGNALS = (signal.SIGINT, signal.SIGTERM, signal.SIGHUP)
 WIDE = 58  # of the words of a printed row
@@ -390,20 +391,29 @@ def ended(*_):
     sys.exit("peers.py: ended by a signal")
 
 
+def parser_of(text):
+    """A parser of command lines that name systems."""
+    parser = argparse.ArgumentParser(description=text, formatter_class=argparse.RawDescriptionHelpFormatter)
+    parser.add_argument("--systems", default="")
+    parser.add_argument("--folder", default=tempfile.gettempdir())
+    parser.add_argument("--program", default=PROGRAM)
+    parser.set_defaults(install=False, indexed=False)
+    return parser
+
+
 def main():
-    parser = argparse.ArgumentParser(description=__doc__, formatter_class=argparse.RawDescriptionHelpFormatter)
+    parser = parser_of(__doc__)
     parser.add_argument("--install", action="store_true")
     parser.add_argument("--rows", type=int, default=1_000_000)
     parser.add_argument("--rounds", type=int, default=5)
-    parser.add_argument("--systems", default="")
     parser.add_argument("--only", default="")
     parser.add_argument("--indexed", action="store_true")
     parser.add_argument("--keep")
-    parser.add_argument("--folder", default=tempfile.gettempdir())
-    parser.add_argument("--program", default=PROGRAM)
     options = parser.parse_args()
     for each in SIGNALS:
         signal.signal(each, ended)
+    if options.rows < LEAST or options.rounds < 1:
+        parser.error(f"it takes {LEAST:,} rows and one round at least")
     kinds = chosen(parser, options)
     machine, rows, began = Machine(), Rows(options.rows), datetime.datetime.now(datetime.timezone.utc)
     measured = Measured(options, {

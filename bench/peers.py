@@ -279,6 +279,8 @@ def in_turn(kinds, number):
 
 def measure_loads(options, kinds, rows, measured):
     """Measures each load, and prints its row."""
+    if any(loads(options)):
+        print_head(RATE, kinds)
     for words, lines, late, senders in loads(options):
         batches = rows.batches(lines, late)
         requests = {kind: [kind.t(kind("", options), batch) for batch in batches] for kind in kinds}
@@ -425,7 +427,6 @@ def main():
         print(f"{system['name']} ({system['version']}), {kept.words(system)}")
     print(f"{kept.origin()} * is not durable")
     with all_placed(options):
-        print_head(RATE, kinds)
         measure_loads(options, kinds, rows, measured)
         measure_questions(options, kinds, rows, measured)
     kept.about["whole"] = not options.only and kinds == SYSTEMS

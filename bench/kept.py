@@ -1,9 +1,9 @@
 #!/usr/bin/env python3
 """Shows what `peers.py --keep FILE` measured: as a table in Markdown, and as a plot.
 
-FILE says what was measured, on what machine, when, and beside what other load. A run is a measurement where it is whole, nothing failed,
-no answer was wrong, and other processes and other systems took no more than QUIET percent of the processors' time (`machine.py`). Of
-another run the table and the plot say in their first line that it is none, and the table isn't written into a page.
+FILE says what was measured, on what machine, when, and beside what other load. A run is a measurement where it is whole, of ROUNDS rounds
+at least, nothing failed, no answer was wrong, and other processes and other systems took no more than QUIET percent of the processors' time
+(`machine.py`). Of another run the table and the plot say in their first line that it is none, and the table isn't written into a page.
 
 usage: kept.py FILE [--svg PLOT] [--readme PAGE] [--check]
 It prints the table. --svg writes the plot instead, --readme the table into a page, between the lines BEGIN and END. With --check neither
@@ -19,6 +19,7 @@ from machine import QUIET
 from plot import plot
 
 BEGIN, END = "<!-- made by bench/kept.py -->", "<!-- the end of what bench/kept.py made -->"
+ROUNDS = 5
 RATE, TIME, NUMBER = "rate", "time", "number"  # what the two numbers of a row are: acknowledged and seen; warm and cold; one alone, twice
 TITLES = {RATE: "Millions of rows a second, acknowledged / seen by queries", TIME: "Milliseconds, warm / cold", NUMBER: "In all"}
 
@@ -97,6 +98,8 @@ class Kept:
         shares = self.about.get("shares")
         if not self.about.get("whole"):
             yield "it isn't whole"
+        if self.about["rounds"] < ROUNDS:
+            yield f"it has fewer than {ROUNDS} rounds"
         if any(self.about["failed"].values()):
             yield "something failed or was answered wrongly"
         if not shares:

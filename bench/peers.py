@@ -2,18 +2,18 @@
 """Times the built program beside the databases that a user might choose in its place, over the same rows, and compares their answers.
 
 The rows are ROWS of a table t with six values over ten days (two SYMBOLs: a host of 100 and its dc of 4; two LONGs, a BOOLEAN and the
-time), and a tenth as many of a table q with a host, a LONG and the time. Beside the program stand those of SQLite, PostgreSQL, InfluxDB 1,
-VictoriaMetrics and ClickHouse that are there, each as Debian has it and with settings that keep what it acknowledged where it has such
-ones; the output says which, and what isn't durable.
+time), and a tenth as many of a table q with a host, a LONG and the time. Beside the program stand SQLite, PostgreSQL, InfluxDB 1,
+VictoriaMetrics and ClickHouse, each as Debian has it and with settings that keep what it acknowledged where it has such ones; the output
+says which, and what isn't durable (`peer_syncs.py` checks that).
 
 First each load goes into a new store of each: t in batches of 1,000 and of 10,000 lines, in order of time and with every tenth row in the
 batch behind its own, from one sender and from four among whom the batches are dealt in turn. Requests are made before a clock runs; each
 sender is a process of its own, which sends a batch once the one before is acknowledged. What counts is the time to the last
 acknowledgement, and that until all rows are seen by queries. Then all rows are asked for their count, sum, least and greatest value.
 
-Then t and q are put into one store of each, with the indexes of those that have them, and each question is asked: cold, of a system that
-was started anew behind the pages of its files were dropped from memory, and warm, the third time that it is asked there. Each answer is
-compared, row by row, with what this script works out by plain loops.
+Then t and q are put into one store of each, with the indexes of those that have them, whose files come to rest, and each question is
+asked: cold, of a system that was started anew behind the pages of its files were dropped from memory, and warm, the third time that it is
+asked there. Each answer is compared, row by row, with what this script works out by plain loops.
 
 All is done ROUNDS times, by one system after the other in each round; medians are printed, and where an answer was wrong or something
 failed that in their place. It ends with 1 then. --keep writes all that was measured into a file, behind each row, with what the machine is

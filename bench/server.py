@@ -171,9 +171,9 @@ def connected(port, room=None, is_over=lambda: False, kind=None):
 class Server:
     """The program that serves the connections to a port. Where it still runs behind a `with` it is killed."""
 
-    def __init__(self, program, port, words):
+    def __init__(self, program, port, words, **options):
         self.port = port
-        self.process = subprocess.Popen([program, *words], stdin=subprocess.DEVNULL, stdout=subprocess.PIPE, stderr=subprocess.PIPE)
+        self.process = subprocess.Popen([program, *words], stdin=subprocess.DEVNULL, stdout=subprocess.PIPE, stderr=subprocess.PIPE, **options)
 
     def has_ended(self):
         return self.process.poll() is not None
@@ -203,9 +203,9 @@ class Server:
         self.kill()
 
 
-def served(program, folder, connections=None, front=None):
+def served(program, folder, connections=None, front=None, **options):
     """A server over a folder, which ends once it has served so many connections, or never; by frames, or the protocol that is named."""
     port = free_port()
     words = ["serve", str(port), "--dir", folder]
     words += ["--connections", str(connections)] if connections else []
-    return Server(program, port, words + (["--front", front] if front else []))
+    return Server(program, port, words + (["--front", front] if front else []), **options)

@@ -84,8 +84,8 @@ def openings(program, place, records):
     return all(each["transactions"] == records for each in took)
 
 
-def probe(place):
-    """What a write behind the end of a file and its sync take, in microseconds."""
+def sync_time(place):
+    """What a write behind the end of a file and its sync take, in microseconds: the median of 200."""
     with tempfile.NamedTemporaryFile(dir=place) as file:
         took = []
         for i in range(200):
@@ -93,7 +93,12 @@ def probe(place):
             os.pwrite(file.fileno(), b"x" * 100, 100 * i)
             os.fdatasync(file.fileno())
             took.append((time.perf_counter() - began) * 1e6)
-    print(f"one write and sync of this disk: {statistics.median(took):,.0f} microseconds")
+    return statistics.median(took)
+
+
+def probe(place):
+    """Prints what a write and a sync take."""
+    print(f"one write and sync of this disk: {sync_time(place):,.0f} microseconds")
 
 
 def main():
